@@ -1,0 +1,76 @@
+// A sink in memory. Its room is set aside when it is made, so that a write wants no memory; beside
+// its bytes it holds the numbers of the calls that are to fail.
+ghost use Rattle.std.specs.Prelude.{◌≡◌, ◌≤◌, [], Some, IfOk, vec_len, vec_capacity};
+
+use crate::{Failed, Sink};
+use std::alloc::{AllocError, Global};
+
+/// A sink that keeps its bytes in memory, whose calls fail where a test wants it.
+#[derive(Drop)]
+pub struct MemSink {
+    bytes: Vec<u8>,
+    room: usize,
+    piece: usize,
+    call: u64,
+    failing: Vec<u64>,
+    faults: u64,
+    ghost within: { vec_len bytes ≤ room },
+    ghost reserved: { room ≤ vec_capacity bytes },
+}
+
+impl MemSink {
+    ghost use Rattle.hmr_base.specs.Memory.{taken_by, refusals_of};
+
+    /// An empty sink with room for `room` bytes, which takes at most `piece` of them in a call (0
+    /// counts as 1). The calls whose numbers, from 0, stand in `failing` fail, and so does each call
+    /// whose front doesn't fit the room that is left. `AllocError` where the room can't be had.
+    pub fn new(
+        alloc: Global,
+        room: usize,
+        piece: usize,
+        failing: Vec<u64>,
+    ) -> Result<Self, AllocError>
+        ensures taken { IfOk result (λ sink. taken_by sink ≡ []) }
+        ensures faults { IfOk result (λ sink. refusals_of sink ≡ 0) }
+    {
+        Ok(MemSink {
+            bytes: Vec::with_capacity(alloc, room)?,
+            room,
+            piece,
+            call: 0,
+            failing,
+            faults: 0,
+        })
+    }
+
+    /// The bytes that were written so far.
+    pub fn bytes(&self) -> &[u8]
+        ensures { result.now ≡ taken_by self.now }
+    {
+        &self.bytes
+    }
+}
+
+impl Sink for MemSink {
+    ghost written = { λ s. Some s.bytes.items };
+
+    ghost faults = { λ s. s.faults };
+
+    fn write(&mut self, piece: &[u8]) -> Result<usize, Failed> {
+        let call = self.call;
+        self.call = self.call.saturating_add(1);
+        let count = piece.len().min(self.piece.max(1));
+        if self.failing.contains(&call) || count > self.room - self.bytes.len() {
+            self.faults = self.faults.saturating_add(1);
+            return Err(Failed);
+        }
+        let (front, _) = piece.split_at(count);
+        match self.bytes.extend_from_slice(front) {
+            Ok(()) => Ok(count),
+            Err(_) => {
+                self.faults = self.faults.saturating_add(1);
+                Err(Failed)
+            }
+        }
+    }
+}

@@ -1,0 +1,7 @@
+use Rattle.std.proofs.Common.{◌≤◌}
+use Rattle.hmr_types.specs.declared.tree.Expr.{size-Expr}
+use Rattle.hmr_types.proofs.tree.Expr.+drop.Given as goal
+
+-- no deeper than what was to be dropped
+abbrev pub invariant-loop-self : goal.invariant-loop-self
+invariant-loop-self l = size-Expr l.self ≤ size-Expr l.initial.self

@@ -1,0 +1,3 @@
+pub mod ModName
+pub mod Syntax
+pub mod Tree

@@ -1,0 +1,180 @@
+// The lines that the program writes, as values. Their exact bytes are the business of the crate that
+// renders them.
+use crate::{
+    AbortOutcome, ClientId, ClientState, EditOutcome, EndWord, EvalFault, FaultPlace, Handled,
+    HandlerEnd, InstanceFate, InstanceStatus, Kind, ModName, Name, PlanKind, ReloadCause,
+    RemoveOutcome, Sequence, SettleOutcome, Slot, Text, TextFault, Ver,
+};
+
+/// One line of output.
+#[derive(Drop)]
+pub enum OutLine {
+    /// `edit NAME job V`, `edit NAME same` or `edit NAME refused WORD`.
+    Edit {
+        name: ModName,
+        outcome: EditOutcome,
+    },
+    /// `remove NAME V`, `remove NAME same` or `remove NAME refused numbers-spent`.
+    Remove {
+        name: ModName,
+        outcome: RemoveOutcome,
+    },
+    /// `settle NAME V` and `served`, `refused L:C WORD`, `late` or `none`.
+    Settle {
+        name: ModName,
+        version: Ver,
+        outcome: SettleOutcome,
+    },
+    /// `open C`.
+    Open {
+        client: ClientId,
+    },
+    /// `open refused`.
+    OpenRefused,
+    /// `close C`.
+    Close {
+        client: ClientId,
+    },
+    /// `unknown C`: a step named a client that isn't open.
+    Unknown {
+        client: ClientId,
+    },
+    /// `C loaded`, `C reloaded` or `C updated`, after all lines of that plan.
+    Applied {
+        client: ClientId,
+        plan: PlanKind,
+    },
+    /// `C reload root NAME..` or `C reload declined NAME..`: the unaccepted path, in its order.
+    Reload {
+        client: ClientId,
+        cause: ReloadCause,
+        path: Sequence<ModName>,
+    },
+    /// `C update NAME..`: the replaced names, sorted by bytes.
+    Update {
+        client: ClientId,
+        replaced: Sequence<ModName>,
+    },
+    /// `C accept BOUNDARY VIA`.
+    Accept {
+        client: ClientId,
+        boundary: ModName,
+        via: ModName,
+    },
+    /// `C aborted` and `missing NAME`, `broken NAME` or `link NAME FROM EXPORT`.
+    Aborted {
+        client: ClientId,
+        outcome: AbortOutcome,
+    },
+    /// `C pruned NAME`.
+    Pruned {
+        client: ClientId,
+        name: ModName,
+    },
+    /// `C error NAME L:C WORD`.
+    Error {
+        client: ClientId,
+        name: ModName,
+        fault: TextFault,
+    },
+    /// `C wait NAME`.
+    Wait {
+        client: ClientId,
+        name: ModName,
+    },
+    /// `C log NAME TEXT`: a console line, or the line of a host closure.
+    Log {
+        client: ClientId,
+        name: ModName,
+        text: Text,
+    },
+    /// `C fault NAME PLACE WORD`.
+    Fault {
+        client: ClientId,
+        name: ModName,
+        place: FaultPlace,
+        fault: EvalFault,
+    },
+    /// `C unrun NAME`.
+    Unrun {
+        client: ClientId,
+        name: ModName,
+    },
+    /// `C nohost NAME LABEL`.
+    NoHost {
+        client: ClientId,
+        name: ModName,
+        label: Text,
+    },
+    /// `C invalidated NAME MESSAGE`.
+    Invalidated {
+        client: ClientId,
+        name: ModName,
+        message: Text,
+    },
+    /// `C ignored NAME`.
+    Ignored {
+        client: ClientId,
+        name: ModName,
+    },
+    /// `C ended WORD`.
+    Ended {
+        client: ClientId,
+        word: EndWord,
+    },
+    /// `client C up` or `client C behind`.
+    Client {
+        client: ClientId,
+        state: ClientState,
+    },
+    /// `NAME V`: a module of a table.
+    Module {
+        name: ModName,
+        version: Ver,
+    },
+    /// `stale B X`: the live instance of B is linked to an older instance of X.
+    Stale {
+        importer: ModName,
+        dependency: ModName,
+    },
+    /// `values C`.
+    Values {
+        client: ClientId,
+    },
+    /// `value NAME EXPORT VALUE`.
+    Value {
+        name: ModName,
+        export: Name,
+        value: Slot,
+    },
+    /// `fates C`.
+    Fates {
+        client: ClientId,
+    },
+    /// `instance I NAME V STATUS FATE`.
+    Instance {
+        number: u32,
+        name: ModName,
+        version: Ver,
+        status: InstanceStatus,
+        fate: InstanceFate,
+    },
+    /// `KIND code END` or `KIND host LABEL NUMBER END`.
+    Handler {
+        kind: Kind,
+        handled: Handled,
+        end: HandlerEnd,
+    },
+    /// `fresh`.
+    Fresh,
+    /// `missing NAME`: a name of the fresh load that isn't served.
+    Missing {
+        name: ModName,
+    },
+    /// `unlinked N M X`: N imports X of M, and the served M doesn't export it.
+    Unlinked {
+        importer: ModName,
+        dependency: ModName,
+        export: Name,
+    },
+}

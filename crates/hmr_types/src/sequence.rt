@@ -1,0 +1,52 @@
+// A vector which contracts see as the list of its elements. A bare `Vec` in a compared type would
+// show its capacity and its pointer to contracts; this type shows the list alone.
+ghost use Rattle.std.specs.Prelude.{◌≡◌, []};
+
+use std::alloc::Global;
+use std::marker::Model;
+
+/// A vector which contracts see as the list of its elements.
+#[derive(Drop)]
+pub struct Sequence<T> {
+    items: Vec<T>,
+}
+
+impl<T> Model for Sequence<T> {
+    ghost use Rattle.std.specs.Prelude.{List};
+
+    ghost Value = { List T };
+
+    ghost view = { λ s. s.items.items };
+}
+
+impl<T> Sequence<T> {
+    /// The empty sequence. It takes no memory.
+    pub fn new(alloc: Global) -> Self
+        ensures { result ≡ [] }
+    {
+        Sequence {
+            items: Vec::new(alloc),
+        }
+    }
+
+    /// The sequence of the vector's elements. It takes no memory.
+    pub fn from_vec(items: Vec<T>) -> Self
+        ensures { result ≡ items.items }
+    {
+        Sequence { items }
+    }
+
+    /// The vector of the elements. It takes no memory.
+    pub fn into_vec(self) -> Vec<T>
+        ensures { result.items ≡ self }
+    {
+        self.items
+    }
+
+    /// The elements, in order.
+    pub fn as_slice(&self) -> &[T]
+        ensures { result.now ≡ self.now }
+    {
+        &self.items
+    }
+}
