@@ -2,7 +2,13 @@
 // which form of `throw` stood; the parameter of a dispose or prune callback is forgotten too, since
 // its keys are the bag's. Contracts speak of a tree by its plain data, which the fold `module_of`
 // gives; a tree itself has pointers in it, which no clause compares.
+ghost use Rattle.std.specs.Option.{option_map};
+ghost use Rattle.std.specs.Prelude.{◌≡◌, IfOk, map};
+ghost use Rattle.hmr_types.specs.Syntax.{binary};
+ghost use Rattle.hmr_types.specs.Tree.{cond_of, expr_of, handler_of, item_of, module_of, once_of, stmt_of, stmts_of};
+
 use crate::{Name, Sequence, Text};
+use std::alloc::{AllocError, Global};
 
 /// A whole module.
 #[derive(Drop)]
@@ -11,7 +17,7 @@ pub struct Module {
 }
 
 /// An exported name that is imported, and the local name that it has in the importer.
-#[derive(Drop)]
+#[derive(Clone, Debug, Drop, Eq, PartialEq)]
 pub struct ImportName {
     pub exported: Name,
     pub local: Name,
@@ -120,4 +126,62 @@ impl Drop for Expr {
             }
         }
     }
+}
+
+impl Expr {
+    /// A copy. It takes time and memory in proportion to the expression; a row of operators is copied
+    /// by a loop, so that only what is nested costs stack.
+    #[cycle(exprs)]
+    pub fn copy(&self, alloc: Global) -> Result<Expr, AllocError>
+        ensures { IfOk result (λ copy. expr_of copy ≡ expr_of self.now) }
+    {
+        let mut row = Vec::new(alloc);
+        let mut rest = self;
+        let mut copy = loop {
+            match rest {
+                Expr::Binary(op, left, right) => {
+                    row.push((*op, right.copy(alloc)?))?;
+                    rest = left;
+                }
+                Expr::Num(n) => break Expr::Num(*n),
+                Expr::Text(text) => break Expr::Text(text.clone()?),
+                Expr::Undefined => break Expr::Undefined,
+                Expr::Name(name) => break Expr::Name(name.clone()?),
+                Expr::Bag(key) => break Expr::Bag(key.clone()?),
+                Expr::Member { param, safe, name } => {
+                    break Expr::Member {
+                        param: *param,
+                        safe: *safe,
+                        name: name.clone()?,
+                    };
+                }
+                Expr::Neg(a) => break Expr::Neg(a.copy_boxed(alloc)?),
+                Expr::Choose(a, b, c) => {
+                    break Expr::Choose(
+                        a.copy_boxed(alloc)?,
+                        b.copy_boxed(alloc)?,
+                        c.copy_boxed(alloc)?,
+                    );
+                }
+            }
+        };
+        while let Some((op, right)) = row.pop() {
+            copy = joined(alloc, op, copy, right)?;
+        }
+        Ok(copy)
+    }
+
+    #[cycle(exprs)]
+    fn copy_boxed(&self, alloc: Global) -> Result<Box<Expr>, AllocError>
+        ensures { IfOk result (λ copy. expr_of copy.value ≡ expr_of self.now) }
+    {
+        Ok(Box::new(alloc, self.copy(alloc)?)?)
+    }
+}
+
+/// Two operands with their operator.
+fn joined(alloc: Global, op: Op, left: Expr, right: Expr) -> Result<Expr, AllocError>
+    ensures { IfOk result (λ e. expr_of e ≡ binary op (expr_of left) (expr_of right)) }
+{
+    Ok(Expr::Binary(op, Box::new(alloc, left)?, Box::new(alloc, right)?))
 }
