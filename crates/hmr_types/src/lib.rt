@@ -25,7 +25,7 @@ pub use sequence::Sequence;
 pub use specifier::{SpecFault, resolve};
 pub use table::Table;
 pub use text::{Name, Text};
-pub use tree::{Cond, Expr, HandlerCode, ImportName, Item, Module, Once, Op, Stmt};
+pub use tree::{Cond, Expr, HandlerCode, ImportName, Item, Module, Once, Op, Stmt, copy_stmts};
 pub use value::{EvalFault, Slot, Value};
 pub use words::{
     AbortOutcome, ClientState, EditOutcome, EditRefusal, EndWord, FaultPlace, Handled, HandlerEnd,

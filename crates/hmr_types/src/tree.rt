@@ -185,3 +185,135 @@ fn joined(alloc: Global, op: Op, left: Expr, right: Expr) -> Result<Expr, AllocE
 {
     Ok(Expr::Binary(op, Box::new(alloc, left)?, Box::new(alloc, right)?))
 }
+
+fn copy_exprs(alloc: Global, exprs: &[Expr]) -> Result<Vec<Expr>, AllocError>
+    ensures { IfOk result (λ copies. map expr_of copies.items ≡ map expr_of exprs.now) }
+{
+    let mut copies = Vec::new(alloc);
+    for expr in exprs {
+        copies.push(expr.copy(alloc)?)?;
+    }
+    Ok(copies)
+}
+
+impl Cond {
+    /// A copy.
+    pub fn copy(&self, alloc: Global) -> Result<Cond, AllocError>
+        ensures { IfOk result (λ copy. cond_of copy ≡ cond_of self.now) }
+    {
+        match self {
+            Cond::Param(place) => Ok(Cond::Param(*place)),
+            Cond::Value(value) => Ok(Cond::Value(value.copy(alloc)?)),
+        }
+    }
+}
+
+impl Stmt {
+    /// A copy. It takes time and memory in proportion to the statement.
+    #[cycle(stmts)]
+    pub fn copy(&self, alloc: Global) -> Result<Stmt, AllocError>
+        ensures { IfOk result (λ copy. stmt_of copy ≡ stmt_of self.now) }
+    {
+        match self {
+            Stmt::Log(args) => Ok(Stmt::Log(copy_exprs(alloc, args)?)),
+            Stmt::Assign(name, value) => Ok(Stmt::Assign(name.clone()?, value.copy(alloc)?)),
+            Stmt::BagSet(key, value) => Ok(Stmt::BagSet(key.clone()?, value.copy(alloc)?)),
+            Stmt::Throw(value) => Ok(Stmt::Throw(value.copy(alloc)?)),
+            Stmt::Invalidate(None) => Ok(Stmt::Invalidate(None)),
+            Stmt::Invalidate(Some(message)) => Ok(Stmt::Invalidate(Some(message.copy(alloc)?))),
+            Stmt::If(condition, first, second) => Ok(Stmt::If(
+                condition.copy(alloc)?,
+                copy_stmts(alloc, first)?,
+                copy_stmts(alloc, second)?,
+            )),
+        }
+    }
+}
+
+/// A copy of statements, in order. It takes time and memory in proportion to them.
+#[cycle(stmts)]
+pub fn copy_stmts(alloc: Global, stmts: &[Stmt]) -> Result<Vec<Stmt>, AllocError>
+    ensures { IfOk result (λ copies. stmts_of copies.items ≡ stmts_of stmts.now) }
+{
+    let mut copies = Vec::new(alloc);
+    for stmt in stmts {
+        copies.push(stmt.copy(alloc)?)?;
+    }
+    Ok(copies)
+}
+
+impl HandlerCode {
+    /// A copy. It takes time and memory in proportion to the callback.
+    pub fn copy(&self, alloc: Global) -> Result<HandlerCode, AllocError>
+        ensures { IfOk result (λ copy. handler_of copy ≡ handler_of self.now) }
+    {
+        Ok(HandlerCode {
+            params: self.params.clone()?,
+            body: copy_stmts(alloc, &self.body)?,
+        })
+    }
+}
+
+impl Once {
+    /// A copy. It takes time and memory in proportion to the handler.
+    pub fn copy(&self, alloc: Global) -> Result<Once, AllocError>
+        ensures { IfOk result (λ copy. once_of copy ≡ once_of self.now) }
+    {
+        match self {
+            Once::Code(code) => Ok(Once::Code(code.copy(alloc)?)),
+            Once::Host(label) => Ok(Once::Host(label.clone()?)),
+        }
+    }
+}
+
+impl Item {
+    /// A copy. It takes time and memory in proportion to the item.
+    pub fn copy(&self, alloc: Global) -> Result<Item, AllocError>
+        ensures { IfOk result (λ copy. item_of copy ≡ item_of self.now) }
+    {
+        match self {
+            Item::Import { spec, names } => Ok(Item::Import {
+                spec: spec.clone()?,
+                names: names.clone()?,
+            }),
+            Item::Declare {
+                exported,
+                mutable,
+                name,
+                value,
+            } => Ok(Item::Declare {
+                exported: *exported,
+                mutable: *mutable,
+                name: name.clone()?,
+                value: value.copy(alloc)?,
+            }),
+            Item::Do(stmt) => Ok(Item::Do(stmt.copy(alloc)?)),
+            Item::Own(None) => Ok(Item::Own(None)),
+            Item::Own(Some(once)) => Ok(Item::Own(Some(once.copy(alloc)?))),
+            Item::Deps { list, specs, call } => Ok(Item::Deps {
+                list: *list,
+                specs: specs.clone()?,
+                call: match call {
+                    None => None,
+                    Some(code) => Some(code.copy(alloc)?),
+                },
+            }),
+            Item::Dispose(once) => Ok(Item::Dispose(once.copy(alloc)?)),
+            Item::Prune(once) => Ok(Item::Prune(once.copy(alloc)?)),
+            Item::Decline => Ok(Item::Decline),
+        }
+    }
+}
+
+impl Module {
+    /// A copy. It takes time and memory in proportion to the module.
+    pub fn copy(&self, alloc: Global) -> Result<Module, AllocError>
+        ensures { IfOk result (λ copy. module_of copy ≡ module_of self.now) }
+    {
+        let mut items = Vec::new(alloc);
+        for item in &self.items {
+            items.push(item.copy(alloc)?)?;
+        }
+        Ok(Module { items })
+    }
+}

@@ -1,4 +1,4 @@
-use Rattle.std.proofs.Common.{◌≡◌, ◌≤◌, length}
+use Rattle.std.proofs.Common.{◌≡◌, ◌≤◌}
 use Rattle.std.specs.Prelude.{vec_len}
 use Rattle.hmr_types.specs.declared.tree.Expr.{size-Expr}
 use Rattle.hmr_types.specs.Tree.{expr_of}
@@ -9,7 +9,7 @@ use Rattle.hmr_types.proofs.tree.Expr.+exprs.Given as goal
 abbrev pub invariant-copy-loop-rest : goal.invariant-copy-loop-rest
 invariant-copy-loop-rest l = record {
   whole : rowed l.row.items (expr_of l.rest) ≡ expr_of l.fn.self;
-  smaller : size-Expr l.rest ≤ size-Expr l.fn.self
+  smaller : size-Expr l.rest ≤ size-Expr l.fn.self;
 }
 
 -- the row that is left round the copy is the whole
