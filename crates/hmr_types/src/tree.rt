@@ -13,23 +13,28 @@ use std::alloc::{AllocError, Global};
 /// A whole module.
 #[derive(Drop)]
 pub struct Module {
+    /// Its items, in the order of the text.
     pub items: Vec<Item>,
 }
 
 /// An exported name that is imported, and the local name that it has in the importer.
 #[derive(Clone, Debug, Drop, Eq, PartialEq)]
 pub struct ImportName {
+    /// The name that the imported module exports.
     pub exported: Name,
+    /// The name that it has in the importer.
     pub local: Name,
 }
 
-/// One item of a module, in the order of the text.
+/// One item of a module.
 #[derive(Drop)]
 pub enum Item {
+    /// An `import` of these names, perhaps none.
     Import {
         spec: Text,
         names: Sequence<ImportName>,
     },
+    /// A declaration: by `let` where it is mutable, else by `const`.
     Declare {
         exported: bool,
         mutable: bool,
@@ -46,69 +51,96 @@ pub enum Item {
         specs: Sequence<Text>,
         call: Option<HandlerCode>,
     },
+    /// `dispose` with a callback.
     Dispose(Once),
+    /// `prune` with a callback.
     Prune(Once),
+    /// `decline`.
     Decline,
 }
 
-/// A handler that runs at most once: code of the module, or the closure of the embedding program
-/// that has this label.
+/// A handler that runs at most once.
 #[derive(Drop)]
 pub enum Once {
+    /// Code of the module.
     Code(HandlerCode),
+    /// The closure of the embedding program that has this label.
     Host(Text),
 }
 
-/// A callback: its parameters and its statements.
+/// A callback.
 #[derive(Drop)]
 pub struct HandlerCode {
+    /// Its parameters, in order.
     pub params: Sequence<Name>,
+    /// Its statements, in order.
     pub body: Vec<Stmt>,
 }
 
 /// A statement.
 #[derive(Drop)]
 pub enum Stmt {
+    /// A line of the console, from these values.
     Log(Vec<Expr>),
+    /// A new value for a variable of the module.
     Assign(Name, Expr),
+    /// A new value for a key of the bag.
     BagSet(Name, Expr),
+    /// `throw` of the text of this value.
     Throw(Expr),
+    /// `invalidate`, perhaps with a message.
     Invalidate(Option<Expr>),
+    /// The first statements where the condition holds, and else the second.
     If(Cond, Vec<Stmt>, Vec<Stmt>),
 }
 
-/// The condition of an `if`: a parameter of the callback, by its place from 0, or an expression.
+/// The condition of an `if`.
 #[derive(Drop)]
 pub enum Cond {
+    /// Whether the parameter of this place, from 0, is a module.
     Param(u32),
+    /// Whether this value counts as true.
     Value(Expr),
 }
 
 /// An expression.
 pub enum Expr {
+    /// A number, as it is written.
     Num(u64),
+    /// A text, with its escapes read.
     Text(Text),
+    /// `undefined`.
     Undefined,
+    /// The value of a variable or of an import.
     Name(Name),
     /// The value of a key of the bag.
     Bag(Name),
-    /// An export of the module that is given as the parameter of this place, from 0.
+    /// An export of the module that is given as the parameter of this place, from 0: by `?.` where
+    /// it is safe, else by `.`.
     Member { param: u32, safe: bool, name: Name },
+    /// The number with the other sign.
     Neg(Box<Expr>),
+    /// Two operands with an operator between them.
     Binary(Op, Box<Expr>, Box<Expr>),
+    /// The second where the first counts as true, and else the third.
     Choose(Box<Expr>, Box<Expr>, Box<Expr>),
 }
 
-/// An operator between two operands: `??`, `+`, `-` and `*`.
+/// An operator between two operands.
 #[derive(Clone, Copy, Debug, PartialEq, Eq)]
 pub enum Op {
+    /// `??`
     Null,
+    /// `+`
     Add,
+    /// `-`
     Sub,
+    /// `*`
     Mul,
 }
 
-/// A long row of operators is dropped by a loop, since a row of them may fill a text.
+/// A row of operators is dropped by a loop, since a row may fill a text: only what is nested costs
+/// stack.
 impl Drop for Expr {
     fn drop(mut self) {
         loop {
