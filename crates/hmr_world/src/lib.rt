@@ -1,0 +1,12 @@
+//! The world of a page with one module and one client, whose every change is a full reload.
+//!
+//! Stands on the vocabulary and on the definitions of sources. Keeps: what it has is what the steps
+//! so far give, and a step that finds no memory changes nothing. Knows nothing of scripts, of the
+//! bytes of lines, or of messages on a wire.
+#![tactic(auto)]
+
+mod client;
+pub mod laws;
+mod step;
+
+pub use step::Step;
