@@ -5,7 +5,7 @@
 //! value.
 #![tactic(auto)]
 
-mod out;
+mod pieces;
 mod rendering;
 mod word_texts;
 

@@ -4,7 +4,7 @@ ghost use Rattle.std.specs.Prelude.{◌≡◌, ◌++◌, IfOk, OnOk};
 ghost use Rattle.play_text.specs.Texts.{after_space};
 ghost use Rattle.play_text.specs.Lines.{line_text, body_text, text_fault, edit_text, remove_text, result_text, abort_text, eval_fault, slot_text, fate_text, instance_text, handled_text};
 
-use crate::out::{
+use crate::pieces::{
     put, put_escaped, put_names, put_number, put_of, put_quoted, put_signed, put_spaced,
     put_spaced_number,
 };
