@@ -7,5 +7,7 @@
 
 mod command;
 mod first_script;
+mod script_line;
+mod stub;
 
 fn main() {}
