@@ -1,5 +1,5 @@
 -- What one turn of the client does: it is one request, and what the answer makes of the client.
-use Rattle.std.specs.Prelude.{ℕ, ◌==◌, not, Bool, true, false, Option, Some, None, if◌then◌else◌}
+use Rattle.std.specs.Prelude.{ℕ, ◌==◌, not, Bool, false, Option, Some, None, if◌then◌else◌}
 use Rattle.hmr_types.specs.declared.words.PlanKind.{PlanKind}
 use Rattle.hmr_types.specs.declared.words.PlanKind.TheVariants.{Load, Reload}
 use Rattle.hmr_world.specs.declared.client.Client.{Client}

@@ -4,11 +4,10 @@ use Rattle.std.specs.List.{All}
 use Rattle.hmr_types.specs.declared.out_line.OutLine.{OutLine}
 use Rattle.hmr_types.specs.declared.out_line.OutLine.TheVariants as lines
 use Rattle.hmr_types.specs.declared.words.ClientState.TheVariants.{Up}
-use Rattle.core_model.specs.Names.{Name}
 use Rattle.core_model.specs.FreshLoad.{fresh_table, missing_of}
-use Rattle.hmr_world.specs.Moves.{Move, show, fresh}
+use Rattle.hmr_world.specs.Moves.{show, fresh}
 use Rattle.hmr_world.specs.Versions.{Job}
-use Rattle.hmr_world.specs.Worlds.{State, opening, stepped, state_after, module_line, is_caught_up}
+use Rattle.hmr_world.specs.Worlds.{State, stepped, module_line, is_caught_up}
 
 -- the lines are the rows of the fresh load, which misses nothing, and `fresh` writes exactly them
 pub record IsFreshLoad (s : State) (rows : List OutLine) : Type 0 where

@@ -1,5 +1,5 @@
 -- What a step asks, as plain data.
-use Rattle.std.specs.Prelude.{ℕ, List, Option, Some, None}
+use Rattle.std.specs.Prelude.{ℕ, Option, Some, None}
 use Rattle.core_model.specs.Names.{Name}
 use Rattle.core_model.specs.Sources.{Text}
 use Rattle.hmr_world.specs.declared.step.Step.{Step}

@@ -1,5 +1,5 @@
 -- Worked runs: what is asked, step by step, and the lines that are written.
-use Rattle.std.specs.Prelude.{List, [], ◌∷◌, ◌++◌, Some, codes}
+use Rattle.std.specs.Prelude.{List, [], ◌∷◌, Some, codes}
 use Rattle.hmr_types.specs.declared.out_line.OutLine.{OutLine}
 use Rattle.hmr_types.specs.declared.out_line.OutLine.TheVariants.{Edit, Settle, Open, OpenRefused, Unknown, Applied, Reload, Aborted, Wait, Client, Module, Fresh, Missing}
 use Rattle.hmr_types.specs.declared.words.EditOutcome.TheVariants.{Job, Same}

@@ -1,6 +1,6 @@
 -- The page's module, what the edits and results so far give, and the issued jobs. An edit issues a
 -- job where it is answered so; its result comes at a settling of that job, and is always good.
-use Rattle.std.specs.Prelude.{ℕ, ◌+◌, ◌==◌, Bool, true, false, ◌&&◌, List, [], ◌∷◌, ◌++◌, Option, Some, None, is_some, if◌then◌else◌}
+use Rattle.std.specs.Prelude.{ℕ, ◌==◌, Bool, false, ◌&&◌, List, [], ◌∷◌, ◌++◌, Option, Some, None, if◌then◌else◌}
 use Rattle.hmr_types.specs.declared.analysis.Analysis.{Analysis}
 use Rattle.hmr_types.specs.declared.analysis.Outcome.{Outcome}
 use Rattle.hmr_types.specs.declared.analysis.Outcome.TheVariants.{Good}
@@ -45,6 +45,10 @@ issued jobs (refused w) n t = jobs
 -- what an edit with that answer leaves
 abbrev pub edited : Versions → Name → Option Text → EditAnswer → Versions
 edited vs n t answer = record vs { sources = after_edit answer n t vs.sources; jobs = issued vs.jobs answer n (text_or_none t) }
+
+-- what is told of a job
+abbrev pub job_key : Job → Name × ℕ
+job_key j = (j.name, j.version)
 
 abbrev pub is_job : Name → ℕ → Job → Bool
 is_job n v j = same_name j.name n && (j.version == v)

@@ -6,7 +6,6 @@ use Rattle.hmr_types.specs.declared.words.EditOutcome.TheVariants as edits
 use Rattle.hmr_types.specs.declared.words.RemoveOutcome.TheVariants as removals
 use Rattle.hmr_types.specs.declared.words.AbortOutcome.TheVariants.{Missing}
 use Rattle.hmr_types.specs.declared.words.ReloadCause.TheVariants.{Root}
-use Rattle.hmr_types.specs.declared.words.EditRefusal.{EditRefusal}
 use Rattle.hmr_types.specs.declared.words.SettleOutcome.{SettleOutcome}
 use Rattle.hmr_types.specs.declared.words.ClientState.{ClientState}
 use Rattle.hmr_types.specs.declared.words.ClientState.TheVariants.{Up, Behind}

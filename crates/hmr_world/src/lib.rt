@@ -8,5 +8,8 @@
 mod client;
 pub mod laws;
 mod step;
+mod versions;
+mod world;
 
 pub use step::Step;
+pub use world::World;
