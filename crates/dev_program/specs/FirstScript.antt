@@ -113,8 +113,7 @@ script_at bytes (Some end) = rooted (take end bytes) (drop (end + 1) bytes)
 
 -- the script that the bytes say, none for no byte at all; or None where they are no first script
 abbrev pub first_script : List ℕ → Option (Option Script)
-first_script [] = Some None
-first_script (b ∷ bs) = if nat_le (length (b ∷ bs)) SCRIPT_BYTES then script_at (b ∷ bs) (position is_line_end (b ∷ bs)) else None
+first_script bytes = if length bytes == 0 then Some None else (if nat_le (length bytes) SCRIPT_BYTES then script_at bytes (position is_line_end bytes) else None)
 
 -- what a reader answers is what the definition says, unless memory ran out
 abbrev pub Reads : {X Y : Type 0} → (X → Y) → Result X ScriptFault → Option Y → Type 0

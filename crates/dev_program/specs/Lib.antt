@@ -1,1 +1,4 @@
 pub mod FirstScript
+pub mod Playing
+pub mod Writing
+pub mod Outputs

@@ -1,8 +1,8 @@
 // Reads a first script: the script of a page with one module and one client. The bytes are gone over
 // once. Each LF ends a line, and each line says what may come below it (its place) and perhaps brings
 // a command.
-ghost use Rattle.std.specs.Prelude.{◌≡◌, [], ◌++◌, OnOk, option_to_list};
-ghost use Rattle.dev_program.specs.FirstScript.{Reads, first_script, commands_from, rooted, beginning};
+ghost use Rattle.std.specs.Prelude.{◌≡◌, ◌<◌, [], ◌++◌, length, position, IfSome, OnOk, option_to_list};
+ghost use Rattle.dev_program.specs.FirstScript.{Reads, first_script, commands_from, rooted, beginning, is_line_end};
 
 use crate::command::Command;
 use crate::script_line::{Place, read_line};
@@ -63,10 +63,17 @@ pub fn read_first_script(alloc: Global, bytes: &[u8]) -> Result<Option<Script>, 
     if bytes.len() > SCRIPT_BYTES {
         return Err(ScriptFault::Unbuilt);
     }
-    let Some(end) = bytes.iter().position(|b| *b == b'\n') else {
-        return Err(ScriptFault::Unbuilt);
-    };
-    read_rooted(alloc, &bytes[..end], &bytes[end + 1..])
+    match line_end(bytes) {
+        Some(end) => read_rooted(alloc, &bytes[..end], &bytes[end + 1..]),
+        None => Err(ScriptFault::Unbuilt),
+    }
+}
+
+fn line_end(bytes: &[u8]) -> Option<usize>
+    ensures place { result ≡ position is_line_end bytes.now }
+    ensures within { IfSome result (λ end. end < length bytes.now) }
+{
+    bytes.iter().position(|b| *b == b'\n')
 }
 
 fn read_rooted(alloc: Global, line: &[u8], rest: &[u8]) -> Result<Option<Script>, ScriptFault>

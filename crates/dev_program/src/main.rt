@@ -7,7 +7,8 @@
 
 mod command;
 mod first_script;
+mod play;
 mod script_line;
-mod stub;
+mod stop;
 
 fn main() {}

@@ -5,11 +5,10 @@ ghost use Rattle.hmr_types.specs.ModName.{between};
 ghost use Rattle.core_model.specs.Names.{same_name};
 ghost use Rattle.dev_program.specs.FirstScript.{Reads, line_at, text_line, turns_line, command_line, where_allowed, is_edit_of, is_digit, count_of, digits_value, up_to_largest, with_digit};
 
-use crate::command::Command;
+use crate::command::{Command, FirstText};
 use crate::first_script::ScriptFault;
 use hmr_types::limits::SCRIPT_LINE_BYTES;
-use hmr_types::{ModName, Sequence};
-use crate::stub::is_first_text;
+use hmr_types::ModName;
 use std::alloc::Global;
 
 /// Where in a script a line stands: what may come there.
@@ -55,15 +54,15 @@ fn read_text_line(
     };
     let mut text = Vec::from_slice(alloc, source)?;
     text.push(b'\n')?;
-    if !is_first_text(&text) {
-        return Err(ScriptFault::Unbuilt);
-    }
     let next = Place {
         awaits_text: false,
         edited: true,
         ..place
     };
-    Ok((next, Some(Command::Edit(Sequence::from_vec(text)))))
+    match FirstText::new(text) {
+        Some(text) => Ok((next, Some(Command::Edit(text)))),
+        None => Err(ScriptFault::Unbuilt),
+    }
 }
 
 fn read_command_line(
