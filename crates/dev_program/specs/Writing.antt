@@ -1,18 +1,16 @@
--- How far the writing of a run has come.
+-- How far a text is written, and why its writing stops.
 use Rattle.std.specs.Prelude.{◌≡◌, ◌≤◌, ℕ, List, ◌++◌, Option, Result, IsErrOf, IfErr}
 use Prim.{⊥}
 use Rattle.std.specs.Io.KnownBytes.{Appends}
 use Rattle.hmr_base.specs.Causes.{Rose}
 use Rattle.dev_program.specs.declared.stop.Stop.{Stop}
 use Rattle.dev_program.specs.declared.stop.Stop.TheVariants.{Unbuilt, Unread, Unwritten, NoMemory}
-use Rattle.dev_program.specs.Playing.{Played, lines_text}
 
--- a front of the whole run's lines is written, and what is left makes the rest of it
-pub record Continues (old new : Option (List ℕ)) (left whole : Played) : Type 0 where
+-- a front of the whole text is written, and this much of it is left
+pub record WritesUpTo (old new : Option (List ℕ)) (left whole : List ℕ) : Type 0 where
   pub front : List ℕ
   pub out : Appends old new front
-  pub lines : front ++ lines_text left.1 ≡ lines_text whole.1
-  pub state : left.0 ≡ whole.0
+  pub rest : front ++ left ≡ whole
 
 -- playing stops only at the output or for want of memory
 abbrev pub IsWriteStop : Stop → Type 0

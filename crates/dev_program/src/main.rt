@@ -10,5 +10,6 @@ mod first_script;
 mod play;
 mod script_line;
 mod stop;
+mod stub;
 
 fn main() {}
