@@ -19,10 +19,14 @@ is_name_byte b = is_name_start b || is_digit b
 abbrev pub keywords : List Name
 keywords = codes "import" ∷ codes "export" ∷ codes "const" ∷ codes "let" ∷ codes "if" ∷ codes "else" ∷ codes "throw" ∷ codes "undefined" ∷ codes "null" ∷ codes "true" ∷ codes "false" ∷ []
 
+-- the first passes
+abbrev pub begins : (ℕ → Bool) → List ℕ → Bool
+begins p [] = false
+begins p (b ∷ bs) = p b
+
 -- begins as a name does, and goes on so
 abbrev pub is_word : List ℕ → Bool
-is_word [] = false
-is_word (b ∷ bs) = is_name_start b && list_all is_name_byte bs
+is_word n = begins is_name_start n && list_all is_name_byte n
 
 -- a name that a module may declare
 abbrev pub is_declarable : List ℕ → Bool
@@ -32,10 +36,16 @@ is_declarable n = is_word n && not (has keywords n)
 abbrev pub value_of : List ℕ → ℕ
 value_of digits = fold (λ n b. 10 * n + (b - 48)) 0 digits
 
--- `0`, or digits that begin with another one, of a number that isn't too large
+abbrev pub is_leading : ℕ → Bool
+is_leading b = between 49 57 b
+
+-- digits, of a number that isn't too large
+abbrev pub are_small : List ℕ → Bool
+are_small digits = list_all is_digit digits && nat_le (value_of digits) LARGEST_NUMBER
+
+-- `0`, or such digits that begin with another one
 abbrev pub is_number : List ℕ → Bool
-is_number [] = false
-is_number (b ∷ bs) = same_name (b ∷ bs) (codes "0") || (between 49 57 b && list_all is_digit bs && nat_le (value_of (b ∷ bs)) LARGEST_NUMBER)
+is_number digits = same_name digits (codes "0") || (begins is_leading digits && are_small digits)
 
 -- the text that exports a name with a number
 abbrev pub text_of : List ℕ → List ℕ → List ℕ

@@ -1,6 +1,5 @@
 -- A client that is caught up shows what a page would load anew; and the jobs stand in order.
-use Rattle.std.specs.Prelude.{◌≡◌, ℕ, ◌<◌, true, List, [], ◌∷◌, map}
-use Rattle.std.specs.List.{All}
+use Rattle.std.specs.Prelude.{◌≡◌, ℕ, ◌<◌, ◌≤◌, true, List, [], ◌∷◌, map}
 use Rattle.hmr_types.specs.declared.out_line.OutLine.{OutLine}
 use Rattle.hmr_types.specs.declared.out_line.OutLine.TheVariants as lines
 use Rattle.hmr_types.specs.declared.words.ClientState.TheVariants.{Up}
@@ -23,7 +22,11 @@ ShowsFresh s = (c : ℕ) (rows : List OutLine) → (stepped s (show c)).1 ≡ li
 abbrev pub ShowsUp : State → Type 0
 ShowsUp s = (c : ℕ) → is_caught_up s c ≡ true → (rows : List OutLine) × ((stepped s (show c)).1 ≡ lines.Client c Up ∷ rows)
 
--- versions rise from job to job
-abbrev pub Rise : List Job → Type 0
-Rise [] = Unit {0}
-Rise (j ∷ jobs) = All (λ k. j.version < k.version) jobs × Rise jobs
+-- the versions of the jobs rise, above low and up to high
+abbrev pub Rises : ℕ → ℕ → List Job → Type 0
+Rises low high [] = low ≤ high
+Rises low high (j ∷ jobs) = (low < j.version) × Rises j.version high jobs
+
+-- all are numbers of counted edits, the oldest first
+abbrev pub IsInOrder : State → Type 0
+IsInOrder s = Rises 0 s.versions.sources.counted s.versions.jobs

@@ -6,10 +6,12 @@
 #![tactic(auto)]
 
 mod client;
+mod first_text;
 pub mod laws;
 mod step;
 mod versions;
 mod world;
 
+pub use first_text::is_first_text;
 pub use step::Step;
 pub use world::World;
