@@ -1,3 +1,5 @@
 pub mod Digits
 pub mod Commands
 pub mod Writing
+pub mod Playing
+pub mod Lines

@@ -1,7 +1,7 @@
 // The commands of a first script.
 ghost use Rattle.std.specs.Prelude.{◌≡◌, IfSome, is_some};
 
-use crate::stub::is_first_text;
+use hmr_world::is_first_text;
 use std::marker::Model;
 
 /// The text that an edit of a first script gives: `export const N = K;` and LF.

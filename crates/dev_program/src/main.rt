@@ -10,6 +10,23 @@ mod first_script;
 mod play;
 mod script_line;
 mod stop;
-mod stub;
+mod top;
 
-fn main() {}
+use hmr_base::{StdSink, StdSource};
+use std::alloc::AllocError;
+use std::env;
+use std::process::ExitCode;
+
+fn main(rt: HostRuntime) -> Result<ExitCode, AllocError> {
+    let alloc = rt.alloc();
+    let mut words = Vec::new(alloc);
+    if let Ok(args) = env::args(&rt) {
+        for word in args.skip(1) {
+            words.push(word)?;
+        }
+    }
+    let mut input = StdSource::new(rt.stdin());
+    let mut out = StdSink::new(rt.stdout());
+    let status = top::run(alloc, &words, &mut input, &mut out);
+    Ok(ExitCode::from(status))
+}

@@ -1,5 +1,5 @@
 // Plays a script: runs its commands on a world, and writes the lines of each step as it is made.
-ghost use Rattle.std.specs.Prelude.{◌≡◌, ◌≤◌, List, map, OnOk, IsErrOf};
+ghost use Rattle.std.specs.Prelude.{◌≡◌, ◌≤◌, List, map, IfOk, OnOk, IsErrOf};
 ghost use Rattle.std.specs.Io.KnownBytes.{Appends};
 ghost use Rattle.hmr_base.specs.Causes.{Rose};
 ghost use Rattle.hmr_base.specs.Fronts.{WritesFront};
@@ -17,7 +17,7 @@ use hmr_base::{Sink, write_all};
 use hmr_types::{ModName, OutLine, Ver};
 use hmr_world::{Step, World};
 use play_text::render;
-use std::alloc::Global;
+use std::alloc::{AllocError, Global};
 
 /// Plays a script, or nothing where there is none, and writes its lines.
 ///
@@ -85,7 +85,7 @@ fn play_command<K: Sink>(
 {
     match command {
         Command::Edit(text) => {
-            let root = world.root().clone()?;
+            let root = copy_of(world.root())?;
             play_step(alloc, world, Step::Edit(root, Some(text.into_bytes())), out)
         }
         Command::SettleAll => {
@@ -112,7 +112,7 @@ fn settle_all<K: Sink>(
     ensures faults { StopsWriting (K.faults out.old) (K.faults out.new) result }
 {
     for (name, version) in jobs {
-        play_step(alloc, world, Step::Settle(name.clone()?, *version), out)?;
+        play_step(alloc, world, Step::Settle(copy_of(name)?, *version), out)?;
     }
     Ok(())
 }
@@ -128,7 +128,7 @@ fn take_turns<K: Sink>(
     ensures front { WritesFront (K.written out.old) (K.written out.new) (lines_text (turns most world.old).1) }
     ensures faults { StopsWriting (K.faults out.old) (K.faults out.new) result }
 {
-    for _turn in 0..most {
+    'turns: for _ in 0..most {
         if world.caught_up(1) {
             return Ok(());
         }
@@ -146,6 +146,12 @@ fn play_step<K: Sink>(alloc: Global, world: &mut World, step: Step, out: &mut K)
 {
     let lines = world.step(step)?;
     write_lines(alloc, &lines, out)
+}
+
+fn copy_of(name: &ModName) -> Result<ModName, AllocError>
+    ensures { IfOk result (λ copy. copy ≡ name.now) }
+{
+    name.clone()
 }
 
 fn write_lines<K: Sink>(alloc: Global, lines: &[OutLine], out: &mut K) -> Result<(), Stop>

@@ -44,6 +44,13 @@ impl World {
         })
     }
 
+    /// The page's root, which is its one module.
+    pub fn root(&self) -> &ModName
+        ensures { result.now ≡ self.now.versions.root }
+    {
+        self.versions.root()
+    }
+
     /// Makes one step, and gives its lines. An Edit is of the root, with a text that
     /// [`is_first_text`](crate::is_first_text) allows. After an error nothing has changed.
     ///
