@@ -2,3 +2,4 @@ pub mod FirstScript
 pub mod Playing
 pub mod Writing
 pub mod Outputs
+pub mod Headline

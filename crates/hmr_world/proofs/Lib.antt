@@ -5,3 +5,4 @@ pub mod Order
 pub mod Numbers
 pub mod Texts
 pub mod Runs
+pub mod Changes

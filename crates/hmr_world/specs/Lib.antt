@@ -6,3 +6,4 @@ pub mod Kept
 pub mod Worlds
 pub mod Freshness
 pub mod Rows
+pub mod Changes

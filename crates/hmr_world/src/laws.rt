@@ -2,6 +2,8 @@
 // empty body.
 ghost use Rattle.std.specs.Prelude.{◌≡◌, ◌↔◌, ◌∷◌, ◌++◌, ℕ, List, [], true};
 ghost use Rattle.core_model.specs.Names.{Name};
+ghost use Rattle.core_model.specs.Sources.{sources_after};
+ghost use Rattle.hmr_world.specs.Changes.{changes_after};
 ghost use Rattle.hmr_world.specs.FirstText.{IsFirstText, is_first_text};
 ghost use Rattle.hmr_world.specs.Freshness.{IsInOrder, ShowsFresh, ShowsUp};
 ghost use Rattle.hmr_world.specs.Moves.{Move};
@@ -19,6 +21,13 @@ pub fn caught_up_is_fresh()
 /// their versions rise.
 pub fn jobs_rise()
     ensures { (root : Name) (moves : List Move) → IsInOrder (state_after (opening root) moves) }
+{}
+
+/// After the steps of any list, the sources are those of their changes, and the page's module is the
+/// one that it was opened with.
+pub fn changes_make_the_sources()
+    ensures sources { (root : Name) (moves : List Move) → (state_after (opening root) moves).versions.sources ≡ sources_after (changes_after (opening root) [] moves) }
+    ensures root { (root : Name) (moves : List Move) → (state_after (opening root) moves).versions.root ≡ root }
 {}
 
 /// The test of first texts is the relation: the text of a name that may be declared and of a number.

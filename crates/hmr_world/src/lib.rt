@@ -9,6 +9,8 @@ mod client;
 mod first_text;
 pub mod laws;
 mod step;
+#[cfg(test)]
+mod tests;
 mod versions;
 mod world;
 

@@ -44,7 +44,7 @@ impl World {
         })
     }
 
-    /// The page's root, which is its one module.
+    /// The name of the page's module, which each Edit is of.
     pub fn root(&self) -> &ModName
         ensures { result.now ≡ self.now.versions.root }
     {
