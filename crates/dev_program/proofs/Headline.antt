@@ -1,13 +1,15 @@
 -- What commands make of a page is what some list of steps makes of it, so the laws of the world's
 -- runs hold at each place of a script.
 use Rattle.std.proofs.Common.{◌≡◌, ℕ, zero, suc, Bool, true, false, List, [], ◌∷◌, ◌++◌, map, refl, ap, sym, subst, ◌∙◌}
-use Rattle.std.specs.Prelude.{Option, Some, None, if◌then◌else◌}
+use Rattle.std.specs.Prelude.{Option, Some, None, IfSome, if◌then◌else◌}
+use Rattle.dev_program.specs.FirstScript.{first_script}
 use Rattle.core_model.specs.Names.{Name}
 use Rattle.hmr_world.specs.Moves.{Move, edit, settle, connect, turn, show, fresh}
 use Rattle.hmr_world.specs.Versions.{job_key}
 use Rattle.hmr_world.specs.Worlds.{State, opening, state_after, stepped, is_caught_up}
 use Rattle.hmr_world.specs.Freshness.{ShowsFresh}
-use Rattle.hmr_world.proofs.Freshness.{shows_fresh}
+use Rattle.hmr_world.specs.Worlds.{client_at}
+use Rattle.hmr_world.proofs.Bare.{bare-after, bare-opening, shows_fresh}
 use Rattle.dev_program.specs.declared.command.Command.{Command}
 use Rattle.dev_program.specs.declared.command.Command.TheVariants.{Edit, SettleAll, Open, Turn, Turns, Show, Fresh}
 use Rattle.dev_program.specs.declared.first_script.Script.{Script}
@@ -58,10 +60,18 @@ by_commands : (commands : List Command) (s : State) → Leads s (played commands
 by_commands [] s = stays s
 by_commands (command ∷ commands) s = then_on s (commanded command s).0 _ (by_command command s) (by_commands commands (commanded command s).0)
 
+after_moves : (root : Name) (moves : List Move) → ShowsFresh (state_after (opening root) moves)
+after_moves root moves = λ c rows h. let s = state_after (opening root) moves in shows_fresh s c rows (client_at s c) (bare-after (opening root) moves (bare-opening root)) h
+
 at_place : (root : Name) (before : List Command) → ShowsFresh (played before (opening root)).0
-at_place root before = let h = by_commands before (opening root) in subst ShowsFresh (sym h.is) (shows_fresh root h.moves)
+at_place root before = let h = by_commands before (opening root) in subst ShowsFresh (sym h.is) (after_moves root h.moves)
 
 pub shows_are_fresh : (script : Option (Option Script)) → ShowsAreFresh script
 shows_are_fresh None = tt
 shows_are_fresh (Some None) = tt
 shows_are_fresh (Some (Some script)) = λ before after is. at_place script.root before
+
+-- the same, where the bytes are told
+pub shows_at : (told : Option (List ℕ)) → IfSome told (λ bytes. ShowsAreFresh (first_script bytes))
+shows_at None = tt
+shows_at (Some bytes) = shows_are_fresh (first_script bytes)

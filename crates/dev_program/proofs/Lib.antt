@@ -3,3 +3,4 @@ pub mod Commands
 pub mod Writing
 pub mod Playing
 pub mod Lines
+pub mod Headline

@@ -3,6 +3,8 @@ ghost use Rattle.std.specs.Prelude.{◌≡◌, ◌≢◌, ◌⊎◌, ◌↔◌, 
 ghost use Rattle.std.specs.Io.KnownBytes.{Appends, IsAtEnd, Keeps};
 ghost use Rattle.hmr_base.specs.Causes.{Rose};
 ghost use Rattle.hmr_base.specs.Fronts.{WritesFront};
+ghost use Rattle.dev_program.specs.FirstScript.{first_script};
+ghost use Rattle.dev_program.specs.Headline.{ShowsAreFresh};
 ghost use Rattle.dev_program.specs.Outputs.{IsStatus, fault_line, is_input, output_of, usage_line};
 
 use crate::first_script::read_first_script;
@@ -39,6 +41,7 @@ pub fn run<S: Source, K: Sink>(alloc: Global, words: &[String], input: &mut S, o
     ensures unread { result ≡ 4 → Rose (S.faults input.old) (S.faults input.new) }
     ensures unread_silent { result ≡ 4 → Keeps (K.written out.old) (K.written out.new) }
     ensures unwritten { result ≡ 5 → Rose (K.faults out.old) (K.faults out.new) }
+    ensures fresh { IfSome (S.left input.old) (λ bytes. ShowsAreFresh (first_script bytes)) }
     ensures complete { map string_bytes words.now ≡ codes "play" ∷ [] → IfSome (S.left input.old) (λ bytes. is_input bytes ≡ true → (result ≡ 0) ⊎ (result ≡ 4) ⊎ (result ≡ 5) ⊎ (result ≡ 9)) }
 {
     if !is_play(words) {
