@@ -29,8 +29,8 @@ pub use text::{Name, Text};
 pub use tree::{Cond, Expr, HandlerCode, ImportName, Item, Module, Once, Op, Stmt, copy_stmts};
 pub use value::{EvalFault, Slot, Value};
 pub use words::{
-    AbortOutcome, ClientState, EditOutcome, EditRefusal, EndWord, FaultPlace, Handled, HandlerEnd,
-    InstanceFate, InstanceStatus, Kind, PlanKind, ReloadCause, RemoveOutcome, SettleOutcome,
+    AbortWord, ClientState, EditRefusal, EditWord, EndWord, FaultPlace, Handled, HandlerEnd,
+    InstanceFate, InstanceStatus, Kind, PlanKind, ReloadCause, RemoveWord, SettleWord,
 };
 
 /// The version of a source: the number of the counted edit that gave it, from 1 to

@@ -1,9 +1,9 @@
 // The lines that the program writes, as values. Their exact bytes are the business of the crate that
 // renders them.
 use crate::{
-    AbortOutcome, ClientId, ClientState, EditOutcome, EndWord, EvalFault, FaultPlace, Handled,
+    AbortWord, ClientId, ClientState, EditWord, EndWord, EvalFault, FaultPlace, Handled,
     HandlerEnd, InstanceFate, InstanceStatus, Kind, ModName, Name, PlanKind, ReloadCause,
-    RemoveOutcome, Sequence, SettleOutcome, Slot, Text, TextFault, Ver,
+    RemoveWord, Sequence, SettleWord, Slot, Text, TextFault, Ver,
 };
 
 /// One line of output.
@@ -12,18 +12,18 @@ pub enum OutLine {
     /// `edit NAME job V`, `edit NAME same` or `edit NAME refused WORD`.
     Edit {
         name: ModName,
-        outcome: EditOutcome,
+        outcome: EditWord,
     },
     /// `remove NAME V`, `remove NAME same` or `remove NAME refused numbers-spent`.
     Remove {
         name: ModName,
-        outcome: RemoveOutcome,
+        outcome: RemoveWord,
     },
     /// `settle NAME V` and `served`, `refused L:C WORD`, `late` or `none`.
     Settle {
         name: ModName,
         version: Ver,
-        outcome: SettleOutcome,
+        outcome: SettleWord,
     },
     /// `open C`.
     Open {
@@ -64,7 +64,7 @@ pub enum OutLine {
     /// `C aborted` and `missing NAME`, `broken NAME` or `link NAME FROM EXPORT`.
     Aborted {
         client: ClientId,
-        outcome: AbortOutcome,
+        outcome: AbortWord,
     },
     /// `C pruned NAME`.
     Pruned {

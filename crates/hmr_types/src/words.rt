@@ -17,7 +17,7 @@ pub enum EditRefusal {
 
 /// What an edit that gives a text brought.
 #[derive(Clone, Copy, Debug, PartialEq, Eq)]
-pub enum EditOutcome {
+pub enum EditWord {
     /// A job for this version.
     Job(Ver),
     /// The text is the current source; nothing was counted.
@@ -28,7 +28,7 @@ pub enum EditOutcome {
 
 /// What a removal brought.
 #[derive(Clone, Copy, Debug, PartialEq, Eq)]
-pub enum RemoveOutcome {
+pub enum RemoveWord {
     /// The name has no source from this version on.
     Removed(Ver),
     /// The name had no source; nothing was counted.
@@ -39,7 +39,7 @@ pub enum RemoveOutcome {
 
 /// What became of the result of a job.
 #[derive(Clone, Copy, Debug, PartialEq, Eq)]
-pub enum SettleOutcome {
+pub enum SettleWord {
     /// It is what is served of its name now.
     Served,
     /// The text is no module, and what is served stays.
@@ -72,7 +72,7 @@ pub enum ReloadCause {
 
 /// Why a plan was aborted.
 #[derive(Clone, Debug, Drop, Eq, PartialEq)]
-pub enum AbortOutcome {
+pub enum AbortWord {
     /// This module isn't served.
     Missing(ModName),
     /// This module's text can't be read.

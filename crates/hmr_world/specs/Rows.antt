@@ -2,10 +2,10 @@
 use Rattle.std.specs.Prelude.{List, [], ◌∷◌, Some, codes}
 use Rattle.hmr_types.specs.declared.out_line.OutLine.{OutLine}
 use Rattle.hmr_types.specs.declared.out_line.OutLine.TheVariants.{Edit, Settle, Open, OpenRefused, Unknown, Applied, Reload, Aborted, Wait, Client, Module, Fresh, Missing}
-use Rattle.hmr_types.specs.declared.words.EditOutcome.TheVariants.{Job, Same}
-use Rattle.hmr_types.specs.declared.words.SettleOutcome.TheVariants.{Served, Late, NotIssued}
+use Rattle.hmr_types.specs.declared.words.EditWord.TheVariants.{Job, Same}
+use Rattle.hmr_types.specs.declared.words.SettleWord.TheVariants.{Served, Late, NotIssued}
 use Rattle.hmr_types.specs.declared.words.PlanKind.TheVariants as plans
-use Rattle.hmr_types.specs.declared.words.AbortOutcome.TheVariants as aborts
+use Rattle.hmr_types.specs.declared.words.AbortWord.TheVariants as aborts
 use Rattle.hmr_types.specs.declared.words.ReloadCause.TheVariants.{Root}
 use Rattle.hmr_types.specs.declared.words.ClientState.TheVariants.{Up, Behind}
 use Rattle.core_model.specs.Names.{Name}

@@ -4,8 +4,8 @@ use Rattle.std.specs.Prelude.{ℕ, ◌==◌, Bool, false, ◌&&◌, List, [], �
 use Rattle.hmr_types.specs.declared.analysis.Analysis.{Analysis}
 use Rattle.hmr_types.specs.declared.analysis.Outcome.{Outcome}
 use Rattle.hmr_types.specs.declared.analysis.Outcome.TheVariants.{Good}
-use Rattle.hmr_types.specs.declared.words.SettleOutcome.{SettleOutcome}
-use Rattle.hmr_types.specs.declared.words.SettleOutcome.TheVariants as settling
+use Rattle.hmr_types.specs.declared.words.SettleWord.{SettleWord}
+use Rattle.hmr_types.specs.declared.words.SettleWord.TheVariants as settling
 use Rattle.core_model.specs.Names.{Name, same_name, at}
 use Rattle.core_model.specs.Sources.{Text, Source, Sources, no_sources, EditAnswer, job, same, removed, refused, text_or_none, after_edit, is_outstanding, ResultAnswer, serve, refuse, late, result_answer, after_result}
 use Rattle.core_model.specs.FreshLoad.{version_in}
@@ -63,21 +63,21 @@ abbrev pub without_job : List Job → Name → ℕ → List Job
 without_job [] n v = []
 without_job (j ∷ jobs) n v = if is_job n v j then jobs else j ∷ without_job jobs n v
 
-abbrev pub settle_outcome : ResultAnswer → SettleOutcome
+abbrev pub settle_outcome : ResultAnswer → SettleWord
 settle_outcome (serve a) = settling.Served
 settle_outcome (refuse f) = settling.Refused f
 settle_outcome late = settling.Late
 
 -- a result comes for a job of that text
-abbrev pub settled_by : Versions → Name → ℕ → Text → ResultAnswer → Versions × SettleOutcome
+abbrev pub settled_by : Versions → Name → ℕ → Text → ResultAnswer → Versions × SettleWord
 settled_by vs n v t answer = (record vs { sources = after_result answer n t v vs.sources; jobs = without_job vs.jobs n v }, settle_outcome answer)
 
 -- a result comes, for the text of the job where there is one
-abbrev pub settled_at : Versions → Name → ℕ → Option Text → Versions × SettleOutcome
+abbrev pub settled_at : Versions → Name → ℕ → Option Text → Versions × SettleWord
 settled_at vs n v None = (vs, settling.NotIssued)
 settled_at vs n v (Some t) = settled_by vs n v t (result_answer vs.sources n t (outcome_of t) v)
 
-abbrev pub settled : Versions → Name → ℕ → Versions × SettleOutcome
+abbrev pub settled : Versions → Name → ℕ → Versions × SettleWord
 settled vs n v = settled_at vs n v (job_text vs.jobs n v)
 
 abbrev pub is_awaiting : Option Source → Bool

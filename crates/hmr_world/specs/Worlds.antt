@@ -2,11 +2,11 @@
 use Rattle.std.specs.Prelude.{◌≡◌, ℕ, ◌==◌, Bool, true, false, List, [], ◌∷◌, ◌++◌, map, Option, Some, None, if◌then◌else◌}
 use Rattle.hmr_types.specs.declared.out_line.OutLine.{OutLine}
 use Rattle.hmr_types.specs.declared.out_line.OutLine.TheVariants as lines
-use Rattle.hmr_types.specs.declared.words.EditOutcome.TheVariants as edits
-use Rattle.hmr_types.specs.declared.words.RemoveOutcome.TheVariants as removals
-use Rattle.hmr_types.specs.declared.words.AbortOutcome.TheVariants.{Missing}
+use Rattle.hmr_types.specs.declared.words.EditWord.TheVariants as edits
+use Rattle.hmr_types.specs.declared.words.RemoveWord.TheVariants as removals
+use Rattle.hmr_types.specs.declared.words.AbortWord.TheVariants.{Missing}
 use Rattle.hmr_types.specs.declared.words.ReloadCause.TheVariants.{Root}
-use Rattle.hmr_types.specs.declared.words.SettleOutcome.{SettleOutcome}
+use Rattle.hmr_types.specs.declared.words.SettleWord.{SettleWord}
 use Rattle.hmr_types.specs.declared.words.ClientState.{ClientState}
 use Rattle.hmr_types.specs.declared.words.ClientState.TheVariants.{Up, Behind}
 use Rattle.core_model.specs.Names.{Name}
@@ -47,7 +47,7 @@ abbrev pub after_edit_step : State → Name → Option Text → EditAnswer → S
 after_edit_step s n t answer = (record s { versions = edited s.versions n t answer }, edit_line n t answer ∷ [])
 
 -- a result, by what became of it
-abbrev pub after_settle_step : State → Name → ℕ → Versions × SettleOutcome → State × List OutLine
+abbrev pub after_settle_step : State → Name → ℕ → Versions × SettleWord → State × List OutLine
 after_settle_step s n v made = (record s { versions = made.0 }, lines.Settle n v made.1 ∷ [])
 
 -- an opening, by whether the client is open

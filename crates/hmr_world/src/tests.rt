@@ -1,7 +1,7 @@
 // What no clause says: that the calls succeed with ample memory, and that worked runs write what was
 // worked out by hand.
 use super::*;
-use hmr_types::{ClientState, EditOutcome, ModName, OutLine, PlanKind, SettleOutcome, Ver};
+use hmr_types::{ClientState, EditWord, ModName, OutLine, PlanKind, SettleWord, Ver};
 use std::alloc::{AllocError, Global};
 use std::test::Fail;
 
@@ -49,12 +49,12 @@ fn shown(alloc: Global, line: &OutLine) -> Result<String, AllocError> {
     match line {
         OutLine::Edit {
             name,
-            outcome: EditOutcome::Job(version),
+            outcome: EditWord::Job(version),
         } => format!(in alloc; "edit {name} job {version}"),
         OutLine::Settle {
             name,
             version,
-            outcome: SettleOutcome::Served,
+            outcome: SettleWord::Served,
         } => format!(in alloc; "settle {name} {version} served"),
         OutLine::Open { client } => format!(in alloc; "open {client}"),
         OutLine::Applied {

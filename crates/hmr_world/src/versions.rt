@@ -13,7 +13,7 @@ ghost use Rattle.hmr_world.specs.Worlds.{edit_line, fresh_lines};
 
 use crate::client::Offer;
 use hmr_types::limits::{LARGEST_NUMBER, TEXT_BYTES};
-use hmr_types::{EditOutcome, EditRefusal, ModName, OutLine, Sequence, SettleOutcome, Ver};
+use hmr_types::{EditRefusal, EditWord, ModName, OutLine, Sequence, SettleWord, Ver};
 use std::alloc::{AllocError, Global};
 use std::marker::Model;
 
@@ -87,32 +87,32 @@ impl ModuleVersions {
         }
     }
 
-    /// Gives the module a text, and answers what that brought; [`EditOutcome::Job`] issues a job.
+    /// Gives the module a text, and answers what that brought; [`EditWord::Job`] issues a job.
     /// After an error nothing has changed.
-    pub fn edit(&mut self, alloc: Global, text: Vec<u8>) -> Result<EditOutcome, AllocError>
+    pub fn edit(&mut self, alloc: Global, text: Vec<u8>) -> Result<EditWord, AllocError>
         ensures state { OnOk result (let t = Some text.items in self.new ≡ edited self.old self.old.root t (edit_answer self.old.sources self.old.root t)) }
         ensures outcome { IfOk result (λ outcome. let t = Some text.items in edit_line self.old.root t (edit_answer self.old.sources self.old.root t) ≡ lines.Edit self.old.root outcome) }
         ensures unchanged { OnErr result (self.new ≡ self.old) }
     {
         let outcome = self.edit_outcome(&text);
-        if let EditOutcome::Job(version) = outcome {
+        if let EditWord::Job(version) = outcome {
             self.issue(alloc, version, text)?;
         }
         Ok(outcome)
     }
 
     // The limits on names and on all bytes can't be met with one module.
-    fn edit_outcome(&self, text: &[u8]) -> EditOutcome
+    fn edit_outcome(&self, text: &[u8]) -> EditWord
         ensures { edit_line self.now.root (Some text.now) (edit_answer self.now.sources self.now.root (Some text.now)) ≡ lines.Edit self.now.root result }
     {
         if text.len() > TEXT_BYTES {
-            EditOutcome::Refused(EditRefusal::TextTooLong)
+            EditWord::Refused(EditRefusal::TextTooLong)
         } else if self.has_text(text) {
-            EditOutcome::Same
+            EditWord::Same
         } else if self.counted >= LARGEST_NUMBER {
-            EditOutcome::Refused(EditRefusal::NumbersSpent)
+            EditWord::Refused(EditRefusal::NumbersSpent)
         } else {
-            EditOutcome::Job(self.counted + 1)
+            EditWord::Job(self.counted + 1)
         }
     }
 
@@ -142,31 +142,31 @@ impl ModuleVersions {
 
     /// The result comes for the job of that name and version, if there is one, and is served unless
     /// it is late. It takes no memory.
-    pub fn settle(&mut self, name: &ModName, version: Ver) -> SettleOutcome
+    pub fn settle(&mut self, name: &ModName, version: Ver) -> SettleWord
         ensures state { self.new ≡ (settled self.old name.now version).0 }
         ensures outcome { result ≡ (settled self.old name.now version).1 }
     {
         if self.root == *name {
             self.settle_root(version)
         } else {
-            SettleOutcome::NotIssued
+            SettleWord::NotIssued
         }
     }
 
-    fn settle_root(&mut self, version: Ver) -> SettleOutcome
+    fn settle_root(&mut self, version: Ver) -> SettleWord
         ensures state { self.new ≡ (settled self.old self.old.root version).0 }
         ensures outcome { result ≡ (settled self.old self.old.root version).1 }
     {
         let Some(job) = take_job(&mut self.jobs, version) else {
-            return SettleOutcome::NotIssued;
+            return SettleWord::NotIssued;
         };
         match &mut self.source {
             Some(source) if source.awaits(&job) => source.settled = true,
-            _ => return SettleOutcome::Late,
+            _ => return SettleWord::Late,
         }
         self.served = Some(job);
         self.served_no += 1;
-        SettleOutcome::Served
+        SettleWord::Served
     }
 
     /// The lines of what a page would load anew: the module's, or that it is missing.

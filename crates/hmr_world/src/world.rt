@@ -8,9 +8,7 @@ ghost use Rattle.hmr_world.specs.Worlds.{IsTaken, client_at, is_caught_up, openi
 use crate::client::{CLIENT, Client, Turned};
 use crate::step::Step;
 use crate::versions::ModuleVersions;
-use hmr_types::{
-    AbortOutcome, ClientId, ClientState, ModName, OutLine, ReloadCause, Sequence, Ver,
-};
+use hmr_types::{AbortWord, ClientId, ClientState, ModName, OutLine, ReloadCause, Sequence, Ver};
 use std::alloc::{AllocError, Global};
 use std::marker::Model;
 
@@ -198,7 +196,7 @@ fn turn_lines(
         },
         Turned::Aborts => OutLine::Aborted {
             client,
-            outcome: AbortOutcome::Missing(root.clone()?),
+            outcome: AbortWord::Missing(root.clone()?),
         },
         Turned::Applies(plan) => OutLine::Applied { client, plan },
     };

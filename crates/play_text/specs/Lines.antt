@@ -12,14 +12,14 @@ use Rattle.hmr_types.specs.declared.value.Slot.TheVariants as slots
 use Rattle.hmr_types.specs.declared.value.Value.TheVariants as values
 use Rattle.hmr_types.specs.declared.value.EvalFault.{EvalFault}
 use Rattle.hmr_types.specs.declared.value.EvalFault.TheVariants as faults
-use Rattle.hmr_types.specs.declared.words.EditOutcome.{EditOutcome}
-use Rattle.hmr_types.specs.declared.words.EditOutcome.TheVariants as edits
-use Rattle.hmr_types.specs.declared.words.RemoveOutcome.{RemoveOutcome}
-use Rattle.hmr_types.specs.declared.words.RemoveOutcome.TheVariants as removals
-use Rattle.hmr_types.specs.declared.words.SettleOutcome.{SettleOutcome}
-use Rattle.hmr_types.specs.declared.words.SettleOutcome.TheVariants as results
-use Rattle.hmr_types.specs.declared.words.AbortOutcome.{AbortOutcome}
-use Rattle.hmr_types.specs.declared.words.AbortOutcome.TheVariants as aborts
+use Rattle.hmr_types.specs.declared.words.EditWord.{EditWord}
+use Rattle.hmr_types.specs.declared.words.EditWord.TheVariants as edits
+use Rattle.hmr_types.specs.declared.words.RemoveWord.{RemoveWord}
+use Rattle.hmr_types.specs.declared.words.RemoveWord.TheVariants as removals
+use Rattle.hmr_types.specs.declared.words.SettleWord.{SettleWord}
+use Rattle.hmr_types.specs.declared.words.SettleWord.TheVariants as results
+use Rattle.hmr_types.specs.declared.words.AbortWord.{AbortWord}
+use Rattle.hmr_types.specs.declared.words.AbortWord.TheVariants as aborts
 use Rattle.hmr_types.specs.declared.words.InstanceStatus.{InstanceStatus}
 use Rattle.hmr_types.specs.declared.words.InstanceFate.{InstanceFate}
 use Rattle.hmr_types.specs.declared.words.InstanceFate.TheVariants as fates
@@ -30,23 +30,23 @@ use Rattle.hmr_types.specs.declared.words.Handled.TheVariants as handlers
 abbrev pub text_fault : TextFault → List ℕ
 text_fault fault = decimal fault.line ++ codes ":" ++ decimal fault.col ++ spaced (fault_word fault.word)
 
-abbrev pub edit_text : EditOutcome → List ℕ
+abbrev pub edit_text : EditWord → List ℕ
 edit_text (edits.Job version) = codes "job " ++ decimal version
 edit_text edits.Same = codes "same"
 edit_text (edits.Refused word) = codes "refused " ++ refusal_word word
 
-abbrev pub remove_text : RemoveOutcome → List ℕ
+abbrev pub remove_text : RemoveWord → List ℕ
 remove_text (removals.Removed version) = decimal version
 remove_text removals.Same = codes "same"
 remove_text removals.NumbersSpent = codes "refused numbers-spent"
 
-abbrev pub result_text : SettleOutcome → List ℕ
+abbrev pub result_text : SettleWord → List ℕ
 result_text results.Served = codes "served"
 result_text (results.Refused fault) = codes "refused " ++ text_fault fault
 result_text results.Late = codes "late"
 result_text results.NotIssued = codes "none"
 
-abbrev pub abort_text : AbortOutcome → List ℕ
+abbrev pub abort_text : AbortWord → List ℕ
 abort_text (aborts.Missing name) = codes "missing " ++ name
 abort_text (aborts.Broken name) = codes "broken " ++ name
 abort_text (aborts.Link name from export) = codes "link " ++ name ++ spaced from ++ spaced export

@@ -13,8 +13,8 @@ use crate::word_texts::{
     state_str, status_str,
 };
 use hmr_types::{
-    AbortOutcome, EditOutcome, EvalFault, Handled, InstanceFate, InstanceStatus, ModName, OutLine,
-    RemoveOutcome, SettleOutcome, Slot, Text, TextFault, Value, Ver,
+    AbortWord, EditWord, EvalFault, Handled, InstanceFate, InstanceStatus, ModName, OutLine,
+    RemoveWord, SettleWord, Slot, Text, TextFault, Value, Ver,
 };
 use std::alloc::{AllocError, Global};
 
@@ -256,43 +256,43 @@ fn put_instance(
     put_fate(out, fate)
 }
 
-fn put_edit(out: &mut Vec<u8>, outcome: &EditOutcome) -> Result<(), AllocError>
+fn put_edit(out: &mut Vec<u8>, outcome: &EditWord) -> Result<(), AllocError>
     ensures { OnOk result (out.new.items ≡ out.old.items ++ edit_text outcome.now) }
 {
     match outcome {
-        EditOutcome::Job(version) => {
+        EditWord::Job(version) => {
             put(out, "job ")?;
             put_number(out, *version)
         }
-        EditOutcome::Same => put(out, "same"),
-        EditOutcome::Refused(word) => {
+        EditWord::Same => put(out, "same"),
+        EditWord::Refused(word) => {
             put(out, "refused ")?;
             put(out, refusal_str(*word))
         }
     }
 }
 
-fn put_remove(out: &mut Vec<u8>, outcome: &RemoveOutcome) -> Result<(), AllocError>
+fn put_remove(out: &mut Vec<u8>, outcome: &RemoveWord) -> Result<(), AllocError>
     ensures { OnOk result (out.new.items ≡ out.old.items ++ remove_text outcome.now) }
 {
     match outcome {
-        RemoveOutcome::Removed(version) => put_number(out, *version),
-        RemoveOutcome::Same => put(out, "same"),
-        RemoveOutcome::NumbersSpent => put(out, "refused numbers-spent"),
+        RemoveWord::Removed(version) => put_number(out, *version),
+        RemoveWord::Same => put(out, "same"),
+        RemoveWord::NumbersSpent => put(out, "refused numbers-spent"),
     }
 }
 
-fn put_result(out: &mut Vec<u8>, outcome: &SettleOutcome) -> Result<(), AllocError>
+fn put_result(out: &mut Vec<u8>, outcome: &SettleWord) -> Result<(), AllocError>
     ensures { OnOk result (out.new.items ≡ out.old.items ++ result_text outcome.now) }
 {
     match outcome {
-        SettleOutcome::Served => put(out, "served"),
-        SettleOutcome::Refused(fault) => {
+        SettleWord::Served => put(out, "served"),
+        SettleWord::Refused(fault) => {
             put(out, "refused ")?;
             put_text_fault(out, fault)
         }
-        SettleOutcome::Late => put(out, "late"),
-        SettleOutcome::NotIssued => put(out, "none"),
+        SettleWord::Late => put(out, "late"),
+        SettleWord::NotIssued => put(out, "none"),
     }
 }
 
@@ -305,19 +305,19 @@ fn put_text_fault(out: &mut Vec<u8>, fault: &TextFault) -> Result<(), AllocError
     put_spaced(out, fault_str(fault.word))
 }
 
-fn put_abort(out: &mut Vec<u8>, outcome: &AbortOutcome) -> Result<(), AllocError>
+fn put_abort(out: &mut Vec<u8>, outcome: &AbortWord) -> Result<(), AllocError>
     ensures { OnOk result (out.new.items ≡ out.old.items ++ abort_text outcome.now) }
 {
     match outcome {
-        AbortOutcome::Missing(name) => {
+        AbortWord::Missing(name) => {
             put(out, "missing ")?;
             put(out, name.as_str())
         }
-        AbortOutcome::Broken(name) => {
+        AbortWord::Broken(name) => {
             put(out, "broken ")?;
             put(out, name.as_str())
         }
-        AbortOutcome::Link { name, from, export } => {
+        AbortWord::Link { name, from, export } => {
             put(out, "link ")?;
             put(out, name.as_str())?;
             put_spaced(out, from.as_str())?;
