@@ -10,6 +10,8 @@ mod first_script;
 mod play;
 mod script_line;
 mod stop;
+#[cfg(test)]
+mod tests;
 mod top;
 
 use hmr_base::{StdSink, StdSource};
