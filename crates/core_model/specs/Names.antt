@@ -28,6 +28,10 @@ without n rows = filter (λ row. not (same_name row.0 n)) rows
 abbrev pub with_row : {X : Type 0} → Name → X → List (Name × X) → List (Name × X)
 with_row n x rows = (n, x) ∷ without n rows
 
+-- the entries of other names than these
+abbrev pub without_all : {X : Type 0} → List Name → List (Name × X) → List (Name × X)
+without_all names rows = filter (λ row. not (has names row.0)) rows
+
 abbrev pub names_of : {X : Type 0} → List (Name × X) → List Name
 names_of rows = map (λ row. row.0) rows
 
