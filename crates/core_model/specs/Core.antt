@@ -83,3 +83,8 @@ core_after roots (event ∷ past) = (step roots (core_after roots past) event).0
 -- what the events make, in their order
 abbrev pub replay : List Name → List Event → Core
 replay roots events = core_after roots (reverse events)
+
+-- the replies to the events, in their order
+abbrev pub replies : List Name → Core → List Event → List Reply
+replies roots core [] = []
+replies roots core (event ∷ events) = (step roots core event).1 ∷ replies roots (step roots core event).0 events

@@ -12,3 +12,4 @@ pub mod Asking
 pub mod Requests
 pub mod Core
 pub mod Transcript
+pub mod Examples

@@ -8,6 +8,7 @@
 //! instances, handlers or values.
 #![tactic(auto)]
 
+pub mod examples;
 mod message;
 mod refusal;
 
