@@ -1,7 +1,7 @@
 -- What the core keeps of a client, and what of it is read from the sources of the day.
-use Rattle.std.specs.Prelude.{ℕ, ◌==◌, Bool, false, List, [], ◌∷◌, Option, Some, None, option_and_then, option_map}
+use Rattle.std.specs.Prelude.{ℕ, ◌==◌, Bool, false, List, [], Option, Some, None, option_and_then, option_map}
 use Rattle.hmr_types.specs.declared.analysis.TextFault.{TextFault}
-use Rattle.core_model.specs.Names.{Name, at, with_row, without, names_of, sorted}
+use Rattle.core_model.specs.Names.{Name, at, with_row, without, names_of, sorted, first_of}
 use Rattle.core_model.specs.Page.{Page, new_page}
 use Rattle.core_model.specs.Sources.{Sources, EditAnswer, job, same, removed, refused, ResultAnswer, serve, refuse, late}
 use Rattle.core_model.specs.View.{changed_of, dropped_of}
@@ -42,10 +42,6 @@ replaced s c = replaced_of c.page.view (changed s c) c.page.forced
 
 abbrev pub pairs : Sources → Client → List (Name × Name)
 pairs s c = pairs_of c.page.view (replaced s c) c.page.forced
-
-abbrev pub first_of : List Name → Option Name
-first_of [] = None
-first_of (n ∷ names) = Some n
 
 abbrev pub with_name : Name → Option TextFault → Option (Name × TextFault)
 with_name n fault = option_map (λ f. (n, f)) fault

@@ -13,3 +13,4 @@ pub mod Requests
 pub mod Core
 pub mod Transcript
 pub mod Examples
+pub mod Exchange

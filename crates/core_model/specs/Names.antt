@@ -53,3 +53,8 @@ put_name n (m ∷ names) = if same_name n m then m ∷ names else (if is_lt (sli
 abbrev pub sorted : List Name → List Name
 sorted [] = []
 sorted (n ∷ names) = put_name n (sorted names)
+
+-- the first of a list, if there is one
+abbrev pub first_of : {X : Type 0} → List X → Option X
+first_of [] = None
+first_of (x ∷ xs) = Some x
