@@ -1,0 +1,4 @@
+pub mod CaughtUp
+pub mod World
+pub mod Playing
+pub mod SmallLanguage
