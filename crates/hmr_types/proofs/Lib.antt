@@ -1,0 +1,4 @@
+pub mod Names
+pub mod Segments
+pub mod Tables
+mod Worked
