@@ -1,5 +1,5 @@
 // The messages between a server and a client: one variant for each kind, with what it carries.
-use hmr_types::{ClientId, FaultWord, ModName, ReloadCause, Sequence, Text, Ver};
+use hmr_types::{ClientId, FaultWord, ModName, ReloadCause, Sequence, Table, Text, Ver};
 
 /// What a client asks or tells.
 #[derive(Drop)]
@@ -14,10 +14,9 @@ pub enum ClientMsg {
     Fetch {
         path: ModName,
     },
-    /// The plan was applied; these are now the modules of the page with their versions, by rising
-    /// name.
+    /// The plan was applied; these are now the modules of the page, with their versions.
     Applied {
-        table: Sequence<(ModName, Ver)>,
+        table: Table,
     },
     /// The plan was given up. `path` is the module that couldn't be had; where the cause is a link,
     /// it is the importer, `from` the dependency, and `name` the export that isn't there.

@@ -2,3 +2,5 @@ pub mod CaughtUp
 pub mod World
 pub mod Playing
 pub mod SmallLanguage
+pub mod SmallPages
+pub mod UpdateScripts

@@ -18,7 +18,7 @@ use Rattle.client_model.specs.Runtime.{Runtime}
 use Rattle.world_model.specs.World.{World, Job, Step, edits, settles, opens, turn, Stepped, new_world, state_in, world_step}
 
 pub data Command : Type 0 where
-  act : Step → Command
+  step : Step → Command
   settle_all : Command
   turns : ℕ → ℕ → Command
 
@@ -69,7 +69,7 @@ play_turns_of stage i k None p = play_step stage p (turn i)
 play_turns_of stage i k (Some r) p = play_turns stage i k p
 
 abbrev pub play_command : Stage → Played → Command → Played
-play_command stage p (act s) = play_step stage p s
+play_command stage p (step s) = play_step stage p s
 play_command stage p settle_all = fold (play_step stage) p (map settle_of (reverse p.world.issued))
 play_command stage p (turns i k) = play_turns_of stage i k (client_at p.world.clients i) p
 

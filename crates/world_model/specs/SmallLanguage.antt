@@ -1,7 +1,6 @@
 -- A small module language for examples: each text stands for a module that is listed beside it. It has
 -- numbers, texts, sums, `??`, the bag and members, and no faults; its dependencies are named in full.
-use Rattle.std.specs.Prelude.{ℕ, ℤ, pos, ◌+ℤ◌, Bool, true, false, List, [], ◌∷◌, ◌++◌, map, flat_map, fold, slice_get, Option, Some, None, codes}
-use Rattle.std.specs.Fmt.{signed_decimal}
+use Rattle.std.specs.Prelude.{ℕ, zero, suc, ◌+◌, ◌/◌, ◌%◌, ◌==◌, ℤ, pos, negsuc, ◌+ℤ◌, Bool, true, false, List, [], ◌∷◌, ◌++◌, map, flat_map, fold, slice_get, Option, Some, None, codes, if◌then◌else◌}
 use Rattle.std.specs.List.{join_with_byte}
 use Rattle.hmr_types.specs.Syntax.{ExprTree, num, text, undefined, name, bag, member, neg, binary, choose, StmtTree, StmtTrees, no_stmts, one_stmt, log, assign, bag_set, throw, invalidate, branch, HandlerTree, OnceTree, code, host, ItemTree, import, declare, act, own, deps, dispose, prune, decline}
 use Rattle.hmr_types.specs.declared.tree.Op.{Op}
@@ -52,8 +51,18 @@ member_of None x = Undef
 member_of (Some None) x = Undef
 member_of (Some (Some exports)) x = value_in (slot_at exports x)
 
+-- at most so many digits of a number
+abbrev pub digits : ℕ → ℕ → Text
+digits zero n = []
+digits (suc k) n = let before : Text = digits k (n / 10) in if n == 0 then [] else before ++ (48 + n % 10) ∷ []
+
+-- a number of at most sixteen digits, which isn't 0
+abbrev pub whole_text : ℤ → Text
+whole_text (pos n) = digits 16 n
+whole_text (negsuc n) = codes "-" ++ digits 16 (n + 1)
+
 abbrev pub as_text : Value → Text
-as_text (Num n) = signed_decimal n
+as_text (Num n) = whole_text n
 as_text (Str t) = t
 as_text Undef = codes "undefined"
 

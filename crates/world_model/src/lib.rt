@@ -5,3 +5,5 @@
 //! step of the core and one effect on the client. Nothing here runs. Keeps: the world's step puts the
 //! two sides together and adds nothing to either. Knows nothing of bytes, threads or time.
 #![tactic(auto)]
+
+pub mod update_scripts;
