@@ -1,6 +1,6 @@
 -- A plan is applied: old instances end, new ones are made, and callbacks are called. Modules that left
 -- the page are pruned.
-use Rattle.std.specs.Prelude.{ℕ, suc, Bool, true, false, not, ◌&&◌, ◌||◌, List, [], ◌∷◌, ◌++◌, length, map, filter, Option, Some, None, is_some, if◌then◌else◌}
+use Rattle.std.specs.Prelude.{ℕ, Bool, true, not, ◌&&◌, List, [], ◌∷◌, ◌++◌, filter, Option, Some, None, if◌then◌else◌}
 use Rattle.hmr_types.specs.declared.words.PlanKind.{PlanKind}
 use Rattle.hmr_types.specs.declared.words.PlanKind.TheVariants.{Load, Reload, Update}
 use Rattle.hmr_types.specs.declared.words.FaultPlace.TheVariants as place
@@ -9,8 +9,8 @@ use Rattle.hmr_types.specs.declared.words.InstanceFate.TheVariants.{Live, Replac
 use Rattle.hmr_types.specs.declared.out_line.OutLine.TheVariants as line
 use Rattle.core_model.specs.Names.{Name, same_name, has, at}
 use Rattle.core_model.specs.Sources.{Text}
-use Rattle.core_model.specs.View.{View, Entry}
-use Rattle.core_model.specs.Page.{Plan, Page, entry_at, applied, pruned}
+use Rattle.core_model.specs.View.{Entry}
+use Rattle.core_model.specs.Page.{Plan, entry_at, applied, pruned}
 use Rattle.client_model.specs.Language.{Language, Slots}
 use Rattle.client_model.specs.Instance.{Instance, Handler, is_live, live_at, is_held, disposes, prunes, accepts_own, accepts_dep, is_own}
 use Rattle.client_model.specs.Journal.{gave_up_all}
@@ -88,11 +88,11 @@ abbrev pub tell_boundary : Language → Plan → Runtime → Name × Name → Ru
 tell_boundary language p before pair r =
     if has (new_names p before) pair.1
     then (if same_name pair.0 pair.1
-          then run_own language (number_in (live_at before.instances pair.1)) pair.1 r
-          else run_dep language (number_in (live_at r.instances pair.0)) pair.1 r)
+    then run_own language (number_in (live_at before.instances pair.1)) pair.1 r
+    else run_dep language (number_in (live_at r.instances pair.0)) pair.1 r)
     else (if has before.page.forced pair.1
-          then run_dep language (number_in (live_at r.instances pair.0)) pair.1 r
-          else nothing r)
+    then run_dep language (number_in (live_at r.instances pair.0)) pair.1 r
+    else nothing r)
 
 -- who is told: an update's boundaries, in order
 abbrev pub tell_all : PlanKind → Language → Plan → Runtime → Runtime → Did

@@ -1,6 +1,6 @@
 -- What a client needs of the module language: four functions. Everything else here holds whatever
 -- they are.
-use Rattle.std.specs.Prelude.{ℕ, ◌==◌, nat_le, pos, Bool, true, false, List, [], ◌∷◌, ◌++◌, length, map, Option, Some, None, is_some, codes, decimal, if◌then◌else◌}
+use Rattle.std.specs.Prelude.{ℕ, nat_le, pos, Bool, false, List, [], ◌∷◌, ◌++◌, length, map, Option, Some, None, is_some, codes, decimal, if◌then◌else◌}
 use Rattle.hmr_types.specs.declared.analysis.Outcome.{Outcome}
 use Rattle.hmr_types.specs.declared.limits.TheConstants.{BAG_KEYS}
 use Rattle.hmr_types.specs.declared.value.Value.{Value}

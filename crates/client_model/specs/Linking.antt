@@ -1,14 +1,14 @@
 -- The new instances of a plan: which ones, in which order, with which numbers, and linked to what.
-use Rattle.std.specs.Prelude.{◌≡◌, ℕ, zero, suc, ◌+◌, Bool, true, false, not, List, [], ◌∷◌, length, map, filter, flat_map, filter_map, Option, Some, None, is_some, is_none, option_map, option_and_then, if◌then◌else◌}
+use Rattle.std.specs.Prelude.{ℕ, zero, suc, ◌+◌, Bool, false, not, List, [], ◌∷◌, length, map, filter, flat_map, filter_map, Option, Some, None, is_some, is_none, option_map, if◌then◌else◌}
 use Rattle.hmr_types.specs.declared.words.PlanKind.{PlanKind}
 use Rattle.hmr_types.specs.declared.words.PlanKind.TheVariants.{Load, Reload, Update}
 use Rattle.core_model.specs.Names.{Name, same_name, has, at, first_of}
 use Rattle.core_model.specs.Sources.{Text}
-use Rattle.core_model.specs.View.{View, Entry, imports_of}
+use Rattle.core_model.specs.View.{View, Entry}
 use Rattle.core_model.specs.Page.{Plan, entry_at}
 use Rattle.client_model.specs.Language.{Language, Binding}
 use Rattle.client_model.specs.Instance.{Instance, live_at}
-use Rattle.client_model.specs.Runtime.{Runtime, Cause, missing, broken, unlinked}
+use Rattle.client_model.specs.Runtime.{Runtime, Cause, unlinked}
 use Rattle.client_model.specs.Order.{fetch_order, evaluation_order}
 
 abbrev pub is_kept_kind : PlanKind → Bool → Option Entry → Bool

@@ -1,23 +1,22 @@
 -- A new instance is made and evaluated.
-use Rattle.std.specs.Prelude.{ℕ, suc, Bool, true, false, not, List, [], ◌∷◌, ◌++◌, length, map, fold, find, Option, Some, None, is_some, if◌then◌else◌}
+use Rattle.std.specs.Prelude.{ℕ, Bool, false, not, List, [], ◌∷◌, ◌++◌, map, fold, Option, Some, None, if◌then◌else◌}
 use Rattle.std.specs.List.{list_any}
 use Rattle.hmr_types.specs.Syntax as syntax
 use Rattle.hmr_types.specs.Syntax.{OnceTree}
 use Rattle.hmr_types.specs.declared.words.Kind.{Kind}
 use Rattle.hmr_types.specs.declared.words.Kind.TheVariants as kind
-use Rattle.hmr_types.specs.declared.words.HandlerEnd.TheVariants.{Held, Dropped}
+use Rattle.hmr_types.specs.declared.words.HandlerEnd.TheVariants.{Held}
 use Rattle.hmr_types.specs.declared.words.InstanceStatus.{InstanceStatus}
 use Rattle.hmr_types.specs.declared.words.InstanceStatus.TheVariants.{Done, Faulted, Unrun}
 use Rattle.hmr_types.specs.declared.words.InstanceFate.TheVariants.{Live}
 use Rattle.hmr_types.specs.declared.value.EvalFault.{EvalFault}
 use Rattle.core_model.specs.Names.{Name, same_name, at, with_row}
 use Rattle.core_model.specs.Sources.{Text}
-use Rattle.core_model.specs.View.{View, Entry}
-use Rattle.core_model.specs.Page.{Plan, entry_at}
+use Rattle.core_model.specs.View.{Entry}
 use Rattle.client_model.specs.Language.{Language, Bag, Slots, Registered, Evaluated}
 use Rattle.client_model.specs.Instance.{Instance, Handler, Deed, code, host, numbered, is_done, disposes, prunes, places_from, with_dropped}
 use Rattle.client_model.specs.Journal.{Journal, made, evaluated, not_run, registered, no_host, dropped}
-use Rattle.client_model.specs.Runtime.{Runtime, Did, nothing, bag_of}
+use Rattle.client_model.specs.Runtime.{Runtime, Did, bag_of}
 use Rattle.client_model.specs.Running.{imported_slots}
 
 -- the handlers registered so far, the closures that are left, and what happened
@@ -40,7 +39,8 @@ new_handler entry deed = record { kind = entry.kind; deps = entry.deps; deed = d
 abbrev pub with_handler : ℕ → Registered → Deed → Registry → Registry
 with_handler k entry deed g = record g {
   handlers = with_dropped (is_displaced_by entry.kind) g.handlers ++ new_handler entry deed ∷ [];
-  journal = g.journal ++ (map (dropped k) (places_from 0 (is_displaced_by entry.kind) g.handlers) ++ registered k (new_handler entry deed) ∷ []) }
+  journal = g.journal ++ (map (dropped k) (places_from 0 (is_displaced_by entry.kind) g.handlers) ++ registered k (new_handler entry deed) ∷ []);
+}
 
 -- the closures without the first of this label
 abbrev pub without_first : Text → List (Text × ℕ) → List (Text × ℕ)
@@ -91,8 +91,9 @@ make_unrun b r = (record r { instances = born b Unrun [] [] ∷ r.instances }, m
 -- it was evaluated with its name's bag, and what it registered was registered
 abbrev pub make_evaluated : Birth → Bag → Evaluated → Registry → Runtime → Did
 make_evaluated b bag e g r = (
-    record r { instances = born b (status_after e.fault) e.values g.handlers ∷ r.instances; bags = with_row b.name e.bag r.bags; shelf = g.shelf },
-    made (born b (status_after e.fault) e.values g.handlers) ∷ (evaluated b.number b.name bag e ∷ g.journal))
+  record r { instances = born b (status_after e.fault) e.values g.handlers ∷ r.instances; bags = with_row b.name e.bag r.bags; shelf = g.shelf },
+  made (born b (status_after e.fault) e.values g.handlers) ∷ (evaluated b.number b.name bag e ∷ g.journal),
+)
 
 abbrev pub evaluate : Language → Birth → Runtime → Evaluated
 evaluate language b r = language.evaluated b.name b.text (imported_slots language r.instances b.links b.name b.text) (bag_of r b.name)

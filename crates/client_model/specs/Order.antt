@@ -1,6 +1,6 @@
 -- The order of a plan's walk: depth first from the roots, imports in the order in which the text first
 -- names them, each module once.
-use Rattle.std.specs.Prelude.{ℕ, zero, suc, not, Bool, List, [], ◌∷◌, ◌++◌, length, filter, fold, Option, Some, None, is_some, if◌then◌else◌}
+use Rattle.std.specs.Prelude.{ℕ, zero, suc, List, [], ◌∷◌, ◌++◌, length, fold, if◌then◌else◌}
 use Rattle.core_model.specs.Names.{Name, has}
 use Rattle.core_model.specs.View.{View, imports_of, imported_of}
 use Rattle.core_model.specs.Page.{Plan, entry_at}

@@ -4,10 +4,9 @@ use Rattle.std.specs.Prelude.{ℕ, Bool, true, false, not, ◌&&◌, List, [], �
 use Rattle.hmr_types.specs.declared.words.Handled.{Handled}
 use Rattle.hmr_types.specs.declared.words.Handled.TheVariants as handled
 use Rattle.hmr_types.specs.declared.words.ClientState.{ClientState}
-use Rattle.hmr_types.specs.declared.words.ClientState.TheVariants.{Up, Behind}
 use Rattle.hmr_types.specs.declared.out_line.OutLine.{OutLine}
 use Rattle.hmr_types.specs.declared.out_line.OutLine.TheVariants as line
-use Rattle.core_model.specs.Names.{Name, at, names_of, sorted}
+use Rattle.core_model.specs.Names.{Name, names_of, sorted}
 use Rattle.core_model.specs.View.{table_of}
 use Rattle.client_model.specs.Language.{slot_at}
 use Rattle.client_model.specs.Instance.{Instance, Handler, Deed, code, host, live_at}

@@ -1,5 +1,5 @@
 -- The request that stands: what a client asks or tells next.
-use Rattle.std.specs.Prelude.{ℕ, ◌==◌, Bool, true, false, List, [], ◌∷◌, Option, Some, None, if◌then◌else◌}
+use Rattle.std.specs.Prelude.{◌==◌, List, [], ◌∷◌, Option, Some, None, if◌then◌else◌}
 use Rattle.core_model.specs.declared.message.ClientMsg.{ClientMsg}
 use Rattle.core_model.specs.declared.message.ClientMsg.TheVariants as msg
 use Rattle.core_model.specs.declared.message.AbortCause.TheVariants as abort

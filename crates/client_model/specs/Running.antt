@@ -1,21 +1,20 @@
 -- Handlers leave an instance: they are run, or dropped. An instance ends.
-use Rattle.std.specs.Prelude.{ℕ, Bool, List, [], ◌∷◌, ◌++◌, map, filter, fold, slice_get, Option, Some, None, if◌then◌else◌}
+use Rattle.std.specs.Prelude.{ℕ, Bool, List, [], ◌∷◌, ◌++◌, map, fold, slice_get, Option, Some, None, if◌then◌else◌}
 use Rattle.hmr_types.specs.declared.value.Value.{Value}
 use Rattle.hmr_types.specs.declared.value.Slot.{Slot}
 use Rattle.hmr_types.specs.declared.value.Slot.TheVariants.{Unset, Val}
 use Rattle.hmr_types.specs.declared.words.Kind.{Kind}
 use Rattle.hmr_types.specs.declared.words.Kind.TheVariants as kind
 use Rattle.hmr_types.specs.declared.words.FaultPlace.{FaultPlace}
-use Rattle.hmr_types.specs.declared.words.FaultPlace.TheVariants as place
 use Rattle.hmr_types.specs.declared.words.HandlerEnd.{HandlerEnd}
 use Rattle.hmr_types.specs.declared.words.HandlerEnd.TheVariants.{Held, Spent}
 use Rattle.hmr_types.specs.declared.words.InstanceFate.{InstanceFate}
 use Rattle.core_model.specs.Names.{Name, same_name, at, with_row, without}
 use Rattle.core_model.specs.Sources.{Text}
-use Rattle.client_model.specs.Language.{Language, Binding, Slots, Bag, Ran, slot_at, host_ran}
-use Rattle.client_model.specs.Instance.{Instance, Handler, Deed, code, host, numbered, live_at, with_change, with_end, with_dropped, places_from, places_of, is_done}
+use Rattle.client_model.specs.Language.{Language, Slots, Bag, Ran, slot_at, host_ran}
+use Rattle.client_model.specs.Instance.{Instance, Handler, Deed, code, host, numbered, live_at, with_change, with_end, with_dropped, places_of, is_done}
 use Rattle.client_model.specs.Journal.{ran, dropped, ended, gave_up}
-use Rattle.client_model.specs.Runtime.{Runtime, Invalidation, Did, nothing, and_then, for_each, bag_of}
+use Rattle.client_model.specs.Runtime.{Runtime, Invalidation, Did, nothing, for_each, bag_of}
 
 abbrev pub export_in : Option Instance → Name → Slot
 export_in None x = Unset
@@ -71,8 +70,9 @@ after_run spot kind left i = record i { values = fold assigned i.values left.cha
 -- the handler at a place of the instance was run, with its name's bag
 abbrev pub did_run : FaultPlace → Instance → ℕ → Handler → Ran → Runtime → Did
 did_run at i spot h left r = (
-    record r { instances = with_change i.number (after_run spot h.kind left) r.instances; bags = with_row i.name left.bag r.bags; unsent = r.unsent ++ map (invalidation r i.name) left.invalidations },
-    ran i.number spot i.name at (bag_of r i.name) left ∷ [])
+  record r { instances = with_change i.number (after_run spot h.kind left) r.instances; bags = with_row i.name left.bag r.bags; unsent = r.unsent ++ map (invalidation r i.name) left.invalidations },
+  ran i.number spot i.name at (bag_of r i.name) left ∷ [],
+)
 
 abbrev pub run_deed : Language → Deed → Slots → List (Option Slots) → Bag → Ran
 run_deed language (code tree) scope arguments bag = language.ran tree scope arguments bag

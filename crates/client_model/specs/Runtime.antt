@@ -1,12 +1,12 @@
 -- What a client keeps, and how one thing that it does follows another.
-use Rattle.std.specs.Prelude.{ℕ, Bool, true, false, List, [], ◌∷◌, ◌++◌, Option, Some, None}
+use Rattle.std.specs.Prelude.{ℕ, Bool, false, List, [], ◌∷◌, ◌++◌, Option, Some, None}
 use Rattle.hmr_types.specs.declared.out_line.OutLine.{OutLine}
 use Rattle.core_model.specs.Names.{Name, at}
 use Rattle.core_model.specs.Sources.{Text}
 use Rattle.core_model.specs.Page.{Page, new_page}
 use Rattle.client_model.specs.Language.{Bag}
 use Rattle.client_model.specs.Instance.{Instance}
-use Rattle.client_model.specs.Journal.{Happening, Journal, told}
+use Rattle.client_model.specs.Journal.{Journal, told}
 
 -- why a plan can't be carried out: a module isn't served, its text can't be read, or an importer
 -- imports from a dependency what it doesn't export

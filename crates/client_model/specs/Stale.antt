@@ -1,19 +1,19 @@
 -- Edges at which a live module holds an older instance of what it imports, and the updates that stopped
 -- there.
-use Rattle.std.specs.Prelude.{◌≡◌, ◌≢◌, ◌⊎◌, ℕ, ◌==◌, Bool, true, false, not, ◌&&◌, List, [], ◌∷◌, ◌++◌, map, filter, flat_map, Option, Some, None, Contains, IsSome}
+use Rattle.std.specs.Prelude.{◌≡◌, ◌≢◌, ◌⊎◌, ℕ, ◌==◌, Bool, true, false, not, List, [], ◌∷◌, map, filter, flat_map, Option, Some, None, IsSome}
 use Prim.{⊥}
 use Rattle.hmr_types.specs.declared.words.PlanKind.{PlanKind}
 use Rattle.hmr_types.specs.declared.words.PlanKind.TheVariants.{Load, Reload, Update}
 use Rattle.core_model.specs.declared.message.ServerMsg.{ServerMsg}
 use Rattle.core_model.specs.Names.{Name, at, names_of, sorted}
 use Rattle.core_model.specs.Sources.{Text}
-use Rattle.core_model.specs.View.{View, imports, imports_of}
+use Rattle.core_model.specs.View.{imports, imports_of}
 use Rattle.core_model.specs.Page.{Plan}
 use Rattle.client_model.specs.Language.{Language}
 use Rattle.client_model.specs.Instance.{Instance, live_at}
 use Rattle.client_model.specs.Runtime.{Runtime}
 use Rattle.client_model.specs.Linking.{number_in}
-use Rattle.client_model.specs.Taking.{take, runtime_after}
+use Rattle.client_model.specs.Taking.{runtime_after}
 
 -- the number of the live instance of a name
 abbrev pub live_number : Runtime → Name → Option ℕ

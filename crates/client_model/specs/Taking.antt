@@ -1,28 +1,18 @@
 -- A client takes a message: the answer to its request, or one that it can't take.
-use Rattle.std.specs.Prelude.{ℕ, ◌+◌, ◌==◌, nat_lt, Bool, true, false, not, ◌&&◌, ◌||◌, List, [], ◌∷◌, ◌++◌, length, map, Option, Some, None, if◌then◌else◌}
-use Rattle.hmr_types.specs.declared.analysis.Outcome.{Outcome}
-use Rattle.hmr_types.specs.declared.analysis.Outcome.TheVariants.{Good, Bad}
+use Rattle.std.specs.Prelude.{ℕ, ◌+◌, nat_lt, Bool, true, false, not, ◌&&◌, List, [], ◌∷◌, ◌++◌, length, Option, Some, None, if◌then◌else◌}
 use Rattle.hmr_types.specs.declared.limits.TheConstants.{INSTANCES}
-use Rattle.hmr_types.specs.declared.words.PlanKind.{PlanKind}
-use Rattle.hmr_types.specs.declared.words.PlanKind.TheVariants.{Load, Reload, Update}
-use Rattle.hmr_types.specs.declared.words.AbortOutcome.{AbortOutcome}
-use Rattle.hmr_types.specs.declared.words.AbortOutcome.TheVariants as outcome
 use Rattle.hmr_types.specs.declared.out_line.OutLine.{OutLine}
-use Rattle.hmr_types.specs.declared.out_line.OutLine.TheVariants as line
 use Rattle.core_model.specs.declared.message.ClientMsg.{ClientMsg}
 use Rattle.core_model.specs.declared.message.ClientMsg.TheVariants as request_is
 use Rattle.core_model.specs.declared.message.ServerMsg.{ServerMsg}
 use Rattle.core_model.specs.declared.message.ServerMsg.TheVariants as msg
-use Rattle.core_model.specs.declared.message.JsUpdate.{JsUpdate}
-use Rattle.core_model.specs.Names.{Name, same_name, sorted, with_row}
 use Rattle.core_model.specs.Sources.{Text}
-use Rattle.core_model.specs.Page.{Plan, Page, begun, staged, given_up, forced_too}
+use Rattle.core_model.specs.Page.{Plan}
 use Rattle.client_model.specs.Language.{Language}
 use Rattle.client_model.specs.Journal.{Journal, lines_of_all}
-use Rattle.client_model.specs.Runtime.{Runtime, new_runtime, Invalidation, Cause, missing, broken, unlinked, Did, nothing, and_then, for_each, write}
+use Rattle.client_model.specs.Runtime.{Runtime, new_runtime, Did}
 use Rattle.client_model.specs.Linking.{new_names}
-use Rattle.client_model.specs.Requesting.{request, cause_by}
-use Rattle.client_model.specs.Applying.{apply, prune}
+use Rattle.client_model.specs.Requesting.{request}
 use Rattle.client_model.specs.Answering.{answered}
 use Rattle.client_model.specs.Expecting.{is_answer, request_place, answer_place}
 

@@ -1,7 +1,6 @@
 -- When a client is caught up, and how far it is from it.
-use Rattle.std.specs.Prelude.{◌≡◌, ℕ, ◌+◌, ◌*◌, ◌==◌, Bool, true, false, not, ◌&&◌, ◌||◌, List, [], ◌∷◌, ◌++◌, length, filter, Option, Some, None, is_some, is_none, if◌then◌else◌}
+use Rattle.std.specs.Prelude.{◌≡◌, ℕ, ◌+◌, ◌*◌, ◌==◌, Bool, true, false, not, ◌&&◌, List, [], ◌∷◌, ◌++◌, length, filter, Option, Some, None, is_some, is_none, if◌then◌else◌}
 use Rattle.std.specs.List.{list_all}
-use Rattle.hmr_types.specs.declared.analysis.TextFault.{TextFault}
 use Rattle.hmr_types.specs.declared.words.ClientState.{ClientState}
 use Rattle.hmr_types.specs.declared.words.ClientState.TheVariants.{Up, Behind}
 use Rattle.core_model.specs.Names.{Name, has, at, names_of}
@@ -10,7 +9,7 @@ use Rattle.core_model.specs.FreshLoad.{Served}
 use Rattle.core_model.specs.View.{View}
 use Rattle.core_model.specs.Page.{Plan}
 use Rattle.core_model.specs.Client.{Client, changed, dropped}
-use Rattle.client_model.specs.Runtime.{Runtime, Cause, Invalidation}
+use Rattle.client_model.specs.Runtime.{Runtime}
 
 -- A client is caught up: its page is loaded, no plan is under way, and nothing is changed, invalidated,
 -- dropped or waiting to be told, on either side.

@@ -1,6 +1,11 @@
 pub mod CaughtUp
 pub mod World
+pub mod Editing
+pub mod Turning
+pub mod Steps
 pub mod Playing
 pub mod SmallLanguage
 pub mod SmallPages
 pub mod UpdateScripts
+pub mod FetchScripts
+pub mod HandlerScripts

@@ -1,5 +1,5 @@
 -- A script: steps, all results that are due, and turns of a client until it is caught up.
-use Rattle.std.specs.Prelude.{ℕ, zero, suc, Bool, true, false, not, List, [], ◌∷◌, ◌++◌, map, filter, fold, reverse, Option, Some, None, if◌then◌else◌}
+use Rattle.std.specs.Prelude.{ℕ, zero, suc, Bool, true, false, not, List, [], ◌++◌, map, filter, fold, reverse, Option, Some, None, if◌then◌else◌}
 use Rattle.hmr_types.specs.declared.words.ClientState.{ClientState}
 use Rattle.hmr_types.specs.declared.words.ClientState.TheVariants.{Up, Behind}
 use Rattle.hmr_types.specs.declared.words.EditOutcome.{EditOutcome}
@@ -15,7 +15,9 @@ use Rattle.core_model.specs.Sources.{Text}
 use Rattle.core_model.specs.Core.{client_at}
 use Rattle.client_model.specs.Language.{Language}
 use Rattle.client_model.specs.Runtime.{Runtime}
-use Rattle.world_model.specs.World.{World, Job, Step, edits, settles, opens, turn, Stepped, new_world, state_in, world_step}
+use Rattle.world_model.specs.World.{World, Job, Step, settles, turn, Stepped, new_world}
+use Rattle.world_model.specs.Turning.{state_in}
+use Rattle.world_model.specs.Steps.{world_step}
 
 pub data Command : Type 0 where
   step : Step → Command

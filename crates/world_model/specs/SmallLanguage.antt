@@ -1,8 +1,8 @@
 -- A small module language for examples: each text stands for a module that is listed beside it. It has
 -- numbers, texts, sums, `??`, the bag and members, and no faults; its dependencies are named in full.
-use Rattle.std.specs.Prelude.{ℕ, zero, suc, ◌+◌, ◌/◌, ◌%◌, ◌==◌, ℤ, pos, negsuc, ◌+ℤ◌, Bool, true, false, List, [], ◌∷◌, ◌++◌, map, flat_map, fold, slice_get, Option, Some, None, codes, if◌then◌else◌}
+use Rattle.std.specs.Prelude.{ℕ, zero, suc, ◌+◌, ◌/◌, ◌%◌, ◌==◌, ℤ, pos, negsuc, ◌+ℤ◌, List, [], ◌∷◌, ◌++◌, map, flat_map, fold, slice_get, Option, Some, None, codes, if◌then◌else◌}
 use Rattle.std.specs.List.{join_with_byte}
-use Rattle.hmr_types.specs.Syntax.{ExprTree, num, text, undefined, name, bag, member, neg, binary, choose, StmtTree, StmtTrees, no_stmts, one_stmt, log, assign, bag_set, throw, invalidate, branch, HandlerTree, OnceTree, code, host, ItemTree, import, declare, act, own, deps, dispose, prune, decline}
+use Rattle.hmr_types.specs.Syntax.{ExprTree, num, text, undefined, name, bag, member, neg, binary, choose, StmtTree, StmtTrees, no_stmts, one_stmt, log, assign, bag_set, throw, invalidate, branch, HandlerTree, OnceTree, code, ItemTree, import, declare, act, own, deps, dispose, prune, decline}
 use Rattle.hmr_types.specs.declared.tree.Op.{Op}
 use Rattle.hmr_types.specs.declared.tree.Op.TheVariants.{Null, Add, Sub, Mul}
 use Rattle.hmr_types.specs.declared.value.Value.{Value}
@@ -15,7 +15,7 @@ use Rattle.hmr_types.specs.declared.analysis.Analysis.{Analysis}
 use Rattle.hmr_types.specs.declared.analysis.FaultWord.TheVariants.{Unexpected}
 use Rattle.hmr_types.specs.declared.analysis.Outcome.{Outcome}
 use Rattle.hmr_types.specs.declared.analysis.Outcome.TheVariants.{Good, Bad}
-use Rattle.core_model.specs.Names.{Name, same_name, has, at}
+use Rattle.core_model.specs.Names.{Name, at}
 use Rattle.core_model.specs.Sources.{Text}
 use Rattle.client_model.specs.Language.{Language, Bag, Slots, Binding, Registered, Evaluated, Ran, with_key, slot_at}
 use Rattle.client_model.specs.Running.{assigned}

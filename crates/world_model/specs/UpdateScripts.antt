@@ -1,9 +1,9 @@
 -- Scripts of a page load, an update and a reload.
 use Rattle.std.specs.Prelude.{ℕ, true, false, List, [], ◌∷◌, Some, None, codes}
-use Rattle.hmr_types.specs.Syntax.{ExprTree, num, text, name, bag, member, binary, StmtTree, no_stmts, one_stmt, log, assign, bag_set, invalidate, HandlerTree, code, host, ItemTree, declare, act, own, deps, dispose, prune}
+use Rattle.hmr_types.specs.Syntax.{ExprTree, num, text, name, bag, member, binary, log, assign, bag_set, code, declare, act, own, deps, dispose}
 use Rattle.hmr_types.specs.declared.tree.Op.TheVariants.{Null, Add}
 use Rattle.core_model.specs.Sources.{Text}
-use Rattle.world_model.specs.World.{edits, settles, opens, turn, show, values, fates, fresh}
+use Rattle.world_model.specs.World.{opens, show, values, fates, fresh}
 use Rattle.world_model.specs.Playing.{Command, step, settle_all, turns, Stage}
 use Rattle.world_model.specs.SmallPages.{m, a, b, x, c, importing, exporting, accepting, self_accepting, binding, module_of, page_of, callback, callback_of_two, log_text, edited}
 

@@ -6,4 +6,6 @@
 //! two sides together and adds nothing to either. Knows nothing of bytes, threads or time.
 #![tactic(auto)]
 
+pub mod fetch_scripts;
+pub mod handler_scripts;
 pub mod update_scripts;
