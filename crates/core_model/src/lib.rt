@@ -9,6 +9,7 @@
 #![tactic(auto)]
 
 pub mod examples;
+pub mod laws;
 mod message;
 mod refusal;
 
