@@ -237,7 +237,7 @@ none_reached edge names starts bad over all m r b =
     let i : ReachesIn edge starts (1 + length names) m = in_few edge names starts over m r in
     omega (arith, all i.path m i.is b, i.short)
 
-none_if : (P Q : Type 0) (o : Option (List Name)) → (P → Q) → IfNone o P → IfNone o Q
+pub none_if : (P Q : Type 0) (o : Option (List Name)) → (P → Q) → IfNone o P → IfNone o Q
 none_if P Q None f h = f h
 none_if P Q (Some p) f h = tt
 

@@ -1,3 +1,6 @@
 mod Naming
 mod Reaching
 mod LeastPaths
+mod Tables
+mod Views
+mod Spreading

@@ -100,3 +100,25 @@ rounds_are edge names starts over m = (
       (λ j c. stays edge (length names) names starts j ((has_is starts j).0 c))
       (closed edge (length names) names starts (omega arith) (λ n j by. inl (over n j by))) m,
 )
+
+-- some reached name has an edge to m
+pub record ReachedBy (edge : Name → Name → Bool) (starts : List Name) (m : Name) : Type 0 where
+  pub from : Name
+  pub reached : Reaches edge starts from
+  pub by : edge from m ≡ true
+
+-- what is reached is a start, or is reached by a last edge
+pub reaches_back : (edge : Name → Name → Bool) (starts : List Name) (m : Name) → Reaches edge starts m → Contains starts m ⊎ ReachedBy edge starts m
+reaches_back edge starts m r = (reaches_within edge starts (λ k. Reaches edge starts k × (Contains starts k ⊎ ReachedBy edge starts k))
+  (λ k c. (reaches_start edge starts k c, inl c))
+  (λ j k s e. (reaches_on edge starts j k s.0 e, inr (record { from = j; reached = s.0; by = e }))) m r).1
+
+back_along : (edge : Name → Name → Bool) (starts : List Name) (n k : Name) (rest : List Name) (m : Name) → Reaches edge starts n → Leads edge n (k ∷ rest) m → ReachedBy edge starts m
+back_along edge starts n k [] m r p = record { from = n; reached = r; by = subst (λ j. edge n j ≡ true) p.1 p.0 }
+back_along edge starts n k (j ∷ rest) m r p = back_along edge starts k j rest m (reaches_on edge starts n k r p.0) p.1
+
+-- the end of a path of two names or more is reached by a last edge
+pub long_back : (edge : Name → Name → Bool) (starts path : List Name) (m : Name) → IsPath edge starts path m → 2 ≤ length path → ReachedBy edge starts m
+long_back edge starts [] m p l = absurd p
+long_back edge starts (n ∷ []) m p l = absurd (omega (arith, l))
+long_back edge starts (n ∷ (k ∷ rest)) m p l = back_along edge starts n k rest m (reaches_start edge starts n p.0) p.1
