@@ -4,3 +4,7 @@ mod LeastPaths
 mod Tables
 mod Views
 mod Spreading
+mod Pairing
+mod Planning
+mod Loading
+mod Replaying

@@ -110,8 +110,8 @@ pub record ReachedBy (edge : Name → Name → Bool) (starts : List Name) (m : N
 -- what is reached is a start, or is reached by a last edge
 pub reaches_back : (edge : Name → Name → Bool) (starts : List Name) (m : Name) → Reaches edge starts m → Contains starts m ⊎ ReachedBy edge starts m
 reaches_back edge starts m r = (reaches_within edge starts (λ k. Reaches edge starts k × (Contains starts k ⊎ ReachedBy edge starts k))
-  (λ k c. (reaches_start edge starts k c, inl c))
-  (λ j k s e. (reaches_on edge starts j k s.0 e, inr (record { from = j; reached = s.0; by = e }))) m r).1
+    (λ k c. (reaches_start edge starts k c, inl c))
+    (λ j k s e. (reaches_on edge starts j k s.0 e, inr (record { from = j; reached = s.0; by = e }))) m r).1
 
 back_along : (edge : Name → Name → Bool) (starts : List Name) (n k : Name) (rest : List Name) (m : Name) → Reaches edge starts n → Leads edge n (k ∷ rest) m → ReachedBy edge starts m
 back_along edge starts n k [] m r p = record { from = n; reached = r; by = subst (λ j. edge n j ≡ true) p.1 p.0 }

@@ -1,22 +1,18 @@
 -- How a change spreads: the reason of a reload, what is replaced, and who is told.
-use Rattle.std.proofs.Common.{◌≡◌, ◌↔◌, ◌⊎◌, inl, inr, ℕ, suc, ◌+◌, ◌<◌, ◌≤◌, Bool, true, false, List, [], ◌∷◌, ◌++◌, map, length, get_or, refl, ap, sym, ◌∙◌, arith, Contains}
-use Rattle.std.specs.Prelude.{filter, flat_map, ◌&&◌, ◌||◌, not, Option, Some, None, IfSome, IfNone, if◌then◌else◌}
+use Rattle.std.proofs.Common.{◌≡◌, ◌↔◌, ◌⊎◌, inl, inr, ◌≤◌, Bool, true, List, [], ◌∷◌, ◌++◌, length, ap, sym, ◌∙◌, arith, Contains}
+use Rattle.std.specs.Prelude.{◌&&◌, ◌||◌, not, IfSome, IfNone}
 use Rattle.std.specs.List.{list_any}
-use Rattle.std.proofs.Math.Path.{subst}
 use Prim.{⊥}
-use Rattle.std.proofs.lemmas.Bool.{false≢true}
-use Rattle.std.proofs.lemmas.List.{length-append, get_or-map, length-map}
-use Rattle.std.proofs.lemmas.List.Elements.{Contains-append_left, Contains-append_right, Contains-append_cases, Contains-get_or}
-use Rattle.core_model.specs.Names.{Name, same_name, has, names_of, sorted}
+use Rattle.std.proofs.lemmas.List.{length-append}
+use Rattle.core_model.specs.Names.{Name, has, names_of}
 use Rattle.core_model.specs.Paths.{IsPath, Reaches}
-use Rattle.core_model.specs.Rounds.{IsOver, reached_of}
-use Rattle.core_model.specs.LeastPath.{IsLeastPath}
-use Rattle.core_model.specs.View.{View, imports, accepts, self_accepts}
-use Rattle.core_model.specs.Spread.{passes, ends_badly, IsReloadWanted, IsReason, reason_of, IsUnaccepted, IsPassedTo, IsReplaced, spread_of, replaced_of, IsOwnPair, IsNamedPair, IsPair, is_pair, pairs_with, pairs_of}
-use Rattle.core_model.proofs.Naming.{same_true, true_same, has_is, both_true, and_both, or_cases, or_left, or_right, not_true, not_from, filtered_has, filtered_from, filtered_in, has_append, sorted_has, any_from, any_is, Found}
+use Rattle.core_model.specs.Rounds.{IsOver}
+use Rattle.core_model.specs.View.{View, imports, accepts}
+use Rattle.core_model.specs.Spread.{passes, ends_badly, IsReloadWanted, IsReason, reason_of, IsPassedTo, IsReplaced, spread_of, replaced_of}
+use Rattle.core_model.proofs.Naming.{has_is, both_true, and_both, or_cases, or_left, or_right, filtered_has, has_append, sorted_has, any_from, any_is, Found}
 use Rattle.core_model.proofs.Reaching.{path_on, long_back, ReachedBy, rounds_are}
 use Rattle.core_model.proofs.LeastPaths.{least_path_is, none_if}
-use Rattle.core_model.proofs.Views.{importer_named, accepter_named}
+use Rattle.core_model.proofs.Views.{importer_named}
 
 pub passes_named : (view : View) (forced : List Name) → IsOver (passes view forced) (names_of view)
 passes_named view forced n m h = importer_named view m n (both_true (imports view m n) _ (both_true (imports view m n && not (accepts view m n)) _ h).0).0
@@ -66,7 +62,8 @@ module _ (view : View) (changed forced : List Name) where
   pub replaced_are : (m : Name) → Contains (replaced_of view changed forced) m ↔ IsReplaced view changed forced m
   replaced_are m = (
     (λ c. sound_by m (or_cases (has changed m) _ (sym (replaced_has m) ∙ (has_is _ m).0 c))),
-    (λ r. (has_is _ m).1 (replaced_has m ∙ complete_by m r)))
+    (λ r. (has_is _ m).1 (replaced_has m ∙ complete_by m r)),
+  )
 
   pub replaced_named : ((n : Name) → Contains changed n → has (names_of view) n ≡ true) → (m : Name) → IsReplaced view changed forced m → has (names_of view) m ≡ true
   replaced_named in_view m (inl c) = in_view m c

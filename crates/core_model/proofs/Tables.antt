@@ -1,9 +1,8 @@
 -- Looking up in lists of entries by name.
-use Rattle.std.proofs.Common.{◌≡◌, ◌↔◌, ◌⊎◌, inl, inr, ℕ, Bool, true, false, List, [], ◌∷◌, ◌++◌, refl, ap, sym, ◌∙◌}
-use Rattle.std.specs.Prelude.{filter, flat_map, ◌&&◌, ◌||◌, not, Option, Some, None, is_some, if◌then◌else◌}
-use Rattle.std.proofs.lemmas.Bool.{false≢true}
-use Rattle.core_model.specs.Names.{Name, same_name, has, at, without, with_row, without_all, names_of, with_entry, collect, sorted}
-use Rattle.core_model.proofs.Naming.{same_true, true_same, has_append, or_left, or_right, cases_bool, filtered_has, not_false, sorted_has}
+use Rattle.std.proofs.Common.{◌≡◌, Bool, true, false, List, [], ◌∷◌, ◌++◌, refl, ap, sym, ◌∙◌}
+use Rattle.std.specs.Prelude.{flat_map, ◌||◌, Option, Some, None, is_some, if◌then◌else◌}
+use Rattle.core_model.specs.Names.{Name, same_name, has, at, names_of, with_entry, collect}
+use Rattle.core_model.proofs.Naming.{same_true, has_append, or_left, or_right}
 
 module _ {X : Type 0} where
   both_ways : (b : Bool) (x : Option X) → x ≡ (if b then x else x)

@@ -1,15 +1,13 @@
 -- Views: what their imports reach, and what is dropped.
-use Rattle.std.proofs.Common.{◌≡◌, ◌↔◌, ◌⊎◌, inl, inr, ℕ, Bool, true, false, List, [], ◌∷◌, ◌++◌, length, refl, ap, sym, ◌∙◌, arith, Contains}
-use Rattle.std.specs.Prelude.{filter, ◌&&◌, ◌||◌, not, Option, Some, None, is_some}
-use Rattle.std.proofs.Math.Path.{subst}
+use Rattle.std.proofs.Common.{◌≡◌, ◌↔◌, ◌⊎◌, inl, inr, true, List, sym, ◌∙◌, Contains}
+use Rattle.std.specs.Prelude.{filter, ◌&&◌, not, Option, Some, None}
 use Prim.{⊥}
 use Rattle.std.proofs.lemmas.Bool.{false≢true}
-use Rattle.hmr_types.specs.declared.analysis.Analysis.{Analysis}
-use Rattle.core_model.specs.Names.{Name, same_name, has, at, names_of, sorted}
-use Rattle.core_model.specs.Paths.{Leads, IsPath, Reaches}
+use Rattle.core_model.specs.Names.{Name, has, at, names_of}
+use Rattle.core_model.specs.Paths.{Reaches}
 use Rattle.core_model.specs.Rounds.{IsOver}
 use Rattle.core_model.specs.View.{View, Entry, imports_of, accepted_of, imports, accepts, imported_of, reached_in, IsDropped, dropped_of}
-use Rattle.core_model.proofs.Naming.{has_is, cases_bool, not_true, not_from, not_false, and_both, filtered_from, filtered_has, sorted_has}
+use Rattle.core_model.proofs.Naming.{has_is, not_true, not_from, and_both, filtered_from, filtered_has, sorted_has}
 use Rattle.core_model.proofs.Reaching.{rounds_are, reaches_back, ReachedBy}
 use Rattle.core_model.proofs.Tables.{listed_in, listed_over, lister_named}
 
@@ -42,8 +40,9 @@ dropped_has view roots n = sorted_has (filter (λ m. not (has (reached_in view r
 pub dropped_are : (view : View) (roots : List Name) (n : Name) → Contains (dropped_of view roots) n ↔ IsDropped view roots n
 dropped_are view roots n = (
   (λ c. let f = filtered_from (λ m. not (has (reached_in view roots) m)) (names_of view) n (sym (sorted_has _ n) ∙ (has_is (dropped_of view roots) n).0 c) in
-    record { listed = (has_is (names_of view) n).1 f.1; unreached = λ r. false≢true (sym (not_true (has (reached_in view roots) n) f.0) ∙ (reached_is view roots n).1 r) }),
-  (λ d. (has_is (dropped_of view roots) n).1 (dropped_has view roots n ∙ and_both _ _ (not_from (has (reached_in view roots) n) (λ h. d.unreached ((reached_is view roots n).0 h))) ((has_is (names_of view) n).0 d.listed))))
+      record { listed = (has_is (names_of view) n).1 f.1; unreached = λ r. false≢true (sym (not_true (has (reached_in view roots) n) f.0) ∙ (reached_is view roots n).1 r) }),
+  (λ d. (has_is (dropped_of view roots) n).1 (dropped_has view roots n ∙ and_both _ _ (not_from (has (reached_in view roots) n) (λ h. d.unreached ((reached_is view roots n).0 h))) ((has_is (names_of view) n).0 d.listed))),
+)
 
 -- what is imported only by what is dropped is dropped
 pub dropped_closed : (view : View) (roots : List Name) (n : Name) → Contains (names_of view) n → (Contains roots n → ⊥) → ((m : Name) → imports view m n ≡ true → IsDropped view roots m) → IsDropped view roots n

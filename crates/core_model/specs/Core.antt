@@ -88,3 +88,11 @@ replay roots events = core_after roots (reverse events)
 abbrev pub replies : List Name → Core → List Event → List Reply
 replies roots core [] = []
 replies roots core (event ∷ events) = (step roots core event).1 ∷ replies roots (step roots core event).0 events
+
+-- the edits and results among the events
+abbrev pub changes_of : List Event → List Change
+changes_of [] = []
+changes_of (change ch ∷ events) = ch ∷ changes_of events
+changes_of (connect ∷ events) = changes_of events
+changes_of (request i r ∷ events) = changes_of events
+changes_of (disconnect i ∷ events) = changes_of events

@@ -61,6 +61,10 @@ spread_of view changed forced = reached_of (passes view forced) (names_of view) 
 abbrev pub replaced_of : View → List Name → List Name → List Name
 replaced_of view changed forced = sorted (changed ++ filter (λ m. list_any (λ n. passes view forced n m) (spread_of view changed forced)) (names_of view))
 
+-- these are names of the view
+abbrev pub AreIn : List Name → View → Type 0
+AreIn names view = (n : Name) → Contains names n → has (names_of view) n ≡ true
+
 -- n is replaced and accepts itself
 pub record IsOwnPair (view : View) (changed forced : List Name) (m n : Name) : Type 0 where
   pub same : m ≡ n
