@@ -25,18 +25,23 @@ use Rattle.client_model.specs.Applying.{apply, prune}
 abbrev pub begin : PlanKind → List Name → List (Name × Name) → Runtime → Runtime
 begin kind replaced pairs r = record r { page = begun kind replaced r.page; texts = []; pairs = pairs; cause = None }
 
+-- the client has its number and its roots, and the page is to be loaded
 abbrev pub connect : ℕ → List Name → Runtime → Did
 connect client roots r = nothing (record (begin Load [] [] r) { client = client; roots = roots })
 
+-- the line is written, and a reload begins
 abbrev pub start_reload : OutLine → Runtime → Did
 start_reload l r = and_then (write l r) (λ r. nothing (begin Reload [] [] r))
 
+-- the line of a boundary
 abbrev pub accept_line : ℕ → Name × Name → OutLine
 accept_line client pair = line.Accept client pair.0 pair.1
 
+-- a boundary, and the module that it is told of
 abbrev pub pair_of : JsUpdate → Name × Name
 pair_of u = (u.path, u.accepted_path)
 
+-- the lines of the update are written, and it begins
 abbrev pub start_update : List Name → List (Name × Name) → Runtime → Did
 start_update replaced pairs r =
     and_then (and_then (write (line.Update r.client (sorted replaced)) r)
@@ -52,19 +57,23 @@ abbrev pub stage : Outcome → Plan → Name → ℕ → Text → Runtime → Di
 stage (Good a) p n v t r = nothing (record r { page = staged p n (record { version = v; analysis = a }) r.page; texts = with_row n t r.texts })
 stage (Bad fault) p n v t r = with_cause (broken n) r
 
+-- a text that came for the plan under way
 abbrev pub stage_in : Option Plan → Language → Name → ℕ → Text → Runtime → Did
 stage_in None language n v t r = nothing r
 stage_in (Some p) language n v t r = stage (language.transformed n t) p n v t r
 
+-- the plan under way is applied
 abbrev pub apply_in : Option Plan → Language → Runtime → Did
 apply_in None language r = nothing r
 apply_in (Some p) language r = apply language p r
 
+-- a cause, as its line tells it
 abbrev pub outcome_of : Cause → AbortOutcome
 outcome_of (missing n) = outcome.Missing n
 outcome_of (broken n) = outcome.Broken n
 outcome_of (unlinked n m x) = outcome.Link n m x
 
+-- the line of a plan that was given up
 abbrev pub write_cause : Option Cause → Runtime → Did
 write_cause None r = nothing r
 write_cause (Some cause) r = write (line.Aborted r.client (outcome_of cause)) r
@@ -74,6 +83,7 @@ abbrev pub abort_in : Option Plan → Language → Runtime → Did
 abort_in None language r = nothing r
 abort_in (Some p) language r = and_then (write_cause (cause_by r.cause language p r) r) (λ r. nothing (record r { page = given_up r.page; texts = []; pairs = []; cause = None }))
 
+-- the invalidations that are left once the first was answered
 abbrev pub without_first : List Invalidation → List Invalidation
 without_first [] = []
 without_first (i ∷ more) = more

@@ -27,9 +27,11 @@ live_of test r = filter (λ i. is_live i && test i.name) r.instances
 abbrev pub reload_instance : Instance → Runtime → Did
 reload_instance i r = and_then (drop_each is_held i.number r) (end_instance Reloaded i.number i.name)
 
+-- every bag is given up
 abbrev pub give_up_all_bags : Runtime → Did
 give_up_all_bags r = (record r { bags = [] }, gave_up_all ∷ [])
 
+-- a page reload ends all live instances, and gives up their data
 abbrev pub reload_all : Runtime → Did
 reload_all r = and_then (for_each reload_instance (live_of (λ n. true) r) r) give_up_all_bags
 
@@ -37,6 +39,7 @@ reload_all r = and_then (for_each reload_instance (live_of (λ n. true) r) r) gi
 abbrev pub is_left_behind : Handler → Bool
 is_left_behind h = is_held h && not (is_own h.kind)
 
+-- replaced by the instance of this number
 abbrev pub fate_by : Option ℕ → InstanceFate
 fate_by None = Live
 fate_by (Some k) = Replaced k
@@ -58,6 +61,7 @@ end_old Load language p r = nothing r
 end_old Reload language p r = reload_all r
 end_old Update language p r = for_each (replace_instance language (number_after p r)) (replaced_instances p r) r
 
+-- the instance to be made, of the entry, the text and the number that are there
 abbrev pub birth_of : Option Entry → Option Text → Option ℕ → (List Name → List (Name × ℕ)) → Name → List Birth
 birth_of (Some e) (Some t) (Some k) links n = record { number = k; name = n; entry = e; text = t; links = links e.analysis.imports } ∷ []
 birth_of e t k links n = []
@@ -71,13 +75,16 @@ births (n ∷ names) p r = birth_of (entry_at p r.page.view n) (at r.texts n) (n
 abbrev pub itself_in : Name → Runtime → Handler → List (Option Slots)
 itself_in n r h = module_at r n ∷ []
 
+-- a dependency callback gets the module at the places where it is listed
 abbrev pub listed_in : Name → Runtime → Handler → List (Option Slots)
 listed_in n r h = arguments_of r n h.deps
 
+-- the callbacks of an instance on itself are run
 abbrev pub run_own : Language → Option ℕ → Name → Runtime → Did
 run_own language None n r = nothing r
 run_own language (Some k) n r = run_each language place.Own (itself_in n) accepts_own k r
 
+-- the callbacks of an instance that list n are run
 abbrev pub run_dep : Language → Option ℕ → Name → Runtime → Did
 run_dep language None n r = nothing r
 run_dep language (Some k) n r = run_each language place.Dep (listed_in n) (accepts_dep n) k r
@@ -133,8 +140,10 @@ prune_instance language i r =
     (give_up_bag i.name))
     (end_instance Pruned i.number i.name)
 
+-- modules leave the page
 abbrev pub leave_page : List Name → Runtime → Did
 leave_page names r = nothing (record r { page = pruned names r.page })
 
+-- modules that no root reaches any more are pruned, in falling number of their instances
 abbrev pub prune : Language → List Name → Runtime → Did
 prune language names r = and_then (for_each (prune_instance language) (live_of (has names) r) r) (leave_page names)

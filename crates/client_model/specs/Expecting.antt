@@ -6,6 +6,7 @@ use Rattle.core_model.specs.declared.message.ServerMsg.{ServerMsg}
 use Rattle.core_model.specs.declared.message.ServerMsg.TheVariants as msg
 use Rattle.core_model.specs.Names.{Name, same_name}
 
+-- a client number, or that there is none left
 abbrev pub answers_hello : ServerMsg → Bool
 answers_hello (msg.Connected client roots) = true
 answers_hello (msg.Update replaced updates) = false
@@ -65,6 +66,7 @@ answers_told may_be_refused (msg.Missing n) = false
 answers_told may_be_refused (msg.NotYet n) = false
 answers_told may_be_refused (msg.Refused code n told kept) = may_be_refused code
 
+-- the message answers the request, of a page that is loaded or not
 abbrev pub is_answer : Bool → ClientMsg → ServerMsg → Bool
 is_answer loaded (request_is.Hello format) m = answers_hello m
 is_answer loaded request_is.Ask m = answers_ask loaded m

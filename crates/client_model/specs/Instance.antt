@@ -18,12 +18,14 @@ pub data Deed : Type 0 where
   code : HandlerTree → Deed
   host : Text → ℕ → Deed
 
+-- a handler of an instance; deps are the modules that a dependency callback lists
 pub record Handler : Type 0 where
   pub kind : Kind
   pub deps : List Name
   pub deed : Deed
   pub end : HandlerEnd
 
+-- an instance of a module
 pub record Instance : Type 0 where
   pub number : ℕ
   pub name : Name
@@ -36,15 +38,18 @@ pub record Instance : Type 0 where
   pub values : Slots
   pub handlers : List Handler  -- in the order of registration
 
+-- whether the fate is to be live
 abbrev pub is_live_fate : InstanceFate → Bool
 is_live_fate Live = true
 is_live_fate (Replaced k) = false
 is_live_fate Pruned = false
 is_live_fate Reloaded = false
 
+-- nothing has ended it yet
 abbrev pub is_live : Instance → Bool
 is_live i = is_live_fate i.fate
 
+-- whether the status is that of an evaluation that came to its end
 abbrev pub is_done_status : InstanceStatus → Bool
 is_done_status Done = true
 is_done_status Faulted = false
@@ -66,32 +71,38 @@ live_at instances n = find (λ i. is_live i && same_name i.name n) instances
 abbrev pub with_change : ℕ → (Instance → Instance) → List Instance → List Instance
 with_change k f instances = map (λ i. if i.number == k then f i else i) instances
 
+-- whether the handler is still held
 abbrev pub is_held_end : HandlerEnd → Bool
 is_held_end Held = true
 is_held_end Spent = false
 is_held_end Dropped = false
 
+-- neither run nor dropped yet
 abbrev pub is_held : Handler → Bool
 is_held h = is_held_end h.end
 
+-- a disposer
 abbrev pub is_dispose : Kind → Bool
 is_dispose kind.Dispose = true
 is_dispose kind.Prune = false
 is_dispose kind.Own = false
 is_dispose kind.Dep = false
 
+-- a prune handler
 abbrev pub is_prune : Kind → Bool
 is_prune kind.Dispose = false
 is_prune kind.Prune = true
 is_prune kind.Own = false
 is_prune kind.Dep = false
 
+-- a callback of a module on itself
 abbrev pub is_own : Kind → Bool
 is_own kind.Dispose = false
 is_own kind.Prune = false
 is_own kind.Own = true
 is_own kind.Dep = false
 
+-- a callback on dependencies
 abbrev pub is_dep : Kind → Bool
 is_dep kind.Dispose = false
 is_dep kind.Prune = false
@@ -102,9 +113,11 @@ is_dep kind.Dep = true
 abbrev pub disposes : Handler → Bool
 disposes h = is_held h && is_dispose h.kind
 
+-- a held prune handler
 abbrev pub prunes : Handler → Bool
 prunes h = is_held h && is_prune h.kind
 
+-- a held callback of a module on itself
 abbrev pub accepts_own : Handler → Bool
 accepts_own h = is_held h && is_own h.kind
 
@@ -117,10 +130,12 @@ abbrev pub places_from : ℕ → (Handler → Bool) → List Handler → List �
 places_from k test [] = []
 places_from k test (h ∷ hs) = if test h then k ∷ places_from (suc k) test hs else places_from (suc k) test hs
 
+-- the places of the handlers of an instance that pass the test
 abbrev pub places_of : (Handler → Bool) → Option Instance → List ℕ
 places_of test None = []
 places_of test (Some i) = places_from 0 test i.handlers
 
+-- the handler with this end
 abbrev pub ended_as : HandlerEnd → Handler → Handler
 ended_as end h = record h { end = end }
 

@@ -22,6 +22,7 @@ Bag = List (Name × Value)
 abbrev pub Slots : Type 0
 Slots = List (Name × Slot)
 
+-- nothing where there is no variable
 abbrev pub slot_or_unset : Option Slot → Slot
 slot_or_unset None = Unset
 slot_or_unset (Some s) = s
@@ -58,6 +59,7 @@ pub record Ran : Type 0 where
   pub invalidations : List Text
   pub bag : Bag
 
+-- what texts and handlers mean
 pub record Language : Type 0 where
   -- the result for a module's text: its analysis, or its first fault
   pub transformed : Name → Text → Outcome
@@ -82,14 +84,15 @@ with_key k v (row ∷ rows) = if same_name row.0 k then (k, v) ∷ rows else row
 abbrev pub is_full_for : Name → Bag → Bool
 is_full_for k bag = if is_some (at bag k) then false else nat_le BAG_KEYS (length bag)
 
--- what the run of a closure of the embedding program leaves: one line, and the key `host` set to the
--- closure's number
+-- the key that a closure of the embedding program sets
 abbrev pub host_key : Name
 host_key = codes "host"
 
+-- the line of a closure of the embedding program
 abbrev pub host_line : Text → ℕ → Text
 host_line label number = codes "host " ++ label ++ codes " " ++ decimal number
 
+-- what the run of a closure of the embedding program leaves: one line, and the key `host` set to its number
 abbrev pub host_ran : Text → ℕ → Bag → Ran
 host_ran label number bag =
     if is_full_for host_key bag

@@ -11,6 +11,7 @@ use Rattle.client_model.specs.Instance.{Instance, live_at}
 use Rattle.client_model.specs.Runtime.{Runtime, Cause, unlinked}
 use Rattle.client_model.specs.Order.{fetch_order, evaluation_order}
 
+-- an update keeps what it doesn't replace; a load and a reload keep nothing
 abbrev pub is_kept_kind : PlanKind → Bool → Option Entry → Bool
 is_kept_kind Load is_replaced old = false
 is_kept_kind Reload is_replaced old = false
@@ -33,6 +34,7 @@ abbrev pub place_of : List Name → Name → ℕ
 place_of [] n = zero
 place_of (m ∷ names) n = if same_name m n then zero else suc (place_of names n)
 
+-- the number of an instance that is there
 abbrev pub number_in : Option Instance → Option ℕ
 number_in None = None
 number_in (Some i) = Some i.number
@@ -41,6 +43,7 @@ number_in (Some i) = Some i.number
 abbrev pub number_after : Plan → Runtime → Name → Option ℕ
 number_after p r n = if has (new_names p r) n then Some (suc (length r.instances) + place_of (new_names p r) n) else number_in (live_at r.instances n)
 
+-- an import with its number, where it has one
 abbrev pub link_to : Name → Option ℕ → Option (Name × ℕ)
 link_to m number = option_map (λ k. (m, k)) number
 
@@ -48,6 +51,7 @@ link_to m number = option_map (λ k. (m, k)) number
 abbrev pub links_after : Plan → Runtime → List Name → List (Name × ℕ)
 links_after p r imports = filter_map (λ m. link_to m (number_after p r m)) imports
 
+-- the exports of a module
 abbrev pub exports_of : Option Entry → List Name
 exports_of None = []
 exports_of (Some e) = e.analysis.exports
@@ -56,6 +60,7 @@ exports_of (Some e) = e.analysis.exports
 abbrev pub is_unlinked : Plan → View → Binding → Bool
 is_unlinked p view b = not (has (exports_of (entry_at p view b.dependency)) b.exported)
 
+-- the imports of a text that was fetched
 abbrev pub bindings_of : Language → Name → Option Text → List Binding
 bindings_of language n None = []
 bindings_of language n (Some t) = language.bindings n t

@@ -32,6 +32,7 @@ is_displaced_by kind.Prune h = prunes h
 is_displaced_by kind.Own h = false
 is_displaced_by kind.Dep h = false
 
+-- a handler that has just been registered
 abbrev pub new_handler : Registered → Deed → Handler
 new_handler entry deed = record { kind = entry.kind; deps = entry.deps; deed = deed; end = Held }
 
@@ -52,6 +53,7 @@ abbrev pub with_host : Option ℕ → ℕ → Name → Registered → Text → R
 with_host None k n entry label g = record g { journal = g.journal ++ no_host k n label ∷ [] }
 with_host (Some number) k n entry label g = with_handler k entry (host label number) (record g { shelf = without_first label g.shelf })
 
+-- code is registered as it is, a closure once it is taken off the shelf
 abbrev pub register_once : OnceTree → ℕ → Name → Registered → Registry → Registry
 register_once (syntax.code tree) k n entry g = with_handler k entry (code tree) g
 register_once (syntax.host label) k n entry g = with_host (at g.shelf label) k n entry label g
@@ -60,6 +62,7 @@ register_once (syntax.host label) k n entry g = with_host (at g.shelf label) k n
 abbrev pub register_all : ℕ → Name → List Registered → List (Text × ℕ) → Registry
 register_all k n entries shelf = fold (λ g entry. register_once entry.what k n entry g) (record { handlers = []; shelf = shelf; journal = [] }) entries
 
+-- Done where no fault ended the evaluation
 abbrev pub status_after : Option EvalFault → InstanceStatus
 status_after None = Done
 status_after (Some fault) = Faulted
@@ -81,6 +84,7 @@ pub record Birth : Type 0 where
   pub text : Text
   pub links : List (Name × ℕ)
 
+-- the instance, with what its evaluation left
 abbrev pub born : Birth → InstanceStatus → Slots → List Handler → Instance
 born b status values handlers = record { number = b.number; name = b.name; version = b.entry.version; text = b.text; exports = b.entry.analysis.exports; links = b.links; status = status; fate = Live; values = values; handlers = handlers }
 
@@ -95,12 +99,15 @@ make_evaluated b bag e g r = (
   made (born b (status_after e.fault) e.values g.handlers) ∷ (evaluated b.number b.name bag e ∷ g.journal),
 )
 
+-- the evaluation of a new instance, over what its links hold now
 abbrev pub evaluate : Language → Birth → Runtime → Evaluated
 evaluate language b r = language.evaluated b.name b.text (imported_slots language r.instances b.links b.name b.text) (bag_of r b.name)
 
+-- what the evaluation registered
 abbrev pub register_in : Birth → Evaluated → Runtime → Registry
 register_in b e r = register_all b.number b.name e.registered r.shelf
 
+-- a new instance is evaluated
 abbrev pub make_run : Language → Birth → Runtime → Did
 make_run language b r = let e : Evaluated = evaluate language b r in make_evaluated b (bag_of r b.name) e (register_in b e r) r
 

@@ -10,9 +10,11 @@ pub record Walked : Type 0 where
   pub met : List Name
   pub left : List Name
 
+-- one more module is met
 abbrev pub met_too : Name → Walked → Walked
 met_too n w = record w { met = w.met ++ n ∷ [] }
 
+-- one more module is left
 abbrev pub left_too : Name → Walked → Walked
 left_too n w = record w { left = w.left ++ n ∷ [] }
 
@@ -20,6 +22,7 @@ left_too n w = record w { left = w.left ++ n ∷ [] }
 abbrev pub visit : (List Name → Walked → Walked) → (Name → List Name) → Walked → Name → Walked
 visit deeper next w n = let visited : Walked = left_too n (deeper (next n) (met_too n w)) in if has w.met n then w else visited
 
+-- the modules of a list are visited in order, so deep at most
 abbrev pub walk : ℕ → (Name → List Name) → List Name → Walked → Walked
 walk zero next names w = w
 walk (suc depth) next names w = fold (visit (walk depth next) next) w names
@@ -28,9 +31,11 @@ walk (suc depth) next names w = fold (visit (walk depth next) next) w names
 abbrev pub depth_of : List Name → Plan → View → ℕ
 depth_of roots p view = suc (length (roots ++ (imported_of view ++ imported_of p.staged)))
 
+-- what a module of the plan leads to
 abbrev pub next_of : Plan → View → Name → List Name
 next_of p view n = imports_of (entry_at p view n)
 
+-- the whole walk of a plan
 abbrev pub walked : List Name → Plan → View → Walked
 walked roots p view = walk (depth_of roots p view) (next_of p view) roots (record { met = []; left = [] })
 

@@ -17,6 +17,7 @@ use Rattle.client_model.specs.Stale.{stale_of}
 abbrev pub table : Runtime → List (Name × ℕ)
 table r = table_of r.page.view
 
+-- no invalidation is unsent
 abbrev pub is_none_left : List Invalidation → Bool
 is_none_left [] = true
 is_none_left (i ∷ more) = false
@@ -25,9 +26,11 @@ is_none_left (i ∷ more) = false
 abbrev pub is_at_rest : Runtime → Bool
 is_at_rest r = r.page.loaded && is_none r.page.plan && is_none_left r.unsent && not r.stopped
 
+-- a live module with its version
 abbrev pub module_line : Name × ℕ → OutLine
 module_line row = line.Module row.0 row.1
 
+-- a stale edge
 abbrev pub stale_line : Name × Name → OutLine
 stale_line edge = line.Stale edge.0 edge.1
 
@@ -35,6 +38,7 @@ stale_line edge = line.Stale edge.0 edge.1
 abbrev pub show_lines : ClientState → Runtime → List OutLine
 show_lines state r = line.Client r.client state ∷ (map module_line (table r) ++ map stale_line (stale_of r))
 
+-- the exports of an instance with what they hold
 abbrev pub value_lines_in : Name → Option Instance → List OutLine
 value_lines_in n None = []
 value_lines_in n (Some i) = map (λ x. line.Value n x (slot_at i.values x)) i.exports
@@ -43,13 +47,16 @@ value_lines_in n (Some i) = map (λ x. line.Value n x (slot_at i.values x)) i.ex
 abbrev pub value_lines : Runtime → List OutLine
 value_lines r = line.Values r.client ∷ flat_map (λ n. value_lines_in n (live_at r.instances n)) (sorted (names_of r.page.view))
 
+-- whether a handler is code or a closure
 abbrev pub handled_by : Deed → Handled
 handled_by (code tree) = handled.Code
 handled_by (host label number) = handled.Host label number
 
+-- a handler with its end
 abbrev pub handler_line : Handler → OutLine
 handler_line h = line.Handler h.kind (handled_by h.deed) h.end
 
+-- an instance and its handlers
 abbrev pub instance_lines : Instance → List OutLine
 instance_lines i = line.Instance i.number i.name i.version i.status i.fate ∷ map handler_line i.handlers
 

@@ -15,6 +15,7 @@ abbrev pub ask_or_invalidate : List Invalidation → ClientMsg
 ask_or_invalidate [] = msg.Ask
 ask_or_invalidate (i ∷ more) = msg.Invalidate i.name i.version i.message
 
+-- the plan is given up for this cause
 abbrev pub abort_message : Cause → ClientMsg
 abort_message (missing n) = msg.Aborted abort.Missing n None None
 abort_message (broken n) = msg.Aborted abort.Broken n None None
@@ -25,6 +26,7 @@ abbrev pub apply_or_abort : Option Cause → Plan → Runtime → ClientMsg
 apply_or_abort None p r = msg.Applied (table_of (new_view r.roots p r.page.view))
 apply_or_abort (Some cause) p r = abort_message cause
 
+-- the next fetch; where there is none, the end of the plan
 abbrev pub fetch_or_finish : Option Name → Option Cause → Plan → Runtime → ClientMsg
 fetch_or_finish (Some n) at_links p r = msg.Fetch n
 fetch_or_finish None at_links p r = apply_or_abort at_links p r
@@ -34,6 +36,7 @@ abbrev pub carry_on : Option Cause → Language → Plan → Runtime → ClientM
 carry_on (Some cause) language p r = abort_message cause
 carry_on None language p r = fetch_or_finish (next_needed p r) (link_cause language p r) p r
 
+-- with no plan, an invalidation or an ask; with one, what carries it on
 abbrev pub request_by : Option Plan → Language → Runtime → ClientMsg
 request_by None language r = ask_or_invalidate r.unsent
 request_by (Some p) language r = carry_on r.cause language p r

@@ -16,10 +16,12 @@ use Rattle.client_model.specs.Instance.{Instance, Handler, Deed, code, host, num
 use Rattle.client_model.specs.Journal.{ran, dropped, ended, gave_up}
 use Rattle.client_model.specs.Runtime.{Runtime, Invalidation, Did, nothing, for_each, bag_of}
 
+-- what an export of an instance holds now
 abbrev pub export_in : Option Instance → Name → Slot
 export_in None x = Unset
 export_in (Some i) x = slot_at i.values x
 
+-- what an export of the instance of this number holds now
 abbrev pub export_by : Option ℕ → List Instance → Name → Slot
 export_by None instances x = Unset
 export_by (Some k) instances x = export_in (numbered instances k) x
@@ -37,6 +39,7 @@ abbrev pub module_in : Option Instance → Option Slots
 module_in None = None
 module_in (Some i) = if is_done i then Some (map (λ x. (x, slot_at i.values x)) i.exports) else None
 
+-- the live module of a name, as an argument
 abbrev pub module_at : Runtime → Name → Option Slots
 module_at r n = module_in (live_at r.instances n)
 
@@ -55,6 +58,7 @@ end_after kind.Prune = Spent
 end_after kind.Own = Spent
 end_after kind.Dep = Held
 
+-- the version of an instance, 0 for none
 abbrev pub version_in : Option Instance → ℕ
 version_in None = 0
 version_in (Some i) = i.version
@@ -74,14 +78,17 @@ did_run at i spot h left r = (
   ran i.number spot i.name at (bag_of r i.name) left ∷ [],
 )
 
+-- the run of code, or of a closure
 abbrev pub run_deed : Language → Deed → Slots → List (Option Slots) → Bag → Ran
 run_deed language (code tree) scope arguments bag = language.ran tree scope arguments bag
 run_deed language (host label number) scope arguments bag = host_ran label number bag
 
+-- a handler is run over its instance's scope and bag
 abbrev pub run_handler : Language → FaultPlace → (Runtime → Handler → List (Option Slots)) → Instance → ℕ → Option Handler → Runtime → Did
 run_handler language at arguments i spot None r = nothing r
 run_handler language at arguments i spot (Some h) r = did_run at i spot h (run_deed language h.deed (scope_of language r i) (arguments r h) (bag_of r i.name)) r
 
+-- the handler at a place of an instance is run
 abbrev pub run_of : Language → FaultPlace → (Runtime → Handler → List (Option Slots)) → Option Instance → ℕ → Runtime → Did
 run_of language at arguments None spot r = nothing r
 run_of language at arguments (Some i) spot r = run_handler language at arguments i spot (slice_get i.handlers spot) r

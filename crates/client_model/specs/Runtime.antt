@@ -21,6 +21,7 @@ pub record Invalidation : Type 0 where
   pub version : ℕ
   pub message : Text
 
+-- what a client keeps
 pub record Runtime : Type 0 where
   pub client : ℕ  -- the number that the last `connected` gave, 0 before any
   pub roots : List Name
@@ -38,6 +39,7 @@ pub record Runtime : Type 0 where
 abbrev pub new_runtime : List (Text × ℕ) → Runtime
 new_runtime shelf = record { client = 0; roots = []; page = record new_page { plan = None }; texts = []; pairs = []; cause = None; instances = []; bags = []; unsent = []; shelf = shelf; stopped = false }
 
+-- the empty bag where none is kept
 abbrev pub bag_or_empty : Option Bag → Bag
 bag_or_empty None = []
 bag_or_empty (Some bag) = bag
@@ -50,6 +52,7 @@ bag_of r n = bag_or_empty (at r.bags n)
 abbrev pub Did : Type 0
 Did = Runtime × Journal
 
+-- nothing happens
 abbrev pub nothing : Runtime → Did
 nothing r = (r, [])
 

@@ -19,6 +19,7 @@ use Rattle.client_model.specs.Taking.{runtime_after}
 abbrev pub live_number : Runtime → Name → Option ℕ
 live_number r n = number_in (live_at r.instances n)
 
+-- the number that an instance holds for a dependency
 abbrev pub link_in : Option Instance → Name → Option ℕ
 link_in None x = None
 link_in (Some i) x = at i.links x
@@ -27,6 +28,7 @@ link_in (Some i) x = at i.links x
 abbrev pub link_of : Runtime → Name → Name → Option ℕ
 link_of r b x = link_in (live_at r.instances b) x
 
+-- the same number, or none both times
 abbrev pub same_link : Option ℕ → Option ℕ → Bool
 same_link None None = true
 same_link None (Some k) = false
@@ -43,14 +45,17 @@ pub record IsStale (r : Runtime) (b x : Name) : Type 0 where
 abbrev pub stale_from : Runtime → Name → List (Name × Name)
 stale_from r b = map (λ x. (b, x)) (filter (λ x. not (same_link (link_of r b x) (live_number r x))) (sorted (imports_of (at r.page.view b))))
 
+-- all stale edges, rising by importer and then by dependency
 abbrev pub stale_of : Runtime → List (Name × Name)
 stale_of r = flat_map (stale_from r) (sorted (names_of r.page.view))
 
+-- whether the plan is an update
 abbrev pub is_update : PlanKind → Bool
 is_update Load = false
 is_update Reload = false
 is_update Update = true
 
+-- an update is under way
 abbrev pub is_updating : Option Plan → Bool
 is_updating None = false
 is_updating (Some p) = is_update p.kind

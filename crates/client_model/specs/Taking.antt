@@ -21,10 +21,12 @@ abbrev pub made_by_plan : Option Plan → Runtime → ℕ
 made_by_plan None r = 0
 made_by_plan (Some p) r = length (new_names p r)
 
+-- the answer at which a plan is applied
 abbrev pub is_applied : ClientMsg → ServerMsg → Bool
 is_applied (request_is.Applied table) msg.Done = true
 is_applied asked m = false
 
+-- applying would make more instances than a client may
 abbrev pub is_too_many : ClientMsg → ServerMsg → Runtime → Bool
 is_too_many asked m r = is_applied asked m && nat_lt INSTANCES (length r.instances + made_by_plan r.page.plan r)
 
@@ -35,11 +37,13 @@ pub data Taken : Type 0 where
   instances_full : Taken
   is_stopped : Taken
 
+-- what a client is after a message, what happened, and what taking it answers
 pub record Taking : Type 0 where
   pub after : Runtime
   pub journal : Journal
   pub answer : Taken
 
+-- the message isn't taken, and nothing changes
 abbrev pub unchanged_by : Taken → Runtime → Taking
 unchanged_by answer r = record { after = r; journal = []; answer = answer }
 
@@ -47,6 +51,7 @@ unchanged_by answer r = record { after = r; journal = []; answer = answer }
 abbrev pub did_take : Did → Taking
 did_take did = record { after = did.0; journal = did.1; answer = took (lines_of_all did.0.client did.1) }
 
+-- nothing is run, and the client takes no message from now on
 abbrev pub stop : Runtime → Taking
 stop r = record { after = record r { stopped = true }; journal = []; answer = instances_full }
 

@@ -8,3 +8,5 @@
 //! that happens to an instance or a handler is in the journal, and the lines that a client writes are
 //! read off it. Knows nothing of sources, of served versions or of other clients.
 #![tactic(auto)]
+
+pub mod laws;

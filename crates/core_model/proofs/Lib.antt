@@ -1,10 +1,10 @@
-mod Naming
-mod Reaching
-mod LeastPaths
-mod Tables
-mod Views
-mod Spreading
-mod Pairing
-mod Planning
-mod Loading
-mod Replaying
+pub mod Naming
+pub mod Reaching
+pub mod LeastPaths
+pub mod Tables
+pub mod Views
+pub mod Spreading
+pub mod Pairing
+pub mod Planning
+pub mod Loading
+pub mod Replaying

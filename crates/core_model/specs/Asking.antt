@@ -9,6 +9,7 @@ use Rattle.core_model.specs.Sources.{Sources}
 use Rattle.core_model.specs.Page.{Plan, begun, pruned}
 use Rattle.core_model.specs.Client.{Client, is_held, dropped, reason, replaced, pairs, first_notice, without_notice}
 
+-- the rows of the table
 pub data AskRow : Type 0 where
   out_of_turn : AskRow
   tell : Name → TextFault → AskRow
@@ -76,6 +77,7 @@ asked (prune ns) s c = record c { page = pruned ns c.page }
 asked (reload path) s c = record c { page = begun Reload [] c.page; plan_at = s.served_no }
 asked (update ns ps) s c = record c { page = begun Update ns c.page; plan_at = s.served_no }
 
+-- 0 where there is no number
 abbrev pub number_or_zero : Option ℕ → ℕ
 number_or_zero None = 0
 number_or_zero (Some v) = v

@@ -7,6 +7,7 @@ use Rattle.core_model.specs.Sources.{Sources, EditAnswer, job, same, removed, re
 use Rattle.core_model.specs.View.{changed_of, dropped_of}
 use Rattle.core_model.specs.Spread.{reason_of, replaced_of, pairs_of}
 
+-- what the core keeps of a client
 pub record Client : Type 0 where
   pub page : Page
   pub plan_at : ℕ  -- served_no when the last plan began
@@ -17,6 +18,7 @@ pub record Client : Type 0 where
 abbrev pub new_client : ℕ → Client
 new_client served_no = record { page = new_page; plan_at = served_no; held_at = None; notices = [] }
 
+-- the number is there, and is this one
 abbrev pub same_number : Option ℕ → ℕ → Bool
 same_number None k = false
 same_number (Some j) k = j == k
@@ -37,12 +39,15 @@ dropped roots c = dropped_of c.page.view roots
 abbrev pub reason : List Name → Sources → Client → Option (List Name)
 reason roots s c = reason_of c.page.view roots (changed s c) c.page.forced
 
+-- what an update would replace
 abbrev pub replaced : Sources → Client → List Name
 replaced s c = replaced_of c.page.view (changed s c) c.page.forced
 
+-- who would be told of what
 abbrev pub pairs : Sources → Client → List (Name × Name)
 pairs s c = pairs_of c.page.view (replaced s c) c.page.forced
 
+-- the fault with its module's name
 abbrev pub with_name : Name → Option TextFault → Option (Name × TextFault)
 with_name n fault = option_map (λ f. (n, f)) fault
 
@@ -50,9 +55,11 @@ with_name n fault = option_map (λ f. (n, f)) fault
 abbrev pub first_notice : Client → Option (Name × TextFault)
 first_notice c = option_and_then (λ n. with_name n (at c.notices n)) (first_of (sorted (names_of c.notices)))
 
+-- a notice for n, in place of an earlier one
 abbrev pub with_notice : Name → TextFault → Client → Client
 with_notice n fault c = record c { notices = with_row n fault c.notices }
 
+-- no notice for n
 abbrev pub without_notice : Name → Client → Client
 without_notice n c = record c { notices = without n c.notices }
 

@@ -15,6 +15,7 @@ pub data Event : Type 0 where
   request : ℕ → Request → Event
   disconnect : ℕ → Event
 
+-- what the core keeps
 pub record Core : Type 0 where
   pub sources : Sources
   pub clients : List (ℕ × Client)  -- the connected clients
@@ -25,6 +26,7 @@ abbrev pub client_at : {X : Type 0} → List (ℕ × X) → ℕ → Option X
 client_at [] i = None
 client_at (row ∷ rows) i = if row.0 == i then Some row.1 else client_at rows i
 
+-- the clients of other numbers
 abbrev pub without_client : {X : Type 0} → ℕ → List (ℕ × X) → List (ℕ × X)
 without_client i rows = filter (λ row. not (row.0 == i)) rows
 
@@ -32,19 +34,23 @@ without_client i rows = filter (λ row. not (row.0 == i)) rows
 abbrev pub with_client : {X : Type 0} → ℕ → X → List (ℕ × X) → List (ℕ × X)
 with_client i c rows = (i, c) ∷ without_client i rows
 
+-- each client, changed by f
 abbrev pub each_client : {X : Type 0} → (X → X) → List (ℕ × X) → List (ℕ × X)
 each_client f rows = map (λ row. (row.0, f row.1)) rows
 
 -- the core's step
 
+-- the reply to an edit or a result
 abbrev pub answer_change : Core → Change → Reply
 answer_change core (edit n t) = edited (edit_answer core.sources n t)
 answer_change core (result n t o v) = settled (result_answer core.sources n t o v)
 
+-- what an edit or a result is to each client
 abbrev pub told_of : Sources → Change → Client → Client
 told_of s (edit n t) c = told_of_edit (edit_answer s n t) n c
 told_of s (result n t o v) c = told_of_result (result_answer s n t o v) n c
 
+-- the core after an edit or a result
 abbrev pub after_change : Core → Change → Core
 after_change core ch = record core { sources = changed_by core.sources ch; clients = each_client (told_of core.sources ch) core.clients }
 
@@ -52,14 +58,17 @@ after_change core ch = record core { sources = changed_by core.sources ch; clien
 abbrev pub is_full : Core → Bool
 is_full core = nat_le CLIENTS (length core.clients) || nat_le LARGEST_CLIENT core.given
 
+-- a client gets the next number, or is refused
 abbrev pub connected : Bool → List Name → Core → Core × Reply
 connected true roots core = (core, refused TooManyClients)
 connected false roots core = (record core { clients = with_client (core.given + 1) (new_client core.sources.served_no) core.clients; given = core.given + 1 }, to_client (msg.Connected (core.given + 1) roots))
 
+-- a connected client's request is heard on its own record
 abbrev pub requested : Option Client → List Name → ℕ → Core → Request → Core × Reply
 requested None roots i core r = (core, refused UnknownClient)
 requested (Some c) roots i core r = (record core { clients = with_client i (heard roots i core.sources c r).0 core.clients }, (heard roots i core.sources c r).1)
 
+-- a connected client is no more
 abbrev pub disconnected : Option Client → ℕ → Core → Core × Reply
 disconnected None i core = (core, refused UnknownClient)
 disconnected (Some c) i core = (record core { clients = without_client i core.clients }, gone)

@@ -8,6 +8,7 @@ use Rattle.core_model.specs.Sources.{Text, Serving}
 abbrev pub Served : Type 0
 Served = List (Name × Serving)
 
+-- what a served source imports
 abbrev pub imports_in : Option Serving → List Name
 imports_in None = []
 imports_in (Some s) = s.analysis.imports
@@ -24,6 +25,7 @@ imported_of served = flat_map (λ row. row.1.analysis.imports) served
 abbrev pub reached_by : Served → List Name → List Name
 reached_by served roots = sorted (reached_of (imports served) (imported_of served) roots)
 
+-- the version that is served
 abbrev pub version_in : Option Serving → Option ℕ
 version_in None = None
 version_in (Some s) = Some s.version
@@ -45,6 +47,7 @@ abbrev pub unlinked_edge : List (Name × Name) → Option Serving → Name → N
 unlinked_edge links None n m = []
 unlinked_edge links (Some s) n m = map (λ x. (n, m, x)) (sorted (filter (λ x. not (has s.analysis.exports x)) (linked_from links m)))
 
+-- the imports of n from served modules that they don't export
 abbrev pub unlinked_module : (Name → Text → List (Name × Name)) → Served → Name → Option Serving → List (Name × Name × Name)
 unlinked_module links served n None = []
 unlinked_module links served n (Some s) = flat_map (λ m. unlinked_edge (links n s.text) (at served m) n m) (sorted s.analysis.imports)
@@ -53,6 +56,7 @@ unlinked_module links served n (Some s) = flat_map (λ m. unlinked_edge (links n
 abbrev pub unlinked_of : (Name → Text → List (Name × Name)) → Served → List Name → List (Name × Name × Name)
 unlinked_of links served roots = flat_map (λ n. unlinked_module links served n (at served n)) (reached_by served roots)
 
+-- a page load of what is served
 pub record FreshLoad : Type 0 where
   pub table : List (Name × ℕ)
   pub missing : List Name

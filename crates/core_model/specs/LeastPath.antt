@@ -42,6 +42,7 @@ abbrev pub least_from : (Name → Name → Bool) → List Name → (Name → Boo
 least_from edge names bad zero n = if bad n then Some (n ∷ []) else None
 least_from edge names bad (suc k) n = option_map (λ path. n ∷ path) (least (least_from edge names bad k) (filter (edge n) names))
 
+-- the first that is there
 abbrev pub or_next : Option (List Name) → Option (List Name) → Option (List Name)
 or_next None next = next
 or_next (Some path) next = Some path

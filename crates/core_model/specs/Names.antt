@@ -8,6 +8,7 @@ use Rattle.std.specs.Cmp.Lexicographic.{pointwise, slice_cmp}
 abbrev pub Name : Type 0
 Name = List ℕ
 
+-- the names are the same
 abbrev pub same_name : Name → Name → Bool
 same_name = pointwise nat_eq
 
@@ -32,6 +33,7 @@ with_row n x rows = (n, x) ∷ without n rows
 abbrev pub without_all : {X : Type 0} → List Name → List (Name × X) → List (Name × X)
 without_all names rows = filter (λ row. not (has names row.0)) rows
 
+-- the names of the entries
 abbrev pub names_of : {X : Type 0} → List (Name × X) → List Name
 names_of rows = map (λ row. row.0) rows
 
@@ -40,6 +42,7 @@ abbrev pub with_entry : {X : Type 0} → Name → Option X → List (Name × X) 
 with_entry n None rows = rows
 with_entry n (Some x) rows = (n, x) ∷ rows
 
+-- what get has for the names of a list, in its order
 abbrev pub collect : {X : Type 0} → (Name → Option X) → List Name → List (Name × X)
 collect get [] = []
 collect get (n ∷ names) = with_entry n (get n) (collect get names)

@@ -14,6 +14,7 @@ pub record Plan : Type 0 where
   pub replaced : List Name  -- what an update replaces
   pub staged : View  -- what was fetched for it
 
+-- what both sides know of a page
 pub record Page : Type 0 where
   pub loaded : Bool
   pub view : View
@@ -24,6 +25,7 @@ pub record Page : Type 0 where
 abbrev pub new_plan : PlanKind → List Name → Plan
 new_plan kind replaced = record { kind = kind; replaced = replaced; staged = [] }
 
+-- nothing is loaded, and the page is to be loaded
 abbrev pub new_page : Page
 new_page = record { loaded = false; view = []; forced = []; plan = Some (new_plan Load []) }
 
@@ -33,6 +35,7 @@ kept_or_staged Load is_replaced kept staged = staged
 kept_or_staged Reload is_replaced kept staged = staged
 kept_or_staged Update is_replaced kept staged = if is_replaced then staged else option_or kept staged
 
+-- the entry that a module has in the plan
 abbrev pub entry_at : Plan → View → Name → Option Entry
 entry_at p view n = kept_or_staged p.kind (has p.replaced n) (at view n) (at p.staged n)
 

@@ -21,6 +21,7 @@ pub data Request : Type 0 where
   aborted : Request
   invalidate : Name → ℕ → Request
 
+-- what the core answers
 pub data Reply : Type 0 where
   edited : EditAnswer → Reply
   settled : ResultAnswer → Reply
@@ -30,6 +31,7 @@ pub data Reply : Type 0 where
 
 -- an Ask
 
+-- the answer to an Ask, by its row
 abbrev pub ask_reply : List Name → ℕ → Sources → Client → AskRow → Reply
 ask_reply roots i s c out_of_turn = refused OutOfTurn
 ask_reply roots i s c (tell n fault) = to_client (msg.Error n fault.line fault.col fault.word)
@@ -41,21 +43,25 @@ ask_reply roots i s c (update ns ps) = to_client (msg.Update ns (map (js_update 
 
 -- a Fetch
 
+-- the rows of the table for a Fetch
 pub data FetchRow : Type 0 where
   text : Serving → FetchRow
   not_yet : FetchRow
   broken : TextFault → FetchRow
   missing : FetchRow
 
+-- what there is of a source that isn't served
 abbrev pub row_verdict : Verdict → FetchRow
 row_verdict outstanding = not_yet
 row_verdict good = missing
 row_verdict (bad fault) = broken fault
 
+-- what there is of a name that isn't served
 abbrev pub row_source : Option Source → FetchRow
 row_source None = missing
 row_source (Some s) = row_verdict s.verdict
 
+-- the served text; else what there is of the current source
 abbrev pub row_served : Option Serving → Option Source → FetchRow
 row_served None source = row_source source
 row_served (Some s) source = text s
@@ -64,12 +70,14 @@ row_served (Some s) source = text s
 abbrev pub fetch_row : Sources → Name → FetchRow
 fetch_row s n = row_served (at s.served n) (at s.current n)
 
+-- a text is staged, and nothing else changes anything
 abbrev pub fetched : FetchRow → Plan → Name → Client → Client
 fetched (text s) p n c = record c { page = staged p n (record { version = s.version; analysis = s.analysis }) c.page }
 fetched not_yet p n c = c
 fetched (broken fault) p n c = c
 fetched missing p n c = c
 
+-- the answer to a Fetch, by its row
 abbrev pub fetch_reply : FetchRow → Name → Reply
 fetch_reply (text s) n = to_client (msg.Text n s.version s.text)
 fetch_reply not_yet n = to_client (msg.NotYet n)
@@ -78,6 +86,7 @@ fetch_reply missing n = to_client (msg.Missing n)
 
 -- an Applied
 
+-- the rows of the table for an Applied
 pub data AppliedRow : Type 0 where
   unfetched : Name → AppliedRow
   mismatch : Name → ℕ → ℕ → AppliedRow
@@ -91,22 +100,27 @@ version_at table n = number_or_zero (at table n)
 abbrev pub differing : List (Name × ℕ) → List (Name × ℕ) → List Name
 differing told kept = filter (λ n. not (version_at told n == version_at kept n)) (sorted (names_of told ++ names_of kept))
 
+-- the least name with two versions
 abbrev pub row_differing : List Name → List (Name × ℕ) → List (Name × ℕ) → AppliedRow
 row_differing [] told kept = done
 row_differing (n ∷ ns) told kept = mismatch n (version_at told n) (version_at kept n)
 
+-- the least name without an entry; else what follows
 abbrev pub row_unfetched : List Name → AppliedRow → AppliedRow
 row_unfetched [] row = row
 row_unfetched (n ∷ ns) row = unfetched n
 
+-- the row that an Applied meets
 abbrev pub applied_row : List Name → Plan → View → List (Name × ℕ) → AppliedRow
 applied_row roots p view table = row_unfetched (unfetched_of roots p view) (row_differing (differing table (table_of (new_view roots p view))) table (table_of (new_view roots p view)))
 
+-- the plan's page stands where all fits, and else nothing changes
 abbrev pub after_applied : AppliedRow → List Name → Plan → Client → Client
 after_applied (unfetched n) roots p c = c
 after_applied (mismatch n told kept) roots p c = c
 after_applied done roots p c = record c { page = applied roots p c.page; held_at = None }
 
+-- the answer to an Applied, by its row
 abbrev pub applied_reply : AppliedRow → Reply
 applied_reply (unfetched n) = refused (Unfetched n)
 applied_reply (mismatch n told kept) = refused (Mismatch n told kept)
@@ -119,28 +133,34 @@ abbrev pub is_at_version : Option Entry → ℕ → Bool
 is_at_version None v = false
 is_at_version (Some e) v = e.version == v && e.analysis.self_accepts
 
+-- the module is forced where it is there and accepts itself
 abbrev pub invalidated : Bool → Name → Client → Client
 invalidated true n c = record c { page = forced_too n c.page; held_at = None }
 invalidated false n c = c
 
+-- the answer to an Invalidate
 abbrev pub invalidate_reply : Bool → Reply
 invalidate_reply true = to_client msg.Done
 invalidate_reply false = refused Ignored
 
 -- each request, by the plan under way
 
+-- a Fetch needs a plan under way
 abbrev pub fetched_in : Option Plan → Sources → Name → Client → Client × Reply
 fetched_in None s n c = (c, refused OutOfTurn)
 fetched_in (Some p) s n c = (fetched (fetch_row s n) p n c, fetch_reply (fetch_row s n) n)
 
+-- an Applied needs a plan under way
 abbrev pub applied_in : Option Plan → List Name → List (Name × ℕ) → Client → Client × Reply
 applied_in None roots table c = (c, refused OutOfTurn)
 applied_in (Some p) roots table c = (after_applied (applied_row roots p c.page.view table) roots p c, applied_reply (applied_row roots p c.page.view table))
 
+-- an Aborted needs a plan under way, and holds the client until something is served
 abbrev pub aborted_in : Option Plan → Client → Client × Reply
 aborted_in None c = (c, refused OutOfTurn)
 aborted_in (Some p) c = (record c { page = given_up c.page; held_at = Some c.plan_at }, to_client msg.Done)
 
+-- an Invalidate needs no plan under way
 abbrev pub invalidated_in : Option Plan → Name → ℕ → Client → Client × Reply
 invalidated_in None n v c = (invalidated (is_at_version (at c.page.view n) v) n c, invalidate_reply (is_at_version (at c.page.view n) v))
 invalidated_in (Some p) n v c = (c, refused OutOfTurn)

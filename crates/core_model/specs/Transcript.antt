@@ -20,9 +20,11 @@ most_bytes = 268_435_456
 abbrev pub Entry : Type 0
 Entry = ℕ × Event
 
+-- the events alone
 abbrev pub events_of : List Entry → List Event
 events_of entries = map (λ entry. entry.1) entries
 
+-- the bytes of the names of a request
 abbrev pub request_bytes : Request → ℕ
 request_bytes ask = 0
 request_bytes (fetch n) = length n
@@ -42,6 +44,7 @@ event_bytes (disconnect i) = 0
 abbrev pub transcript_bytes : List Entry → ℕ
 transcript_bytes entries = sum_by (λ entry. 64 + event_bytes entry.1) entries
 
+-- no two are equal
 abbrev pub are_distinct : List Name → Bool
 are_distinct [] = true
 are_distinct (n ∷ names) = not (has names n) && are_distinct names

@@ -8,10 +8,12 @@ use Rattle.core_model.specs.Rounds.{reached_of}
 use Rattle.core_model.specs.Sources.{Serving}
 use Rattle.core_model.specs.FreshLoad.{Served}
 
+-- a module of a page
 pub record Entry : Type 0 where
   pub version : ℕ
   pub analysis : Analysis
 
+-- the modules of a page by name
 abbrev pub View : Type 0
 View = List (Name × Entry)
 
@@ -19,18 +21,22 @@ View = List (Name × Entry)
 abbrev pub is_in : View → Name → Bool
 is_in view n = is_some (at view n)
 
+-- what a module imports
 abbrev pub imports_of : Option Entry → List Name
 imports_of None = []
 imports_of (Some e) = e.analysis.imports
 
+-- what a module accepts by name
 abbrev pub accepted_of : Option Entry → List Name
 accepted_of None = []
 accepted_of (Some e) = e.analysis.accepted
 
+-- whether a module accepts itself
 abbrev pub accepts_itself : Option Entry → Bool
 accepts_itself None = false
 accepts_itself (Some e) = e.analysis.self_accepts
 
+-- whether a module declines
 abbrev pub is_declining : Option Entry → Bool
 is_declining None = false
 is_declining (Some e) = e.analysis.declined

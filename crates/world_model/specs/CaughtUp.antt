@@ -22,6 +22,7 @@ pub record IsCaughtUp (roots : List Name) (s : Sources) (c : Client) (r : Runtim
   pub told : c.notices ≡ []
   pub sent : r.unsent ≡ []
 
+-- whether nothing is in the list
 abbrev pub is_empty : {X : Type 0} → List X → Bool
 is_empty [] = true
 is_empty (x ∷ xs) = false
@@ -66,10 +67,12 @@ debt_within p s c r =
     + (if is_some r.cause then 1 else 2 + length (unstaged s.served p.staged))
     + (if c.plan_at == s.served_no then 0 else plan_turns s)
 
+-- the debt, with a plan under way or with none
 abbrev pub debt_by : Option Plan → List Name → Sources → Client → Runtime → ℕ
 debt_by None roots s c r = debt_between roots s c r
 debt_by (Some p) roots s c r = debt_within p s c r
 
+-- how far a client is from caught up
 abbrev pub debt : List Name → Sources → Client → Runtime → ℕ
 debt roots s c r = debt_by c.page.plan roots s c r
 

@@ -26,6 +26,7 @@ pub record Module : Type 0 where
   pub analysis : Analysis
   pub items : List ItemTree
 
+-- the modules that texts stand for
 abbrev pub Texts : Type 0
 Texts = List (Text × Module)
 
@@ -38,14 +39,17 @@ pub record State : Type 0 where
   pub registered : List Registered
   pub bag : Bag
 
+-- what a variable holds, undefined where nothing
 abbrev pub value_in : Slot → Value
 value_in Unset = Undef
 value_in (Val v) = v
 
+-- what the bag has at a key, undefined where nothing
 abbrev pub kept : Option Value → Value
 kept None = Undef
 kept (Some v) = v
 
+-- an export of a callback's argument
 abbrev pub member_of : Option (Option Slots) → Name → Value
 member_of None x = Undef
 member_of (Some None) x = Undef
@@ -61,26 +65,31 @@ abbrev pub whole_text : ℤ → Text
 whole_text (pos n) = digits 16 n
 whole_text (negsuc n) = codes "-" ++ digits 16 (n + 1)
 
+-- a value written as text
 abbrev pub as_text : Value → Text
 as_text (Num n) = whole_text n
 as_text (Str t) = t
 as_text Undef = codes "undefined"
 
+-- the sum of two numbers, and else the texts joined
 abbrev pub sum_of : Value → Value → Value
 sum_of (Num a) (Num b) = Num (a +ℤ b)
 sum_of a b = Str (as_text a ++ as_text b)
 
+-- the first unless it is undefined
 abbrev pub or_else : Value → Value → Value
 or_else (Num n) b = Num n
 or_else (Str t) b = Str t
 or_else Undef b = b
 
+-- a value of two
 abbrev pub applied_to : Op → Value → Value → Value
 applied_to Null a b = or_else a b
 applied_to Add a b = sum_of a b
 applied_to Sub a b = Undef
 applied_to Mul a b = Undef
 
+-- the value of an expression
 abbrev pub value_of : State → List (Option Slots) → ExprTree → Value
 value_of s mods (num n) = Num (pos n)
 value_of s mods (text t) = Str t
@@ -92,9 +101,11 @@ value_of s mods (neg e) = Undef
 value_of s mods (binary op a b) = applied_to op (value_of s mods a) (value_of s mods b)
 value_of s mods (choose c a b) = Undef
 
+-- between the values of a console line
 abbrev pub space : ℕ
 space = 32
 
+-- a statement is run
 abbrev pub run_stmt : List (Option Slots) → State → StmtTree → State
 run_stmt mods s (log es) = record s { lines = s.lines ++ join_with_byte space (map (λ e. as_text (value_of s mods e)) es) ∷ [] }
 run_stmt mods s (assign x e) = record s { vars = assigned s.vars (x, value_of s mods e); changes = s.changes ++ (x, value_of s mods e) ∷ [] }
@@ -104,13 +115,16 @@ run_stmt mods s (invalidate None) = record s { invalidations = s.invalidations +
 run_stmt mods s (invalidate (Some e)) = record s { invalidations = s.invalidations ++ as_text (value_of s mods e) ∷ [] }
 run_stmt mods s (branch c first second) = s
 
+-- statements are run in order
 abbrev pub run_stmts : List (Option Slots) → State → StmtTrees → State
 run_stmts mods s no_stmts = s
 run_stmts mods s (one_stmt first rest) = run_stmts mods (run_stmt mods s first) rest
 
+-- a handler is registered
 abbrev pub register : Kind → List Name → OnceTree → State → State
 register k names what s = record s { registered = s.registered ++ record { kind = k; deps = names; what = what } ∷ [] }
 
+-- an item of a module is evaluated
 abbrev pub run_item : State → ItemTree → State
 run_item s (import spec names) = s
 run_item s (declare exported mutable x e) = record s { vars = assigned s.vars (x, value_of s [] e) }
@@ -123,37 +137,46 @@ run_item s (dispose what) = register kind.Dispose [] what s
 run_item s (prune what) = register kind.Prune [] what s
 run_item s decline = s
 
+-- the variable that an item declares
 abbrev pub declared_by : ItemTree → Slots
 declared_by (declare exported mutable x e) = (x, Unset) ∷ []
 declared_by item = []
 
+-- before the first item or statement
 abbrev pub start : Slots → Bag → State
 start vars before = record { vars = vars; lines = []; changes = []; invalidations = []; registered = []; bag = before }
 
+-- the variables that a module declares
 abbrev pub own_vars : List ItemTree → Slots
 own_vars items = flat_map declared_by items
 
+-- a variable with what it holds in the end
 abbrev pub slot_of : Slots → Name × Slot → Name × Slot
 slot_of vars row = (row.0, slot_at vars row.0)
 
+-- the evaluation of a module's items
 abbrev pub evaluated_by : List ItemTree → Slots → Bag → Evaluated
 evaluated_by items imports before =
     let s : State = fold run_item (start (own_vars items ++ imports) before) items in
     record { fault = None; values = map (slot_of s.vars) (own_vars items); lines = s.lines; registered = s.registered; bag = s.bag }
 
+-- the run of a callback
 abbrev pub ran_by : HandlerTree → Slots → List (Option Slots) → Bag → Ran
 ran_by h vars mods before =
     let s : State = run_stmts mods (start vars before) h.body in
     record { fault = None; lines = s.lines; changes = s.changes; invalidations = s.invalidations; bag = s.bag }
 
+-- a text that stands for no module is unexpected at its first place
 abbrev pub outcome_in : Option Module → Outcome
 outcome_in None = Bad (record { line = 1; col = 1; word = Unexpected })
 outcome_in (Some m) = Good m.analysis
 
+-- the imports of a text
 abbrev pub bindings_in : Option Module → List Binding
 bindings_in None = []
 bindings_in (Some m) = m.bindings
 
+-- the evaluation of a text
 abbrev pub evaluated_in : Option Module → Slots → Bag → Evaluated
 evaluated_in None imports before = evaluated_by [] imports before
 evaluated_in (Some m) imports before = evaluated_by m.items imports before

@@ -12,9 +12,11 @@ use Rattle.world_model.specs.World.{World, Step, edits, settles, opens, turn, cl
 use Rattle.world_model.specs.Editing.{edited_by, is_job, settle_job}
 use Rattle.world_model.specs.Turning.{turn_of, open_by, close_of, shown, state_in}
 
+-- an import that isn't exported
 abbrev pub unlinked_line : Name × Name × Name → OutLine
 unlinked_line edge = line.Unlinked edge.0 edge.1 edge.2
 
+-- the lines of a fresh load
 abbrev pub fresh_lines : FreshLoad → List OutLine
 fresh_lines load = line.Fresh ∷ (map (λ row. line.Module row.0 row.1) load.table ++ (map line.Missing load.missing ++ map unlinked_line load.unlinked))
 

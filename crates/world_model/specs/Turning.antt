@@ -24,9 +24,11 @@ lines_taken (unexpected wanted got) = Some []
 lines_taken instances_full = None
 lines_taken is_stopped = Some []
 
+-- the world after an answer was taken
 abbrev pub turned_by : ℕ → World → Core → Taking → Stepped
 turned_by i w core taking = record { world = record w { core = core; clients = with_client i taking.after w.clients }; lines = lines_taken taking.answer }
 
+-- the core's reply is taken as a message
 abbrev pub answered_by : Language → ℕ → Runtime → World → Core × Reply → Stepped
 answered_by language i r w after = turned_by i w after.0 (take language r (message_of after.1))
 
@@ -40,14 +42,16 @@ abbrev pub connected_as : ServerMsg → Option ℕ
 connected_as (msg.Connected i roots) = Some i
 connected_as m = None
 
--- the closures of the client with this number, from 1
+-- no closures where there is no shelf
 abbrev pub shelf_or_empty : Option (List (Text × ℕ)) → List (Text × ℕ)
 shelf_or_empty None = []
 shelf_or_empty (Some shelf) = shelf
 
+-- the closures of the client with this number, from 1
 abbrev pub shelf_of : List (List (Text × ℕ)) → ℕ → List (Text × ℕ)
 shelf_of shelves i = shelf_or_empty (slice_get shelves (pred i))
 
+-- a client that was connected is open
 abbrev pub opened_by : Language → List (List (Text × ℕ)) → World → Core → ServerMsg → Option ℕ → Stepped
 opened_by language shelves w core m None = stepped (record w { core = core }) (line.OpenRefused ∷ [])
 opened_by language shelves w core m (Some i) = stepped (record w { core = core; clients = with_client i (take language (new_runtime (shelf_of shelves i)) m).after w.clients }) (line.Open i ∷ [])
@@ -56,6 +60,7 @@ opened_by language shelves w core m (Some i) = stepped (record w { core = core; 
 abbrev pub open_by : Language → List (List (Text × ℕ)) → World → Core × Reply → Stepped
 open_by language shelves w after = opened_by language shelves w after.0 (message_of after.1) (connected_as (message_of after.1))
 
+-- a client that closes is no more
 abbrev pub close_of : List Name → ℕ → World → Option Runtime → Stepped
 close_of roots i w None = stepped w (line.Unknown i ∷ [])
 close_of roots i w (Some r) = stepped (record w { core = (step roots w.core (disconnect i)).0; clients = without_client i w.clients }) (line.Close i ∷ [])
@@ -65,5 +70,6 @@ abbrev pub shown : ℕ → World → (Runtime → List OutLine) → Option Runti
 shown i w lines None = stepped w (line.Unknown i ∷ [])
 shown i w lines (Some r) = stepped w (lines r)
 
+-- whether a client is caught up
 abbrev pub state_in : List Name → World → ℕ → Runtime → ClientState
 state_in roots w i r = state_of roots w.core.sources (client_at w.core.clients i) r

@@ -12,6 +12,7 @@ pub record Job : Type 0 where
   pub version : ℕ
   pub text : Text
 
+-- all there is
 pub record World : Type 0 where
   pub core : Core
   pub clients : List (ℕ × Runtime)  -- the open ones
@@ -35,6 +36,7 @@ pub record Stepped : Type 0 where
   pub world : World
   pub lines : Option (List OutLine)
 
+-- a step that went on, with its lines
 abbrev pub stepped : World → List OutLine → Stepped
 stepped w lines = record { world = w; lines = Some lines }
 
