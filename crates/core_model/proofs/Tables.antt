@@ -1,8 +1,9 @@
 -- Looking up in lists of entries by name.
 use Rattle.std.proofs.Common.{◌≡◌, Bool, true, false, List, [], ◌∷◌, ◌++◌, refl, ap, sym, ◌∙◌}
-use Rattle.std.specs.Prelude.{flat_map, ◌||◌, Option, Some, None, is_some, if◌then◌else◌}
-use Rattle.core_model.specs.Names.{Name, same_name, has, at, names_of, with_entry, collect}
-use Rattle.core_model.proofs.Naming.{same_true, has_append, or_left, or_right}
+use Rattle.std.specs.Prelude.{flat_map, cond, not, ◌||◌, Option, Some, None, is_some, if◌then◌else◌}
+use Rattle.core_model.specs.Names.{Name, same_name, has, at, without, with_row, names_of, with_entry, collect}
+use Rattle.core_model.proofs.Naming.{same_true, true_same, has_append, or_left, or_right}
+use Rattle.std.proofs.lemmas.Bool.{false≢true}
 
 module _ {X : Type 0} where
   both_ways : (b : Bool) (x : Option X) → x ≡ (if b then x else x)
@@ -54,3 +55,35 @@ module _ {X : Type 0} where
   -- what lists something is among the names
   pub lister_named : (get : X → List Name) (rows : List (Name × X)) (n m : Name) → has (listed_in get (at rows n)) m ≡ true → has (names_of rows) n ≡ true
   lister_named get rows n m h = sym (named rows n) ∙ lister_step get (at rows n) m h
+
+  without_step : (a b c : Bool) (x : X) (more : Option X) (rest : Option X) → (a ≡ true → b ≡ c) → (a ≡ false → c ≡ true → b ≡ false) → rest ≡ (if b then None else more) → (if not a then (if c then Some x else rest) else rest) ≡ (if b then None else (if c then Some x else more))
+  without_step true true c x more rest f g h = h
+  without_step true false c x more rest f g h = h ∙ ap (λ d. if d then Some x else more) (f refl)
+  without_step false b false x more rest f g h = h
+  without_step false true true x more rest f g h = absurd (false≢true (sym (g refl refl)))
+  without_step false false true x more rest f g h = refl
+
+  filtered_row : (keep : Bool) (row : Name × X) (rows : List (Name × X)) (m : Name) → at (cond keep (row ∷ rows) rows) m ≡ (if keep then (if same_name row.0 m then Some row.1 else at rows m) else at rows m)
+  filtered_row true row rows m = refl
+  filtered_row false row rows m = refl
+
+  -- the entries of other names, looked up
+  pub at_without : (n : Name) (rows : List (Name × X)) (m : Name) → at (without n rows) m ≡ (if same_name n m then None else at rows m)
+  at_without n [] m = both_ways (same_name n m) None
+  at_without n (row ∷ rows) m = filtered_row (not (same_name row.0 n)) row (without n rows) m
+    ∙ without_step (same_name row.0 n) (same_name n m) (same_name row.0 m) row.1 (at rows m) (at (without n rows) m)
+      (λ e. ap (λ k. same_name k m) (sym (same_true row.0 n e)))
+      (λ e f. apart (same_name n m) e (ap (λ k. same_name k n) (same_true row.0 m f)) (λ g. ap (λ k. same_name m k) (same_true n m g) ∙ true_same m m refl))
+      (at_without n rows m)
+    where
+      apart : (b : Bool) {c d : Bool} → c ≡ false → c ≡ d → (b ≡ true → d ≡ true) → b ≡ false
+      apart true e f g = absurd (false≢true (sym e ∙ f ∙ g refl))
+      apart false e f g = refl
+
+  row_step : (b : Bool) (x : X) (o : Option X) → (if b then Some x else (if b then None else o)) ≡ (if b then Some x else o)
+  row_step true x o = refl
+  row_step false x o = refl
+
+  -- an entry in place of a name's own, looked up
+  pub at_with_row : (n : Name) (x : X) (rows : List (Name × X)) (m : Name) → at (with_row n x rows) m ≡ (if same_name n m then Some x else at rows m)
+  at_with_row n x rows m = ap (λ o. if same_name n m then Some x else o) (at_without n rows m) ∙ row_step (same_name n m) x (at rows m)
