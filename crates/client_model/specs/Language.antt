@@ -1,17 +1,14 @@
--- What a client needs of the module language: four functions. Everything else here holds whatever
+-- What a client needs of the module language: five functions. Everything else here holds whatever
 -- they are.
-use Rattle.std.specs.Prelude.{ℕ, nat_le, pos, Bool, false, List, [], ◌∷◌, ◌++◌, length, map, Option, Some, None, is_some, codes, decimal, if◌then◌else◌}
+use Rattle.std.specs.Prelude.{ℕ, List, map, Option, Some, None}
 use Rattle.hmr_types.specs.declared.analysis.Outcome.{Outcome}
-use Rattle.hmr_types.specs.declared.limits.TheConstants.{BAG_KEYS}
 use Rattle.hmr_types.specs.declared.value.Value.{Value}
-use Rattle.hmr_types.specs.declared.value.Value.TheVariants.{Num}
 use Rattle.hmr_types.specs.declared.value.Slot.{Slot}
 use Rattle.hmr_types.specs.declared.value.Slot.TheVariants.{Unset}
 use Rattle.hmr_types.specs.declared.value.EvalFault.{EvalFault}
-use Rattle.hmr_types.specs.declared.value.EvalFault.TheVariants.{BagFull}
 use Rattle.hmr_types.specs.declared.words.Kind.{Kind}
 use Rattle.hmr_types.specs.Syntax.{HandlerTree, OnceTree}
-use Rattle.core_model.specs.Names.{Name, same_name, at}
+use Rattle.core_model.specs.Names.{Name, at}
 use Rattle.core_model.specs.Sources.{Text}
 
 -- the data that a module keeps from instance to instance: its keys, in the order in which they came
@@ -46,7 +43,7 @@ pub record Registered : Type 0 where
 -- what the evaluation of a module leaves
 pub record Evaluated : Type 0 where
   pub fault : Option EvalFault
-  pub values : Slots
+  pub vars : Slots
   pub lines : List Text
   pub registered : List Registered
   pub bag : Bag
@@ -70,31 +67,9 @@ pub record Language : Type 0 where
   -- the run of a handler's code over these variables and imports, with these modules as arguments
   -- (none where an argument is undefined), where the bag is this one
   pub ran : HandlerTree → Slots → List (Option Slots) → Bag → Ran
+  -- the run of the closure of the embedding program with this label and number, where the bag is this one
+  pub hosted : Text → ℕ → Bag → Ran
 
 -- each dependency with a name that is imported from it
 abbrev pub links_of : Language → Name → Text → List (Name × Name)
 links_of language n t = map (λ b. (b.dependency, b.exported)) (language.bindings n t)
-
--- the value in place of the key's own, or at the end where the key is new
-abbrev pub with_key : Name → Value → Bag → Bag
-with_key k v [] = (k, v) ∷ []
-with_key k v (row ∷ rows) = if same_name row.0 k then (k, v) ∷ rows else row ∷ with_key k v rows
-
--- the bag can't take the key, since it is new and the bag is full
-abbrev pub is_full_for : Name → Bag → Bool
-is_full_for k bag = if is_some (at bag k) then false else nat_le BAG_KEYS (length bag)
-
--- the key that a closure of the embedding program sets
-abbrev pub host_key : Name
-host_key = codes "host"
-
--- the line of a closure of the embedding program
-abbrev pub host_line : Text → ℕ → Text
-host_line label number = codes "host " ++ label ++ codes " " ++ decimal number
-
--- what the run of a closure of the embedding program leaves: one line, and the key `host` set to its number
-abbrev pub host_ran : Text → ℕ → Bag → Ran
-host_ran label number bag =
-    if is_full_for host_key bag
-    then record { fault = Some BagFull; lines = host_line label number ∷ []; changes = []; invalidations = []; bag = bag }
-    else record { fault = None; lines = host_line label number ∷ []; changes = []; invalidations = []; bag = with_key host_key (Num (pos number)) bag }

@@ -95,8 +95,8 @@ make_unrun b r = (record r { instances = born b Unrun [] [] ∷ r.instances }, m
 -- it was evaluated with its name's bag, and what it registered was registered
 abbrev pub make_evaluated : Birth → Bag → Evaluated → Registry → Runtime → Did
 make_evaluated b bag e g r = (
-  record r { instances = born b (status_after e.fault) e.values g.handlers ∷ r.instances; bags = with_row b.name e.bag r.bags; shelf = g.shelf },
-  made (born b (status_after e.fault) e.values g.handlers) ∷ (evaluated b.number b.name bag e ∷ g.journal),
+  record r { instances = born b (status_after e.fault) e.vars g.handlers ∷ r.instances; bags = with_row b.name e.bag r.bags; shelf = g.shelf },
+  made (born b (status_after e.fault) e.vars g.handlers) ∷ (evaluated b.number b.name bag e ∷ g.journal),
 )
 
 -- the evaluation of a new instance, over what its links hold now

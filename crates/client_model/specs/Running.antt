@@ -11,7 +11,7 @@ use Rattle.hmr_types.specs.declared.words.HandlerEnd.TheVariants.{Held, Spent}
 use Rattle.hmr_types.specs.declared.words.InstanceFate.{InstanceFate}
 use Rattle.core_model.specs.Names.{Name, same_name, at, with_row, without}
 use Rattle.core_model.specs.Sources.{Text}
-use Rattle.client_model.specs.Language.{Language, Slots, Bag, Ran, slot_at, host_ran}
+use Rattle.client_model.specs.Language.{Language, Slots, Bag, Ran, slot_at}
 use Rattle.client_model.specs.Instance.{Instance, Handler, Deed, code, host, numbered, live_at, with_change, with_end, with_dropped, places_of, is_done}
 use Rattle.client_model.specs.Journal.{ran, dropped, ended, gave_up}
 use Rattle.client_model.specs.Runtime.{Runtime, Invalidation, Did, nothing, for_each, bag_of}
@@ -81,7 +81,7 @@ did_run at i spot h left r = (
 -- the run of code, or of a closure
 abbrev pub run_deed : Language → Deed → Slots → List (Option Slots) → Bag → Ran
 run_deed language (code tree) scope arguments bag = language.ran tree scope arguments bag
-run_deed language (host label number) scope arguments bag = host_ran label number bag
+run_deed language (host label number) scope arguments bag = language.hosted label number bag
 
 -- a handler is run over its instance's scope and bag
 abbrev pub run_handler : Language → FaultPlace → (Runtime → Handler → List (Option Slots)) → Instance → ℕ → Option Handler → Runtime → Did

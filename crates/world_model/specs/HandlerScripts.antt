@@ -1,11 +1,11 @@
 -- Scripts of handlers: prune, data, closures of the embedding program, and invalidations.
 use Rattle.std.specs.Prelude.{ℕ, true, false, List, [], ◌∷◌, Some, None, codes}
-use Rattle.hmr_types.specs.Syntax.{num, text, name, bag, member, binary, log, bag_set, invalidate, code, host, declare, act, own, dispose, prune}
+use Rattle.hmr_types.specs.Syntax.{num, text, name, bag, member, binary, log, bag_set, throw, invalidate, code, host, ItemTree, declare, act, own, deps, dispose, prune}
 use Rattle.hmr_types.specs.declared.tree.Op.TheVariants.{Add}
 use Rattle.core_model.specs.Sources.{Text}
-use Rattle.world_model.specs.World.{opens, show, fates}
+use Rattle.world_model.specs.World.{opens, show, values, fates}
 use Rattle.world_model.specs.Playing.{Command, step, settle_all, turns, Stage}
-use Rattle.world_model.specs.SmallPages.{m, a, x, importing, exporting, self_accepting, binding, module_of, page_of, callback, log_text, edited}
+use Rattle.world_model.specs.SmallPages.{m, a, x, importing, exporting, accepting, self_accepting, binding, module_of, page_of, callback, log_text, edited}
 
 -- An import that goes and comes again.
 
@@ -107,3 +107,46 @@ invalid_root_page = page_of (
 
 abbrev pub invalid_root_script : List Command
 invalid_root_script = edited m invalid_root ∷ settle_all ∷ step opens ∷ turns 1 9 ∷ edited m without_x ∷ settle_all ∷ turns 1 9 ∷ []
+
+-- A dependency that faults: its importer isn't run, and a callback gets undefined for it.
+
+abbrev pub faulting_m : Text
+faulting_m = codes "import { n } from \"./x.js\"; console.log(\"no\");"
+
+abbrev pub faulting_x : Text
+faulting_x = codes "throw \"bad\"; export const n = 1;"
+
+abbrev pub watching_m : Text
+watching_m = codes "import \"./x.js\"; import.meta.hot.accept(\"./x.js\", (x) => { console.log(\"x has\", x?.n); });"
+
+abbrev pub sound_x : Text
+sound_x = codes "export const n = 1;"
+
+abbrev pub export_n : ItemTree
+export_n = declare true false (codes "n") (num 1)
+
+abbrev pub faulting : Stage
+faulting = page_of (
+    (faulting_m, module_of (importing (x ∷ [])) (binding x (codes "n") (codes "n") ∷ []) (act (log_text (codes "no")) ∷ [])) ∷
+    (watching_m, module_of (accepting (x ∷ []) (importing (x ∷ []))) [] (deps false (x ∷ []) (Some (callback (codes "x" ∷ []) (log (text (codes "x has") ∷ (member 0 true (codes "n") ∷ []))))) ∷ [])) ∷
+    (faulting_x, module_of (exporting (codes "n" ∷ []) (importing [])) [] (act (throw (text (codes "bad"))) ∷ export_n ∷ [])) ∷
+    (sound_x, module_of (exporting (codes "n" ∷ []) (importing [])) [] (export_n ∷ [])) ∷ [])
+
+abbrev pub faulting_script : List Command
+faulting_script = edited m faulting_m ∷ edited x faulting_x ∷ settle_all ∷ step opens ∷ turns 1 9 ∷ step (show 1) ∷ step (values 1) ∷ []
+
+abbrev pub watching_script : List Command
+watching_script =
+    edited m watching_m ∷ edited x sound_x ∷ settle_all ∷ step opens ∷ turns 1 9 ∷
+    edited x faulting_x ∷ settle_all ∷ turns 1 9 ∷ []
+
+-- A closure that isn't there.
+
+abbrev pub asking_m : Text
+asking_m = codes "import.meta.hot.dispose(host(\"Z\"));"
+
+abbrev pub asking : Stage
+asking = page_of ((asking_m, module_of (importing []) [] (dispose (host (codes "Z")) ∷ [])) ∷ [])
+
+abbrev pub asking_script : List Command
+asking_script = edited m asking_m ∷ settle_all ∷ step opens ∷ turns 1 9 ∷ step (fates 1) ∷ []

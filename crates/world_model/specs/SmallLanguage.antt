@@ -1,6 +1,7 @@
 -- A small module language for examples: each text stands for a module that is listed beside it. It has
--- numbers, texts, sums, `??`, the bag and members, and no faults; its dependencies are named in full.
-use Rattle.std.specs.Prelude.{ℕ, zero, suc, ◌+◌, ◌/◌, ◌%◌, ◌==◌, ℤ, pos, negsuc, ◌+ℤ◌, List, [], ◌∷◌, ◌++◌, map, flat_map, fold, slice_get, Option, Some, None, codes, if◌then◌else◌}
+-- numbers, texts, sums, `??`, the bag, members and `throw`, and no other faults; its dependencies are named
+-- in full.
+use Rattle.std.specs.Prelude.{ℕ, zero, suc, ◌+◌, ◌/◌, ◌%◌, ◌==◌, ℤ, pos, negsuc, ◌+ℤ◌, List, [], ◌∷◌, ◌++◌, map, flat_map, fold, slice_get, Option, Some, None, is_some, codes, if◌then◌else◌}
 use Rattle.std.specs.List.{join_with_byte}
 use Rattle.hmr_types.specs.Syntax.{ExprTree, num, text, undefined, name, bag, member, neg, binary, choose, StmtTree, StmtTrees, no_stmts, one_stmt, log, assign, bag_set, throw, invalidate, branch, HandlerTree, OnceTree, code, ItemTree, import, declare, act, own, deps, dispose, prune, decline}
 use Rattle.hmr_types.specs.declared.tree.Op.{Op}
@@ -9,16 +10,23 @@ use Rattle.hmr_types.specs.declared.value.Value.{Value}
 use Rattle.hmr_types.specs.declared.value.Value.TheVariants.{Num, Str, Undef}
 use Rattle.hmr_types.specs.declared.value.Slot.{Slot}
 use Rattle.hmr_types.specs.declared.value.Slot.TheVariants.{Unset, Val}
+use Rattle.hmr_types.specs.declared.value.EvalFault.{EvalFault}
+use Rattle.hmr_types.specs.declared.value.EvalFault.TheVariants.{Thrown}
 use Rattle.hmr_types.specs.declared.words.Kind.{Kind}
 use Rattle.hmr_types.specs.declared.words.Kind.TheVariants as kind
 use Rattle.hmr_types.specs.declared.analysis.Analysis.{Analysis}
 use Rattle.hmr_types.specs.declared.analysis.FaultWord.TheVariants.{Unexpected}
 use Rattle.hmr_types.specs.declared.analysis.Outcome.{Outcome}
 use Rattle.hmr_types.specs.declared.analysis.Outcome.TheVariants.{Good, Bad}
-use Rattle.core_model.specs.Names.{Name, at}
+use Rattle.core_model.specs.Names.{Name, same_name, at}
 use Rattle.core_model.specs.Sources.{Text}
-use Rattle.client_model.specs.Language.{Language, Bag, Slots, Binding, Registered, Evaluated, Ran, with_key, slot_at}
+use Rattle.client_model.specs.Language.{Language, Bag, Slots, Binding, Registered, Evaluated, Ran, slot_at}
 use Rattle.client_model.specs.Running.{assigned}
+
+-- the value in place of the key's own, or at the end where the key is new
+abbrev pub with_key : Name → Value → Bag → Bag
+with_key k v [] = (k, v) ∷ []
+with_key k v (row ∷ rows) = if same_name row.0 k then (k, v) ∷ rows else row ∷ with_key k v rows
 
 -- what a module's text says: its imports, what analysis tells, and its items
 pub record Module : Type 0 where
@@ -38,6 +46,7 @@ pub record State : Type 0 where
   pub invalidations : List Text
   pub registered : List Registered
   pub bag : Bag
+  pub fault : Option EvalFault
 
 -- what a variable holds, undefined where nothing
 abbrev pub value_in : Slot → Value
@@ -110,15 +119,19 @@ abbrev pub run_stmt : List (Option Slots) → State → StmtTree → State
 run_stmt mods s (log es) = record s { lines = s.lines ++ join_with_byte space (map (λ e. as_text (value_of s mods e)) es) ∷ [] }
 run_stmt mods s (assign x e) = record s { vars = assigned s.vars (x, value_of s mods e); changes = s.changes ++ (x, value_of s mods e) ∷ [] }
 run_stmt mods s (bag_set k e) = record s { bag = with_key k (value_of s mods e) s.bag }
-run_stmt mods s (throw e) = s
+run_stmt mods s (throw e) = record s { fault = Some (Thrown (as_text (value_of s mods e))) }
 run_stmt mods s (invalidate None) = record s { invalidations = s.invalidations ++ [] ∷ [] }
 run_stmt mods s (invalidate (Some e)) = record s { invalidations = s.invalidations ++ as_text (value_of s mods e) ∷ [] }
 run_stmt mods s (branch c first second) = s
 
+-- a fault ends the evaluation
+abbrev pub go_on : State → State → State
+go_on s next = if is_some s.fault then s else next
+
 -- statements are run in order
 abbrev pub run_stmts : List (Option Slots) → State → StmtTrees → State
 run_stmts mods s no_stmts = s
-run_stmts mods s (one_stmt first rest) = run_stmts mods (run_stmt mods s first) rest
+run_stmts mods s (one_stmt first rest) = run_stmts mods (go_on s (run_stmt mods s first)) rest
 
 -- a handler is registered
 abbrev pub register : Kind → List Name → OnceTree → State → State
@@ -144,7 +157,7 @@ declared_by item = []
 
 -- before the first item or statement
 abbrev pub start : Slots → Bag → State
-start vars before = record { vars = vars; lines = []; changes = []; invalidations = []; registered = []; bag = before }
+start vars before = record { vars = vars; lines = []; changes = []; invalidations = []; registered = []; bag = before; fault = None }
 
 -- the variables that a module declares
 abbrev pub own_vars : List ItemTree → Slots
@@ -157,14 +170,18 @@ slot_of vars row = (row.0, slot_at vars row.0)
 -- the evaluation of a module's items
 abbrev pub evaluated_by : List ItemTree → Slots → Bag → Evaluated
 evaluated_by items imports before =
-    let s : State = fold run_item (start (own_vars items ++ imports) before) items in
-    record { fault = None; values = map (slot_of s.vars) (own_vars items); lines = s.lines; registered = s.registered; bag = s.bag }
+    let s : State = fold (λ s item. go_on s (run_item s item)) (start (own_vars items ++ imports) before) items in
+    record { fault = s.fault; vars = map (slot_of s.vars) (own_vars items); lines = s.lines; registered = s.registered; bag = s.bag }
 
 -- the run of a callback
 abbrev pub ran_by : HandlerTree → Slots → List (Option Slots) → Bag → Ran
 ran_by h vars mods before =
     let s : State = run_stmts mods (start vars before) h.body in
-    record { fault = None; lines = s.lines; changes = s.changes; invalidations = s.invalidations; bag = s.bag }
+    record { fault = s.fault; lines = s.lines; changes = s.changes; invalidations = s.invalidations; bag = s.bag }
+
+-- a closure of the embedding program gives one line, and keeps its number under the key `host`
+abbrev pub hosted_by : Text → ℕ → Bag → Ran
+hosted_by label number before = record { fault = None; lines = (codes "host " ++ label ++ codes " " ++ whole_text (pos number)) ∷ []; changes = []; invalidations = []; bag = with_key (codes "host") (Num (pos number)) before }
 
 -- a text that stands for no module is unexpected at its first place
 abbrev pub outcome_in : Option Module → Outcome
@@ -187,4 +204,5 @@ small_language texts = record {
   transformed = λ n t. outcome_in (at texts t);
   bindings = λ n t. bindings_in (at texts t);
   evaluated = λ n t imports before. evaluated_in (at texts t) imports before;
-  ran = ran_by; }
+  ran = ran_by;
+  hosted = hosted_by; }

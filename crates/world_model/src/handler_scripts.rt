@@ -15,10 +15,12 @@ ghost use Rattle.hmr_types.specs.declared.value.Value.TheVariants.{Num};
 ghost use Rattle.hmr_types.specs.declared.value.Slot.TheVariants.{Val};
 ghost use Rattle.hmr_types.specs.declared.out_line.OutLine.TheVariants as line;
 ghost use Rattle.hmr_types.specs.declared.words.Handled.TheVariants as handled;
-ghost use Rattle.client_model.specs.Language.{host_line};
 ghost use Rattle.world_model.specs.Playing.{play, quiet_play};
 ghost use Rattle.world_model.specs.SmallPages.{m, a, x};
-ghost use Rattle.world_model.specs.HandlerScripts.{seeing, seeing_script, hosting, hosting_script, label, invalidating, invalidating_script, second_client_script, invalid_root_page, invalid_root_script};
+ghost use Rattle.world_model.specs.HandlerScripts.{seeing, seeing_script, hosting, hosting_script, label, invalidating, invalidating_script, second_client_script, invalid_root_page, invalid_root_script, faulting, faulting_script, watching_script, asking, asking_script};
+ghost use Rattle.hmr_types.specs.declared.words.FaultPlace.TheVariants as place;
+ghost use Rattle.hmr_types.specs.declared.value.EvalFault.TheVariants.{Thrown};
+ghost use Rattle.hmr_types.specs.declared.value.Slot.TheVariants.{Unset};
 
 /// A module that leaves the page runs its disposer and then its prune handler, and its data is given
 /// up: when it comes again it begins with none.
@@ -62,7 +64,7 @@ pub fn displaced_disposer_is_dropped()
         line.Applied 1 Update ∷
         line.Update 1 (m ∷ []) ∷
         line.Accept 1 m m ∷
-        line.Log 1 m (host_line label 3) ∷
+        line.Log 1 m (codes "host H 3") ∷
         line.Log 1 m (codes "3") ∷
         line.Applied 1 Update ∷
         line.Fates 1 ∷
@@ -135,5 +137,41 @@ pub fn invalidated_root_reloads()
         line.Invalidated 1 m [] ∷
         line.Reload 1 Root (m ∷ []) ∷
         line.Applied 1 Reload ∷ [] }
+{
+}
+
+/// A module that imports one that faulted isn't run, and both stand on the page with their versions.
+pub fn importer_of_a_fault_is_not_run()
+    ensures { quiet_play faulting faulting_script ≡
+        line.Fault 1 x place.Module (Thrown (codes "bad")) ∷
+        line.Unrun 1 m ∷
+        line.Applied 1 Load ∷
+        line.Client 1 Up ∷
+        line.Module m 1 ∷
+        line.Module x 2 ∷
+        line.Values 1 ∷
+        line.Value x (codes "n") Unset ∷ [] }
+{
+}
+
+/// A callback gets undefined for a module whose evaluation faulted, and the update goes on.
+pub fn callback_of_a_fault_gets_undefined()
+    ensures { quiet_play faulting watching_script ≡
+        line.Applied 1 Load ∷
+        line.Update 1 (x ∷ []) ∷
+        line.Accept 1 m x ∷
+        line.Fault 1 x place.Module (Thrown (codes "bad")) ∷
+        line.Log 1 m (codes "x has undefined") ∷
+        line.Applied 1 Update ∷ [] }
+{
+}
+
+/// Where no closure of a label is left, nothing is registered.
+pub fn missing_closure_registers_nothing()
+    ensures { quiet_play asking asking_script ≡
+        line.NoHost 1 m (codes "Z") ∷
+        line.Applied 1 Load ∷
+        line.Fates 1 ∷
+        line.Instance 1 m 1 Done fate.Live ∷ [] }
 {
 }
