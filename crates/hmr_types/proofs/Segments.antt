@@ -97,5 +97,5 @@ walk_stops start from text n part NoMemory leads turn e = tt
 walk_stops start from text n part fault leads turn e = stopped start from text n part fault leads turn e
 
 -- with no part left, the whole leads to the segments that stand
-pub walk_ends : (start from ps : List (List ℕ)) (n : ℕ) → walk from (drop n ps) ≡ walk start ps → length ps ≤ n → walk start ps ≡ Ok from
-walk_ends start from ps n leads all = sym leads ∙ at_drop_all (walk from) ps n all
+pub walk_ends : (start from ps : List (List ℕ)) (n : ℕ) → walk from (drop n ps) ≡ walk start ps → n ≡ length ps → walk start ps ≡ Ok from
+walk_ends start from ps n leads all = sym leads ∙ at_drop_all (walk from) ps n (omega arith)

@@ -1,4 +1,4 @@
-use Rattle.std.proofs.Common.{rules, arith, ◌≡◌, map, sym, ap, ◌∙◌}
+use Rattle.std.proofs.Common.{rules, ◌≡◌, map, sym, ap, ◌∙◌}
 use Rattle.std.specs.Prelude.{◌==◌}
 use Rattle.std.proofs.lemmas.List.{length_push}
 use Rattle.std.proofs.lemmas.Iterator.Consumers.{YieldsList-turn, YieldsList-end}
@@ -31,7 +31,7 @@ pub returns : goal.returns
 returns c =
     let road = YieldsList-from_slice_split _ (λ b. b == slash) c.args.rest.now (search rules) (search rules) (search rules) (λ x b q k. search (rules, tests)) in
     let end = YieldsList-end road c.loop-part.yielded _ c.loop-part.yielded_by _ _ c.in-None.is c.next.ensures.steps in
-    let leads = walk_ends (map (λ s. s.now) c.args.from.items) (map (λ s. s.now) c.loop-part.segments.items) (parts c.args.rest.now) _ c.loop-part.invariant.leads (omega (arith, end.1)) in
+    let leads = walk_ends (map (λ s. s.now) c.args.from.items) (map (λ s. s.now) c.loop-part.segments.items) (parts c.args.rest.now) _ c.loop-part.invariant.leads end.1 in
     let meant : led_to (map (λ s. s.now) c.args.from.items) c.args.rest.now ≡ name_of (map (λ s. s.now) c.deref.result.now) =
     ap (λ r. r >>= name_of) leads ∙ ap (λ segments. name_of (map (λ s. s.now) segments)) (sym c.deref.ensures.value) in
     rw meant c.named.ensures
