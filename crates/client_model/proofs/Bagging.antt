@@ -6,14 +6,11 @@ use Rattle.hmr_types.specs.Syntax as syntax
 use Rattle.hmr_types.specs.Syntax.{OnceTree}
 use Rattle.hmr_types.specs.declared.analysis.Outcome.{Outcome}
 use Rattle.hmr_types.specs.declared.analysis.Outcome.TheVariants.{Good, Bad}
-use Rattle.hmr_types.specs.declared.words.PlanKind.{PlanKind}
-use Rattle.hmr_types.specs.declared.words.PlanKind.TheVariants.{Load, Reload, Update}
+use Rattle.hmr_types.specs.declared.words.PlanKind.TheVariants.{Update}
 use Rattle.hmr_types.specs.declared.words.FaultPlace.{FaultPlace}
 use Rattle.hmr_types.specs.declared.words.FaultPlace.TheVariants as place
-use Rattle.hmr_types.specs.declared.words.InstanceFate.TheVariants.{Reloaded, Pruned}
 use Rattle.hmr_types.specs.declared.out_line.OutLine.TheVariants as line
 use Rattle.hmr_types.specs.declared.words.InstanceFate.{InstanceFate}
-use Rattle.hmr_types.specs.declared.out_line.OutLine.{OutLine}
 use Rattle.core_model.specs.declared.message.ClientMsg.{ClientMsg}
 use Rattle.core_model.specs.declared.message.ClientMsg.TheVariants as request_is
 use Rattle.core_model.specs.declared.message.ServerMsg.{ServerMsg}
@@ -22,18 +19,18 @@ use Rattle.core_model.specs.Names.{Name, same_name, has, at, with_row, sorted}
 use Rattle.core_model.specs.Sources.{Text}
 use Rattle.core_model.specs.Page.{Plan, given_up}
 use Rattle.core_model.proofs.Tables.{at_without, at_with_row}
-use Rattle.client_model.specs.Language.{Language, Bag, Slots, Ran, Evaluated, Registered}
-use Rattle.client_model.specs.Instance.{Instance, Handler, Deed, code, host, numbered, places_of, places_from, live_at, is_held, disposes, prunes, accepts_own, accepts_dep}
+use Rattle.client_model.specs.Language.{Language, Bag, Ran, Evaluated, Registered}
+use Rattle.client_model.specs.Instance.{Instance, Handler, Deed, code, host, numbered, places_of, places_from, is_held, disposes, prunes}
 use Rattle.client_model.specs.Journal.{Journal, bag_after, bag_left, dropped, registered, no_host}
 use Rattle.client_model.specs.Runtime.{Runtime, Cause, Did, nothing, and_then, for_each, write, bag_or_empty, bag_of}
-use Rattle.client_model.specs.Running.{scope_of, run_deed, no_arguments, did_run, run_handler, run_of, run_each, drop_each, end_instance, give_up_bag}
+use Rattle.client_model.specs.Running.{no_arguments, did_run, run_each, drop_each, end_instance, give_up_bag}
 use Rattle.client_model.specs.Making.{Registry, Birth, is_displaced_by, new_handler, without_first, with_handler, with_host, register_once, make_unrun, make_evaluated, evaluate, register_in, make_run, make, has_failed_link}
-use Rattle.client_model.specs.Applying.{is_left_behind, fate_by, itself_in, listed_in, reload_instance, reload_all, give_up_all_bags, live_of, replace_instance, replaced_instances, end_old, births, run_own, run_dep, tell_boundary, tell_all, set_aside, drop_set_aside, finish, apply, prune_instance, leave_page, prune}
+use Rattle.client_model.specs.Applying.{live_of, finish, apply, prune_instance, leave_page, prune}
 use Rattle.client_model.specs.Answering.{begin, accept_line, pair_of, start_update, stage, stage_in, apply_in, write_cause, abort_in, done, refused, answered}
-use Rattle.client_model.specs.Linking.{new_names, number_after, number_in}
 use Rattle.client_model.specs.Requesting.{request, cause_by}
 use Rattle.client_model.specs.Expecting.{is_answer, request_place, answer_place}
 use Rattle.core_model.proofs.Naming.{true_same}
+use Rattle.client_model.proofs.Acts.{IsKept, before_finish, kept_applying, kept_pruning, kept_lines}
 use Rattle.client_model.specs.Taking.{take, runtime_after, journal_of, did_take, unchanged_by, stop, is_too_many, unexpected, is_stopped, Taking}
 
 -- what a client does leaves each name the bag that what happened left of the one before
@@ -46,14 +43,6 @@ Silent journal = (n : Name) (bag : Bag) → fold (bag_after n) bag journal ≡ b
 
 pub keeps_then : (r : Runtime) (did : Did) (next : Runtime → Did) → Keeps r did → ((s : Runtime) → Keeps s (next s)) → Keeps r (and_then did next)
 keeps_then r did next h k n = k did.0 n ∙ ap (λ bag. fold (bag_after n) bag (next did.0).1) (h n) ∙ sym (fold-append (bag_after n) (bag_of r n) did.1 (next did.0).1)
-
-pub keeps_each : {X : Type 0} (act : X → Runtime → Did) → ((x : X) (s : Runtime) → Keeps s (act x s)) → (xs : List X) (r : Runtime) → Keeps r (for_each act xs r)
-keeps_each act k [] r = λ n. refl
-keeps_each act k (x ∷ xs) r = keeps_then r (act x r) (for_each act xs) (k x r) (keeps_each act k xs)
-
-keeps_if : (b : Bool) (r : Runtime) (did other : Did) → Keeps r did → Keeps r other → Keeps r (if b then did else other)
-keeps_if true r did other h k = h
-keeps_if false r did other h k = k
 
 silent_then : (a b : Journal) → Silent a → Silent b → Silent (a ++ b)
 silent_then a b h k n bag = fold-append (bag_after n) bag a b ∙ k n (fold (bag_after n) bag a) ∙ h n bag
@@ -77,18 +66,6 @@ bag_put m bag bags n = ap bag_or_empty (at_with_row m bag bags n) ∙ some_bag (
 
 keeps_run : (spent_at : FaultPlace) (i : Instance) (spot : ℕ) (h : Handler) (left : Ran) (r : Runtime) → Keeps r (did_run spent_at i spot h left r)
 keeps_run spent_at i spot h left r n = bag_put i.name left.bag r.bags n
-
-module _ (language : Language) (spent_at : FaultPlace) (arguments : Runtime → Handler → List (Option Slots)) where
-  keeps_handler : (i : Instance) (spot : ℕ) (h : Option Handler) (r : Runtime) → Keeps r (run_handler language spent_at arguments i spot h r)
-  keeps_handler i spot None r = λ n. refl
-  keeps_handler i spot (Some h) r = keeps_run spent_at i spot h (run_deed language h.deed (scope_of language r i) (arguments r h) (bag_of r i.name)) r
-
-  keeps_of : (i : Option Instance) (spot : ℕ) (r : Runtime) → Keeps r (run_of language spent_at arguments i spot r)
-  keeps_of None spot r = λ n. refl
-  keeps_of (Some i) spot r = keeps_handler i spot _ r
-
-  pub keeps_run_each : (test : Handler → Bool) (k : ℕ) (r : Runtime) → Keeps r (run_each language spent_at arguments test k r)
-  keeps_run_each test k r = keeps_each (λ spot s. run_of language spent_at arguments (numbered s.instances k) spot s) (λ spot s. keeps_of (numbered s.instances k) spot s) (places_of test (numbered r.instances k)) r
 
 keeps_drop : (test : Handler → Bool) (k : ℕ) (r : Runtime) → Keeps r (drop_each test k r)
 keeps_drop test k r n = sym (drops_silent k (places_of test (numbered r.instances k)) n (bag_of r n))
@@ -121,96 +98,41 @@ all_silent k m (entry ∷ entries) g s = all_silent k m entries (register_once e
 keeps_evaluated : (b : Birth) (e : Evaluated) (g : Registry) (r : Runtime) → Silent g.journal → Keeps r (make_evaluated b (bag_of r b.name) e g r)
 keeps_evaluated b e g r s n = bag_put b.name e.bag r.bags n ∙ sym (s n _)
 
+keeps_if : (b : Bool) (r : Runtime) (did other : Did) → Keeps r did → Keeps r other → Keeps r (if b then did else other)
+keeps_if true r did other h k = h
+keeps_if false r did other h k = k
+
 keeps_make : (language : Language) (b : Birth) (r : Runtime) → Keeps r (make language b r)
 keeps_make language b r = keeps_if (has_failed_link r.instances b.links) r (make_unrun b r) (make_run language b r) (λ n. refl)
   (keeps_evaluated b (evaluate language b r) (register_in b (evaluate language b r) r) r (all_silent b.number b.name (evaluate language b r).registered (record { handlers = []; shelf = r.shelf; journal = [] }) (λ n bag. refl)))
 
--- Plans.
-
-keeps_reload : (i : Instance) (r : Runtime) → Keeps r (reload_instance i r)
-keeps_reload i r = keeps_then r (drop_each is_held i.number r) (end_instance Reloaded i.number i.name) (keeps_drop is_held i.number r) (keeps_end Reloaded i.number i.name)
-
-keeps_reload_all : (r : Runtime) → Keeps r (reload_all r)
-keeps_reload_all r = keeps_then r (for_each reload_instance (live_of (λ n. true) r) r) give_up_all_bags (keeps_each reload_instance keeps_reload (live_of (λ n. true) r) r) (λ s n. refl)
+bags_kept : IsKept Keeps
+bags_kept = record {
+  nothing = λ r n. refl;
+  after = keeps_then;
+  run = keeps_run;
+  drop = keeps_drop;
+  end = keeps_end;
+  give_up = keeps_give_up;
+  give_up_all = λ r n. refl;
+  made = keeps_make;
+  wrote = λ l r n. refl }
 
 module _ (language : Language) where
-  keeps_replace : (number : Name → Option ℕ) (i : Instance) (r : Runtime) → Keeps r (replace_instance language number i r)
-  keeps_replace number i r =
-      keeps_then r (and_then (run_each language place.Dispose no_arguments disposes i.number r) (drop_each is_left_behind i.number)) (end_instance (fate_by (number i.name)) i.number i.name)
-      (keeps_then r (run_each language place.Dispose no_arguments disposes i.number r) (drop_each is_left_behind i.number)
-        (keeps_run_each language place.Dispose no_arguments disposes i.number r) (keeps_drop is_left_behind i.number))
-      (keeps_end (fate_by (number i.name)) i.number i.name)
-
-  keeps_end_old : (kind : PlanKind) (p : Plan) (r : Runtime) → Keeps r (end_old kind language p r)
-  keeps_end_old Load p r = λ n. refl
-  keeps_end_old Reload p r = keeps_reload_all r
-  keeps_end_old Update p r = keeps_each (replace_instance language (number_after p r)) (keeps_replace (number_after p r)) (replaced_instances p r) r
-
-  keeps_own : (k : Option ℕ) (n : Name) (r : Runtime) → Keeps r (run_own language k n r)
-  keeps_own None n r = λ m. refl
-  keeps_own (Some k) n r = keeps_run_each language place.Own (itself_in n) accepts_own k r
-
-  keeps_dep : (k : Option ℕ) (n : Name) (r : Runtime) → Keeps r (run_dep language k n r)
-  keeps_dep None n r = λ m. refl
-  keeps_dep (Some k) n r = keeps_run_each language place.Dep (listed_in n) (accepts_dep n) k r
-
-  keeps_tell : (p : Plan) (before : Runtime) (pair : Name × Name) (r : Runtime) → Keeps r (tell_boundary language p before pair r)
-  keeps_tell p before pair r =
-      let own : Did = run_own language (number_in (live_at before.instances pair.1)) pair.1 r in
-      let dep : Did = run_dep language (number_in (live_at r.instances pair.0)) pair.1 r in
-      keeps_if (has (new_names p before) pair.1) r (if same_name pair.0 pair.1 then own else dep) (if has before.page.forced pair.1 then dep else nothing r)
-      (keeps_if (same_name pair.0 pair.1) r own dep (keeps_own (number_in (live_at before.instances pair.1)) pair.1 r) (keeps_dep (number_in (live_at r.instances pair.0)) pair.1 r))
-      (keeps_if (has before.page.forced pair.1) r dep (nothing r) (keeps_dep (number_in (live_at r.instances pair.0)) pair.1 r) (λ n. refl))
-
-  keeps_tell_all : (kind : PlanKind) (p : Plan) (before r : Runtime) → Keeps r (tell_all kind language p before r)
-  keeps_tell_all Load p before r = λ n. refl
-  keeps_tell_all Reload p before r = λ n. refl
-  keeps_tell_all Update p before r = keeps_each (tell_boundary language p before) (keeps_tell p before) before.pairs r
-
-  keeps_set_aside : (p : Plan) (before r : Runtime) → Keeps r (drop_set_aside p before r)
-  keeps_set_aside p before r = keeps_each (λ i s. drop_each is_held i.number s) (λ i s. keeps_drop is_held i.number s) (set_aside p.kind p before) r
-
   keeps_apply : (p : Plan) (r : Runtime) → Keeps r (apply language p r)
-  keeps_apply p r =
-      let ended : Did = end_old p.kind language p r in
-      let making : Runtime → Did = for_each (make language) (births (new_names p r) p r) in
-      let telling : Runtime → Did = tell_all p.kind language p r in
-      let dropping : Runtime → Did = drop_set_aside p r in
-      keeps_then r (and_then (and_then (and_then ended making) telling) dropping) (finish p)
-      (keeps_then r (and_then (and_then ended making) telling) dropping
-        (keeps_then r (and_then ended making) telling
-          (keeps_then r ended making (keeps_end_old p.kind p r) (keeps_each (make language) (keeps_make language) (births (new_names p r) p r)))
-          (keeps_tell_all p.kind p r))
-        (keeps_set_aside p r))
-      (λ s n. refl)
-
-  keeps_prune_instance : (i : Instance) (r : Runtime) → Keeps r (prune_instance language i r)
-  keeps_prune_instance i r =
-      let disposed : Did = run_each language place.Dispose no_arguments disposes i.number r in
-      let pruning : Runtime → Did = run_each language place.Prune no_arguments prunes i.number in
-      let dropping : Runtime → Did = drop_each is_held i.number in
-      keeps_then r (and_then (and_then (and_then disposed pruning) dropping) (give_up_bag i.name)) (end_instance Pruned i.number i.name)
-      (keeps_then r (and_then (and_then disposed pruning) dropping) (give_up_bag i.name)
-        (keeps_then r (and_then disposed pruning) dropping
-          (keeps_then r disposed pruning (keeps_run_each language place.Dispose no_arguments disposes i.number r) (keeps_run_each language place.Prune no_arguments prunes i.number))
-          (keeps_drop is_held i.number))
-        (keeps_give_up i.name))
-      (keeps_end Pruned i.number i.name)
+  keeps_apply p r = keeps_then r (before_finish Keeps bags_kept language p r) (finish p) (kept_applying Keeps bags_kept language p r) (λ s n. refl)
 
   keeps_prune : (names : List Name) (r : Runtime) → Keeps r (prune language names r)
-  keeps_prune names r = keeps_then r (for_each (prune_instance language) (live_of (has names) r) r) (leave_page names) (keeps_each (prune_instance language) keeps_prune_instance (live_of (has names) r) r) (λ s n. refl)
+  keeps_prune names r = keeps_then r (for_each (prune_instance language) (live_of (has names) r) r) (leave_page names) (kept_pruning Keeps bags_kept language names r) (λ s n. refl)
 
   -- Answers.
-
-  keeps_lines : {X : Type 0} (l : X → Runtime → OutLine) (xs : List X) (r : Runtime) → Keeps r (for_each (λ x s. write (l x s) s) xs r)
-  keeps_lines l xs r = keeps_each (λ x s. write (l x s) s) (λ x s n. refl) xs r
 
   keeps_update : (replaced : List Name) (pairs : List (Name × Name)) (r : Runtime) → Keeps r (start_update replaced pairs r)
   keeps_update replaced pairs r =
       let first : Did = write (line.Update r.client (sorted replaced)) r in
       let telling : Runtime → Did = for_each (λ pair s. write (accept_line s.client pair) s) pairs in
       keeps_then r (and_then first telling) (λ s. nothing (begin Update replaced pairs s))
-      (keeps_then r first telling (λ n. refl) (keeps_lines (λ pair s. accept_line s.client pair) pairs))
+      (keeps_then r first telling (λ n. refl) (kept_lines Keeps bags_kept (λ pair s. accept_line s.client pair) pairs))
       (λ s n. refl)
 
   keeps_stage : (o : Outcome) (p : Plan) (m : Name) (v : ℕ) (t : Text) (r : Runtime) → Keeps r (stage o p m v t r)
