@@ -8,3 +8,4 @@ pub mod Pairing
 pub mod Planning
 pub mod Loading
 pub mod Replaying
+pub mod Clients

@@ -9,3 +9,4 @@ pub mod SmallPages
 pub mod UpdateScripts
 pub mod FetchScripts
 pub mod HandlerScripts
+pub mod Ties
