@@ -8,4 +8,5 @@
 
 pub mod fetch_scripts;
 pub mod handler_scripts;
+pub mod laws;
 pub mod update_scripts;
