@@ -1,5 +1,16 @@
 pub mod Names
 pub mod Paths
 pub mod Rounds
+pub mod LeastPath
 pub mod Sources
 pub mod FreshLoad
+pub mod View
+pub mod Spread
+pub mod Page
+pub mod Client
+pub mod Asking
+pub mod Requests
+pub mod Core
+pub mod Transcript
+pub mod Examples
+pub mod Exchange

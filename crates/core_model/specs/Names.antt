@@ -8,6 +8,7 @@ use Rattle.std.specs.Cmp.Lexicographic.{pointwise, slice_cmp}
 abbrev pub Name : Type 0
 Name = List ℕ
 
+-- the names are the same
 abbrev pub same_name : Name → Name → Bool
 same_name = pointwise nat_eq
 
@@ -28,6 +29,11 @@ without n rows = filter (λ row. not (same_name row.0 n)) rows
 abbrev pub with_row : {X : Type 0} → Name → X → List (Name × X) → List (Name × X)
 with_row n x rows = (n, x) ∷ without n rows
 
+-- the entries of other names than these
+abbrev pub without_all : {X : Type 0} → List Name → List (Name × X) → List (Name × X)
+without_all names rows = filter (λ row. not (has names row.0)) rows
+
+-- the names of the entries
 abbrev pub names_of : {X : Type 0} → List (Name × X) → List Name
 names_of rows = map (λ row. row.0) rows
 
@@ -36,6 +42,7 @@ abbrev pub with_entry : {X : Type 0} → Name → Option X → List (Name × X) 
 with_entry n None rows = rows
 with_entry n (Some x) rows = (n, x) ∷ rows
 
+-- what get has for the names of a list, in its order
 abbrev pub collect : {X : Type 0} → (Name → Option X) → List Name → List (Name × X)
 collect get [] = []
 collect get (n ∷ names) = with_entry n (get n) (collect get names)
@@ -49,3 +56,8 @@ put_name n (m ∷ names) = if same_name n m then m ∷ names else (if is_lt (sli
 abbrev pub sorted : List Name → List Name
 sorted [] = []
 sorted (n ∷ names) = put_name n (sorted names)
+
+-- the first of a list, if there is one
+abbrev pub first_of : {X : Type 0} → List X → Option X
+first_of [] = None
+first_of (x ∷ xs) = Some x

@@ -13,6 +13,7 @@ abbrev pub on_new : List Name → List Name → List Name → List Name
 on_new [] stop more = stop
 on_new (x ∷ xs) stop more = more
 
+-- so many rounds over the names that are left
 abbrev pub rounds : (Name → Name → Bool) → ℕ → List Name → List Name → List Name
 rounds edge zero left known = known
 rounds edge (suc k) left known = on_new (filter (touched edge known) left) known (rounds edge k (filter (λ m. not (touched edge known m)) left) (known ++ filter (touched edge known) left))

@@ -1,0 +1,4 @@
+pub mod Walking
+pub mod Acts
+pub mod Bagging
+pub mod Staying

@@ -1,0 +1,15 @@
+pub mod Language
+pub mod Instance
+pub mod Journal
+pub mod Runtime
+pub mod Order
+pub mod Linking
+pub mod Running
+pub mod Making
+pub mod Applying
+pub mod Requesting
+pub mod Answering
+pub mod Expecting
+pub mod Taking
+pub mod Stale
+pub mod Printing

@@ -1,0 +1,11 @@
+pub mod Naming
+pub mod Reaching
+pub mod LeastPaths
+pub mod Tables
+pub mod Views
+pub mod Spreading
+pub mod Pairing
+pub mod Planning
+pub mod Loading
+pub mod Replaying
+pub mod Clients

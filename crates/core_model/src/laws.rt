@@ -1,0 +1,91 @@
+// Laws of the definitions: what is computed is what the relations say.
+ghost use Rattle.std.specs.Prelude.{◌≡◌, ◌↔◌, Bool, true, List, [], ◌∷◌, ◌++◌, None, IfSome, IfNone, Contains, if◌then◌else◌};
+ghost use Rattle.core_model.specs.Names.{Name, has, at, names_of};
+ghost use Rattle.core_model.specs.Paths.{Reaches};
+ghost use Rattle.core_model.specs.Rounds.{IsOver, reached_of};
+ghost use Rattle.core_model.specs.View.{View, imports, IsDropped, dropped_of};
+ghost use Rattle.core_model.specs.Spread.{IsReason, reason_of, IsReloadWanted, IsReplaced, replaced_of, AreIn, IsPair, pairs_of};
+ghost use Rattle.core_model.specs.Page.{Plan, new_plan, plan_imports, met_of, new_entry, new_view};
+ghost use Rattle.core_model.specs.FreshLoad as fresh;
+ghost use Rattle.core_model.specs.FreshLoad.{Served, reached_by, version_in, fresh_table};
+ghost use Rattle.core_model.specs.Sources.{sources_after};
+ghost use Rattle.core_model.specs.Core.{Event, step, core_after, replay, changes_of};
+ghost use Rattle.hmr_types.specs.declared.words.PlanKind.TheVariants.{Update};
+ghost use Rattle.core_model.specs.LeastPath.{IsLeastPath, least_path_of};
+
+/// As many rounds as there are names give exactly what some list of names reaches by edges.
+pub fn rounds_reach()
+    ensures { (edge : Name → Name → Bool) (names starts : List Name) → IsOver edge names → (m : Name) → (has (reached_of edge names starts) m ≡ true) ↔ Reaches edge starts m }
+{}
+
+/// There is at most one least path.
+pub fn one_least_path()
+    ensures { (edge : Name → Name → Bool) (starts : List Name) (bad : Name → Bool) (p q : List Name) → IsLeastPath edge starts bad p → IsLeastPath edge starts bad q → p ≡ q }
+{}
+
+/// The computed path is the least with a bad end, and where none is computed no path has a bad end.
+pub fn least_path_is_computed()
+    ensures some { (edge : Name → Name → Bool) (names starts : List Name) (bad : Name → Bool) → IsOver edge names → IfSome (least_path_of edge names starts bad) (IsLeastPath edge starts bad) }
+    ensures none { (edge : Name → Name → Bool) (names starts : List Name) (bad : Name → Bool) → IsOver edge names → IfNone (least_path_of edge names starts bad) ((m : Name) → Reaches edge starts m → bad m ≡ true → ⊥) }
+{}
+
+/// The computed dropped names are the modules of the view that no list of imports from a root reaches.
+pub fn dropped_is_computed()
+    ensures { (view : View) (roots : List Name) (n : Name) → Contains (dropped_of view roots) n ↔ IsDropped view roots n }
+{}
+
+/// A module that is no root, and that only dropped modules import, is dropped.
+pub fn dropped_is_closed()
+    ensures { (view : View) (roots : List Name) (n : Name) → Contains (names_of view) n → (Contains roots n → ⊥) → ((m : Name) → imports view m n ≡ true → IsDropped view roots m) → IsDropped view roots n }
+{}
+
+/// The computed reason is the least unaccepted path that ends badly, and where none is computed no
+/// reload is wanted.
+pub fn reason_is_computed()
+    ensures some { (view : View) (roots changed forced : List Name) → IfSome (reason_of view roots changed forced) (IsReason view roots changed forced) }
+    ensures none { (view : View) (roots changed forced : List Name) → IfNone (reason_of view roots changed forced) (IsReloadWanted view roots changed forced → ⊥) }
+{}
+
+/// The computed names are those that are changed, or that a change is passed to.
+pub fn replaced_is_computed()
+    ensures { (view : View) (changed forced : List Name) (m : Name) → Contains (replaced_of view changed forced) m ↔ IsReplaced view changed forced m }
+{}
+
+/// The computed pairs are the pairs: a replaced module that accepts itself, and a module that stays and
+/// accepts one that is replaced or forced.
+pub fn pairs_are_computed()
+    ensures { (view : View) (changed forced : List Name) → AreIn changed view → AreIn forced view → (m n : Name) → Contains (pairs_of view (replaced_of view changed forced) forced) (m, n) ↔ IsPair view changed forced m n }
+{}
+
+/// The computed names are those that a plan's walk meets.
+pub fn met_is_computed()
+    ensures { (roots : List Name) (p : Plan) (view : View) (m : Name) → (has (met_of roots p view) m ≡ true) ↔ Reaches (plan_imports p view) roots m }
+{}
+
+/// What the view that a plan makes has at a name: the plan's entry where the walk meets it, and else
+/// what becomes of it unmet.
+pub fn new_view_is_by_name()
+    ensures { (roots : List Name) (p : Plan) (view : View) (n : Name) → at (new_view roots p view) n ≡ new_entry (has (met_of roots p view) n) p view n }
+{}
+
+/// An update that replaces nothing, and for which nothing was fetched, leaves the view as it was.
+pub fn empty_update_changes_nothing()
+    ensures { (roots : List Name) (view : View) (n : Name) → at (new_view roots (new_plan Update []) view) n ≡ at view n }
+{}
+
+/// A fresh load has exactly what imports of served sources reach from the roots, each at its served
+/// version.
+pub fn fresh_load_is_what_is_reached()
+    ensures reached { (served : Served) (roots : List Name) (m : Name) → (has (reached_by served roots) m ≡ true) ↔ Reaches (fresh.imports served) roots m }
+    ensures table { (served : Served) (roots : List Name) (n : Name) → at (fresh_table served roots) n ≡ (if has (reached_by served roots) n then version_in (at served n) else None) }
+{}
+
+/// The replay of a list with one event more is the step of the replay.
+pub fn replay_of_one_more_is_a_step()
+    ensures { (roots : List Name) (events : List Event) (event : Event) → replay roots (events ++ event ∷ []) ≡ (step roots (replay roots events) event).0 }
+{}
+
+/// The core's sources look back at the edits and results alone.
+pub fn sources_are_of_the_changes()
+    ensures { (roots : List Name) (past : List Event) → (core_after roots past).sources ≡ sources_after (changes_of past) }
+{}

@@ -1,0 +1,12 @@
+pub mod CaughtUp
+pub mod World
+pub mod Editing
+pub mod Turning
+pub mod Steps
+pub mod Playing
+pub mod SmallLanguage
+pub mod SmallPages
+pub mod UpdateScripts
+pub mod FetchScripts
+pub mod HandlerScripts
+pub mod Ties

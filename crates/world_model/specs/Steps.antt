@@ -1,0 +1,38 @@
+-- The world's step, and runs of steps.
+use Rattle.std.specs.Prelude.{ℕ, List, [], ◌∷◌, ◌++◌, map, find}
+use Rattle.hmr_types.specs.declared.out_line.OutLine.{OutLine}
+use Rattle.hmr_types.specs.declared.out_line.OutLine.TheVariants as line
+use Rattle.core_model.specs.Names.{Name}
+use Rattle.core_model.specs.Sources.{Text, edit}
+use Rattle.core_model.specs.FreshLoad.{FreshLoad, fresh_load}
+use Rattle.core_model.specs.Core.{change, connect, step, client_at}
+use Rattle.client_model.specs.Language.{Language, links_of}
+use Rattle.client_model.specs.Printing.{show_lines, value_lines, fate_lines}
+use Rattle.world_model.specs.World.{World, Step, edits, settles, opens, turn, closes, show, values, fates, fresh, Stepped, stepped, new_world}
+use Rattle.world_model.specs.Editing.{edited_by, is_job, settle_job}
+use Rattle.world_model.specs.Turning.{turn_of, open_by, close_of, shown, state_in}
+
+-- an import that isn't exported
+abbrev pub unlinked_line : Name × Name × Name → OutLine
+unlinked_line edge = line.Unlinked edge.0 edge.1 edge.2
+
+-- the lines of a fresh load
+abbrev pub fresh_lines : FreshLoad → List OutLine
+fresh_lines load = line.Fresh ∷ (map (λ row. line.Module row.0 row.1) load.table ++ (map line.Missing load.missing ++ map unlinked_line load.unlinked))
+
+-- what a step makes of the world
+abbrev pub world_step : Language → List Name → List (List (Text × ℕ)) → World → Step → Stepped
+world_step language roots shelves w (edits n t) = edited_by n t w (step roots w.core (change (edit n t)))
+world_step language roots shelves w (settles n v) = settle_job language roots n v w (find (is_job n v) w.issued)
+world_step language roots shelves w opens = open_by language shelves w (step roots w.core connect)
+world_step language roots shelves w (turn i) = turn_of language roots i w (client_at w.clients i)
+world_step language roots shelves w (closes i) = close_of roots i w (client_at w.clients i)
+world_step language roots shelves w (show i) = shown i w (λ r. show_lines (state_in roots w i r) r) (client_at w.clients i)
+world_step language roots shelves w (values i) = shown i w value_lines (client_at w.clients i)
+world_step language roots shelves w (fates i) = shown i w fate_lines (client_at w.clients i)
+world_step language roots shelves w fresh = stepped w (fresh_lines (fresh_load (links_of language) w.core.sources.served roots))
+
+-- what the steps so far make, the newest first
+abbrev pub world_after : Language → List Name → List (List (Text × ℕ)) → List Step → World
+world_after language roots shelves [] = new_world
+world_after language roots shelves (s ∷ past) = (world_step language roots shelves (world_after language roots shelves past) s).world
