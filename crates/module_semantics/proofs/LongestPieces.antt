@@ -8,7 +8,6 @@ use Rattle.module_semantics.specs.Pieces.{Piece, blank, line, block, word, nough
 use Rattle.module_semantics.proofs.PiecesLex.{both}
 use Rattle.module_semantics.proofs.LexedPieces.{bind_ok, and_yes, run_of, digit_small}
 use Rattle.module_semantics.proofs.PiecesLex.{front_reads, digit_not}
-
 use Rattle.module_semantics.proofs.LexedPieces.{no_second, none_pair, number_made}
 use Rattle.std.proofs.lemmas.List.{length-append, append_assoc}
 

@@ -1,7 +1,7 @@
 -- The first fault of a text: pieces by the rules, and then something that is wrong.
-use Rattle.std.specs.Prelude.{◌≡◌, ℕ, suc, ◌+◌, ◌-◌, ◌<◌, ◌≤◌, List, ◌∷◌, ◌++◌, length, Bool, true, false, not, ◌⊎◌, ◌==◌, Some, None}
+use Rattle.std.specs.Prelude.{◌≡◌, ℕ, suc, ◌+◌, ◌-◌, ◌<◌, ◌≤◌, List, ◌∷◌, ◌++◌, length, true, false, ◌⊎◌, ◌==◌, Some, None}
 use Rattle.module_semantics.specs.Token.{Token}
-use Rattle.module_semantics.specs.Bytes.{is_blank, is_digit, is_name_start, is_quote, is_line_end, not_line_end, is_escape}
+use Rattle.module_semantics.specs.Bytes.{is_blank, is_digit, is_name_start, is_quote, not_line_end, is_escape}
 use Rattle.module_semantics.specs.Lexing.{begins, single, barred}
 use Rattle.module_semantics.specs.Pieces.{Part, spelled_parts, parts_size, Piece, first, more, token_of, IsPiece, IsLongest, value, all, opens, unclosed, are_inside, spelled_all, Fit, last_of, size_all, tokens_from}
 use Rattle.module_semantics.specs.declared.tokens.After.{After}

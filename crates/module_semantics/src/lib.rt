@@ -9,4 +9,6 @@
 
 mod tokens;
 
-pub use tokens::{After, LexFault, LexKind, faults_are_the_rules, lexing_is_the_pieces, none_is_longer};
+pub use tokens::{
+    After, LexFault, LexKind, faults_are_the_rules, lexing_is_the_pieces, none_is_longer,
+};

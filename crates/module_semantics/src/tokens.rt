@@ -52,8 +52,7 @@ pub enum After {
 pub fn lexing_is_the_pieces()
     ensures same { (bytes : List ℕ) (ts : List Lexeme) → (lexing bytes ≡ Ok ts) ↔ IsLexing bytes ts }
     ensures one { (bytes : List ℕ) (ts us : List Lexeme) → IsLexing bytes ts → IsLexing bytes us → ts ≡ us }
-{
-}
+{}
 
 /// Lexing gives this fault exactly where pieces by the rules stand before its place, and the rules
 /// call what stands there wrong; so a text has one first fault, or tokens.
@@ -61,11 +60,9 @@ pub fn faults_are_the_rules()
     ensures same { (bytes : List ℕ) (f : LexFault) → (lexing bytes ≡ Err f) ↔ IsFirstLexFault bytes f }
     ensures one { (bytes : List ℕ) (f g : LexFault) → IsFirstLexFault bytes f → IsFirstLexFault bytes g → f ≡ g }
     ensures apart { (bytes : List ℕ) (ts : List Lexeme) (f : LexFault) → IsLexing bytes ts → IsFirstLexFault bytes f → ⊥ }
-{
-}
+{}
 
 /// No piece by the rules that begins as a longest piece does is longer than it.
 pub fn none_is_longer()
     ensures longest { (p q : Piece) (k j : List ℕ) → IsPiece p → IsLongest p k → IsPiece q → spelled q j ≡ spelled p k → size q ≤ size p }
-{
-}
+{}
