@@ -1,6 +1,12 @@
+pub mod Choices
 pub mod FailedLex
 pub mod FaultedPieces
+pub mod KindLists
+pub mod Leaves
 pub mod LexExamples
 pub mod LexedPieces
 pub mod LongestPieces
 pub mod PiecesLex
+pub mod Parts
+pub mod Sequences
+pub mod Steps

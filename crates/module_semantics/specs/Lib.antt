@@ -1,7 +1,13 @@
 pub mod Bytes
+pub mod Kinds
+pub mod Grammar
 pub mod LexFaults
 pub mod Lexing
 pub mod Lines
 pub mod Pieces
+pub mod Raw
+pub mod Reading
+pub mod Readers
+pub mod Spelling
 pub mod Steps
 pub mod Token

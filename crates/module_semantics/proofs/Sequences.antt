@@ -1,0 +1,156 @@
+-- One part after another.
+use Rattle.std.proofs.Common.{◌≡◌, ℕ, zero, suc, ◌≤◌, max, List, [], ◌∷◌, ◌++◌, length, Bool, true, false, cond, ◌&&◌, ◌⊎◌, inl, inr, Option, Some, None, Result, Ok, Err, refl, sym, ap, ◌∙◌, subst, arith}
+use Rattle.std.proofs.lemmas.List.{append-nil, append_assoc}
+use Rattle.module_semantics.specs.Steps.{◌>>=◌}
+use Rattle.module_semantics.specs.Token.{LineToken}
+use Rattle.module_semantics.specs.Readers.{GrammarFault, unexpected, Reader, next_in, ◌&◌}
+use Rattle.module_semantics.specs.Spelling.{Spell, ◌>>◌, ◌▸◌}
+use Rattle.module_semantics.proofs.Steps.{ok_parts, bind_ok, bind_err, bound, bound_err, bind_some, bound_some, next, next_after}
+use Rattle.module_semantics.proofs.KindLists.{disjoint, next_apart, next_left, next_right, next_neither}
+use Rattle.module_semantics.proofs.Parts.{Fresh, Near, near_after, fresh_more, Free, Stable, Part, Begun, Default, Starts, Reads}
+
+abbrev pub firsts_of : Bool → List ℕ → List ℕ → List ℕ
+firsts_of true a b = a ++ b
+firsts_of false a b = a
+
+abbrev pub follow_of : Bool → List ℕ → List ℕ → List ℕ
+follow_of true a b = a ++ b
+follow_of false a b = b
+
+abbrev pub seq : {D E A B : Type 0} → Part D A → Part E B → Part (D × E) (A × B)
+seq P Q = record { spelt = λ d. P.spelt d.0 ▸ Q.spelt d.1; value = λ d. (P.value d.0, Q.value d.1); depth = λ d. max (P.depth d.0) (Q.depth d.1) }
+
+pub then_free : (f g : Spell) → Free f → Free g → Free (f ▸ g)
+then_free f g a b ts r h =
+    let m = bind_some (f ts) g r h in
+    let x = a ts m.0 m.1 in
+    let y = b m.0 r m.2 in (
+      x.0 ++ y.0,
+      x.1 ∙ ap (λ k. x.0 ++ k) y.1 ∙ sym (append_assoc x.0 y.0 r),
+      λ s near. subst (λ k. (f k >> g) ≡ Some s) (sym (append_assoc x.0 y.0 s))
+          (bound_some (f (x.0 ++ (y.0 ++ s))) g (y.0 ++ s) (Some s) (x.2 (y.0 ++ s) (subst (λ k. Near (y.0 ++ s) k) (sym y.1) (near_after y.0 r s near))) (y.2 s near)),
+    )
+
+pub then_stable : {A B : Type 0} (f g : Reader A) (p q : A → Reader B) → Stable f g → ((x : A) → Stable (p x) (q x)) → Stable (λ ts. f ts >>= λ x. p x.0 x.1) (λ ts. g ts >>= λ x. q x.0 x.1)
+then_stable f g p q fg pq = record {
+  reads = λ ts y r h.
+      let one = bind_ok (f ts) (λ x. p x.0 x.1) (y, r) h in
+      let a = fg.reads ts one.0.0 one.0.1 one.1 in
+      let b = (pq one.0.0).reads one.0.1 y r one.2 in (
+        a.0 ++ b.0,
+        a.1 ∙ ap (λ k. a.0 ++ k) b.1 ∙ sym (append_assoc a.0 b.0 r),
+        λ s same. subst (λ k. (g k >>= λ x. q x.0 x.1) ≡ Ok (y, s)) (sym (append_assoc a.0 b.0 s))
+            (bound (g (a.0 ++ (b.0 ++ s))) (λ x. q x.0 x.1) (one.0.0, b.0 ++ s) (Ok (y, s)) (a.2 (b.0 ++ s) (next_after b.0 r s same ∙ sym (ap next b.1))) (b.2 s same)),
+      );
+  faults = λ ts n h. elim (bind_err (f ts) (λ x. p x.0 x.1) (unexpected n) h) [
+    | inl w ↦
+        let a = fg.faults ts n w in
+        (a.0, a.1, a.2, a.3, λ s same. bound_err (g (a.0 ++ s)) (λ x. q x.0 x.1) (unexpected (length s)) (a.4 s same))
+    | inr one ↦
+        let a = fg.reads ts one.0.0 one.0.1 one.1 in
+        let b = (pq one.0.0).faults one.0.1 n one.2 in (
+          a.0 ++ b.0,
+          b.1,
+          a.1 ∙ ap (λ k. a.0 ++ k) b.2 ∙ sym (append_assoc a.0 b.0 b.1),
+          b.3,
+          λ s same. subst (λ k. (g k >>= λ x. q x.0 x.1) ≡ Err (unexpected (length s))) (sym (append_assoc a.0 b.0 s))
+              (bound (g (a.0 ++ (b.0 ++ s))) (λ x. q x.0 x.1) (one.0.0, b.0 ++ s) (Err (unexpected (length s))) (a.2 (b.0 ++ s) (next_after b.0 b.1 s same ∙ sym (ap next b.2))) (b.4 s same)),
+        )
+  ];
+}
+
+pub ok_stable : {A : Type 0} (x : A) → Stable (λ ts. Ok (x, ts)) (λ ts. Ok (x, ts))
+ok_stable x = record {
+  reads = λ ts y r h. let e = ok_parts x y ts r h in ([], e.0, λ s same. ap (λ z. Ok (z, s)) e.1);
+  faults = λ ts n h. absurd cc;
+}
+
+default_both : {D E : Type 0} (f : D → Spell) (g : E → Spell) → Default f → Default g → Default (λ (d : D × E). f d.0 ▸ g d.1)
+default_both f g a b = record {
+  by = (a.by, b.by);
+  text = a.text ++ b.text;
+  fresh = fresh_more a.text b.text a.fresh b.fresh;
+  spells = λ s fresh. subst (λ k. (f a.by k >> g b.by) ≡ Some s) (sym (append_assoc a.text b.text s))
+      (bound_some (f a.by (a.text ++ (b.text ++ s))) (g b.by) (b.text ++ s) (Some s) (a.spells (b.text ++ s) (fresh_more b.text s b.fresh fresh)) (b.spells s fresh));
+}
+
+-- what follows the first part is none of the tokens at which it goes on
+link : (null : Bool) (fs ks js : List ℕ) (m r : List LineToken) → disjoint fs ks ≡ true → Starts fs null m r → next_in (follow_of null ks js) r ≡ false → (next_in ks m ≡ false) × (next_in js r ≡ false)
+link false fs ks js m r apart starts stop = (next_apart fs ks m apart starts, stop)
+link true fs ks js m r apart (inl starts) stop = (next_apart fs ks m apart starts, (next_neither ks js r stop).1)
+link true fs ks js m r apart (inr same) stop = let w = next_neither ks js r stop in (ap (next_in ks) same ∙ w.0, w.1)
+
+seq_starts : (null null' : Bool) (fs fs' : List ℕ) (ts m r : List LineToken) → Starts fs null ts m → Starts fs' null' m r → Starts (firsts_of null fs fs') (null && null') ts r
+seq_starts false null' fs fs' ts m r a b = a
+seq_starts true false fs fs' ts m r (inl a) b = next_left fs fs' ts a
+seq_starts true false fs fs' ts m r (inr a) b = next_right fs fs' ts (ap (next_in fs') a ∙ b)
+seq_starts true true fs fs' ts m r (inl a) b = inl (next_left fs fs' ts a)
+seq_starts true true fs fs' ts m r (inr a) (inl b) = inl (next_right fs fs' ts (ap (next_in fs') a ∙ b))
+seq_starts true true fs fs' ts m r (inr a) (inr b) = inr (a ∙ b)
+
+seq_begun : {D E A B : Type 0} (fs ks fs' ks' : List ℕ) (null null' : Bool) (n : ℕ) (P : Part D A) (Q : Part E B) (f f' : Reader A) (g g' : Reader B)
+    → Reads fs null ks n P f f' → Reads fs' null' ks' n Q g g' → (ts : List LineToken) (m : ℕ) → (f & g) ts ≡ Err (unexpected m) → Begun (seq P Q) ts m
+seq_begun fs ks fs' ks' null null' n P Q f f' g g' a b ts m h = elim (bind_err (f ts) (λ x. g x.1 >>= λ y. Ok ((x.0, y.0), y.1)) (unexpected m) h) [
+  | inl w ↦
+      let d = a.begun ts m w in
+      let c = b.some in
+      record {
+        before = d.before;
+        rest = d.rest;
+        more = d.more ++ c.text;
+        by = (d.by, c.by);
+        split = d.split;
+        left = d.left;
+        fresh = fresh_more d.more c.text d.fresh c.fresh;
+        spells = λ s fresh. subst (λ k. (P.spelt d.by (d.before ++ k) >> Q.spelt c.by) ≡ Some s) (sym (append_assoc d.more c.text s))
+            (bound_some (P.spelt d.by (d.before ++ (d.more ++ (c.text ++ s)))) (Q.spelt c.by) (c.text ++ s) (Some s) (d.spells (c.text ++ s) (fresh_more c.text s c.fresh fresh)) (c.spells s fresh));
+      }
+  | inr one ↦ elim (bind_err (g one.0.1) (λ y. Ok ((one.0.0, y.0), y.1)) (unexpected m) one.2) [
+    | inl w ↦
+        let d = a.whole ts one.0.0 one.0.1 one.1 in
+        let e = b.begun one.0.1 m w in
+        let v = a.free d.0 d.3 ts one.0.1 d.1 in
+        record {
+          before = v.0 ++ e.before;
+          rest = e.rest;
+          more = e.more;
+          by = (d.0, e.by);
+          split = v.1 ∙ ap (λ k. v.0 ++ k) e.split ∙ sym (append_assoc v.0 e.before e.rest);
+          left = e.left;
+          fresh = e.fresh;
+          spells = λ s fresh. subst (λ k. (P.spelt d.0 k >> Q.spelt e.by) ≡ Some s) (sym (append_assoc v.0 e.before (e.more ++ s)))
+              (bound_some (P.spelt d.0 (v.0 ++ (e.before ++ (e.more ++ s)))) (Q.spelt e.by) (e.before ++ (e.more ++ s)) (Some s)
+              (v.2 (e.before ++ (e.more ++ s)) (subst (λ k. Near (e.before ++ (e.more ++ s)) k) (sym e.split) (near_after e.before e.rest (e.more ++ s) (inr (fresh_more e.more s e.fresh fresh)))))
+              (e.spells s fresh));
+        }
+    | inr w ↦ absurd cc
+  ]
+]
+
+pair_same : {A B : Type 0} (x y : A) (z w : B) → x ≡ y → z ≡ w → ◌≡◌ {A = A × B} (x, z) (y, w)
+pair_same x y z w h k = rw (h, k) refl
+
+pub seq_reads : {D E A B : Type 0} (fs ks fs' ks' : List ℕ) (null null' : Bool) (n : ℕ) (P : Part D A) (Q : Part E B) (f f' : Reader A) (g g' : Reader B) → disjoint fs' ks ≡ true
+    → Reads fs null ks n P f f' → Reads fs' null' ks' n Q g g' → Reads (firsts_of null fs fs') (null && null') (follow_of null' ks ks') n (seq P Q) (f & g) (f' & g')
+seq_reads fs ks fs' ks' null null' n P Q f f' g g' apart a b = record {
+  whole = λ ts x r h.
+      let one = bind_ok (f ts) (λ x. g x.1 >>= λ y. Ok ((x.0, y.0), y.1)) (x, r) h in
+      let two = bind_ok (g one.0.1) (λ y. Ok ((one.0.0, y.0), y.1)) (x, r) one.2 in
+      let d = a.whole ts one.0.0 one.0.1 one.1 in
+      let e = b.whole one.0.1 two.0.0 two.0.1 two.1 in
+      let same = ok_parts (one.0.0, two.0.0) x two.0.1 r two.2 in
+      ((d.0, e.0), bound_some (P.spelt d.0 ts) (Q.spelt e.0) one.0.1 (Some r) d.1 (e.1 ∙ ap Some same.0), pair_same _ _ _ _ d.2 e.2 ∙ same.1, omega (arith, d.3, e.3));
+  comp = λ d ts r few h stop.
+      let m = bind_some (P.spelt d.0 ts) (Q.spelt d.1) r h in
+      let few1 : P.depth d.0 ≤ n = omega (arith, few) in
+      let few2 : Q.depth d.1 ≤ n = omega (arith, few) in
+      let w = link null' fs' ks ks' m.0 r apart (b.starts d.1 m.0 r few2 m.2) stop in
+      bound (f ts) (λ x. g x.1 >>= λ y. Ok ((x.0, y.0), y.1)) (P.value d.0, m.0) _ (a.comp d.0 ts m.0 few1 m.1 w.0) (bound (g m.0) (λ y. Ok ((P.value d.0, y.0), y.1)) (Q.value d.1, r) _ (b.comp d.1 m.0 r few2 m.2 w.1) refl);
+  begun = seq_begun fs ks fs' ks' null null' n P Q f f' g g' a b;
+  starts = λ d ts r few h.
+      let m = bind_some (P.spelt d.0 ts) (Q.spelt d.1) r h in
+      seq_starts null null' fs fs' ts m.0 r (a.starts d.0 ts m.0 (omega (arith, few)) m.1) (b.starts d.1 m.0 r (omega (arith, few)) m.2);
+  free = λ d few. then_free (P.spelt d.0) (Q.spelt d.1) (a.free d.0 (omega (arith, few))) (b.free d.1 (omega (arith, few)));
+  some = default_both P.spelt Q.spelt a.some b.some;
+  stable = then_stable f f' (λ x ts. g ts >>= λ y. Ok ((x, y.0), y.1)) (λ x ts. g' ts >>= λ y. Ok ((x, y.0), y.1)) a.stable (λ x. then_stable g g' (λ y ts. Ok ((x, y), ts)) (λ y ts. Ok ((x, y), ts)) b.stable (λ y. ok_stable (x, y)));
+}
