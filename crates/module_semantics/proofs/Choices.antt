@@ -5,7 +5,7 @@ use Rattle.module_semantics.specs.Token.{LineToken}
 use Rattle.module_semantics.specs.Readers.{GrammarFault, unexpected, Reader, next_in, given, ◌&◌, mapped, ◌▷◌, ◌◁◌, choice}
 use Rattle.module_semantics.specs.Spelling.{Spell, ◌>>◌, ◌▸◌}
 use Rattle.module_semantics.proofs.Steps.{ok_parts, bind_ok, bind_err, bound, bound_err, went, if_true, if_false, next, next_after}
-use Rattle.module_semantics.proofs.KindLists.{disjoint, subset, next_apart, next_more, next_left, next_right, next_neither, next_in_looks}
+use Rattle.module_semantics.proofs.KindLists.{disjoint, subset, subset_self, next_apart, next_more, next_left, next_right, next_neither, next_in_looks}
 use Rattle.module_semantics.proofs.Parts.{Near, Free, Stable, Part, Begun, Default, Starts, Reads}
 use Rattle.module_semantics.proofs.Sequences.{firsts_of, follow_of, seq, seq_reads, then_stable, ok_stable}
 
@@ -188,17 +188,15 @@ abbrev pub before : {D A : Type 0} → Part D A → Part (Unit {0}) (Unit {0}) �
 before P Q = record { spelt = λ d. P.spelt d ▸ Q.spelt tt; value = P.value; depth = P.depth }
 
 pub after_reads : {E B : Type 0} (fs ks fs' ks' : List ℕ) (null null' : Bool) (n : ℕ) (P : Part (Unit {0}) (Unit {0})) (Q : Part E B) (f f' : Reader (Unit {0})) (g g' : Reader B) → P.depth tt ≡ 0 → disjoint fs' ks ≡ true
-    → subset (firsts_of null fs fs') (firsts_of null fs fs') ≡ true → subset (follow_of null' ks ks') (follow_of null' ks ks') ≡ true
     → Reads fs null ks n P f f' → Reads fs' null' ks' n Q g g' → Reads (firsts_of null fs fs') (null && null') (follow_of null' ks ks') n (after P Q) (f ▷ g) (f' ▷ g')
-after_reads fs ks fs' ks' null null' n P Q f f' g g' none apart x y a b =
-    as_reads _ _ _ _ _ n n (seen (λ v. v.1) (seq P Q)) (after P Q) _ _ x y
+after_reads fs ks fs' ks' null null' n P Q f f' g g' none apart a b =
+    as_reads _ _ _ _ _ n n (seen (λ v. v.1) (seq P Q)) (after P Q) _ _ (subset_self _) (subset_self _)
     (record { to = λ d. d.1; spells = λ d ts r h. h; from = λ e ts r h. ((tt, e), refl, h); value = λ d. refl; deeper = λ d h. omega (arith, h); lower = λ d h. omega (arith, h, none) })
     (mapped_reads _ _ _ n (seq P Q) (f & g) (f' & g') (λ v. v.1) (seq_reads fs ks fs' ks' null null' n P Q f f' g g' apart a b))
 
 pub before_reads : {D A : Type 0} (fs ks fs' ks' : List ℕ) (null null' : Bool) (n : ℕ) (P : Part D A) (Q : Part (Unit {0}) (Unit {0})) (f f' : Reader A) (g g' : Reader (Unit {0})) → Q.depth tt ≡ 0 → disjoint fs' ks ≡ true
-    → subset (firsts_of null fs fs') (firsts_of null fs fs') ≡ true → subset (follow_of null' ks ks') (follow_of null' ks ks') ≡ true
     → Reads fs null ks n P f f' → Reads fs' null' ks' n Q g g' → Reads (firsts_of null fs fs') (null && null') (follow_of null' ks ks') n (before P Q) (f ◁ g) (f' ◁ g')
-before_reads fs ks fs' ks' null null' n P Q f f' g g' none apart x y a b =
-    as_reads _ _ _ _ _ n n (seen (λ v. v.0) (seq P Q)) (before P Q) _ _ x y
+before_reads fs ks fs' ks' null null' n P Q f f' g g' none apart a b =
+    as_reads _ _ _ _ _ n n (seen (λ v. v.0) (seq P Q)) (before P Q) _ _ (subset_self _) (subset_self _)
     (record { to = λ d. d.0; spells = λ d ts r h. h; from = λ e ts r h. ((e, tt), refl, h); value = λ d. refl; deeper = λ d h. omega (arith, h); lower = λ d h. omega (arith, h, none) })
     (mapped_reads _ _ _ n (seq P Q) (f & g) (f' & g') (λ v. v.0) (seq_reads fs ks fs' ks' null null' n P Q f f' g g' apart a b))

@@ -1,10 +1,11 @@
 -- Lists of kinds of tokens.
-use Rattle.std.proofs.Common.{◌≡◌, ℕ, List, [], ◌∷◌, ◌++◌, Bool, true, false, not, ◌&&◌, ◌||◌, ◌==◌, ◌⊎◌, inl, inr, Some, refl, sym, ap, ◌∙◌, subst}
+use Rattle.std.proofs.Common.{◌≡◌, ℕ, List, [], ◌∷◌, ◌++◌, Bool, true, false, not, ◌&&◌, ◌||◌, ◌==◌, ◌⊎◌, inl, inr, Some, refl, sym, ap, ◌∙◌, subst, arith}
 use Rattle.std.proofs.lemmas.Bool.{eqb-true}
 use Rattle.module_semantics.specs.Token.{LineToken}
 use Rattle.module_semantics.specs.Kinds.{kind, within}
 use Rattle.module_semantics.specs.Readers.{next_in}
 use Rattle.module_semantics.proofs.PiecesLex.{both, either, nots}
+use Rattle.module_semantics.proofs.LexedPieces.{and_yes}
 use Rattle.module_semantics.proofs.Steps.{next}
 
 -- no kind stands in both
@@ -44,6 +45,17 @@ or_right : (a b : Bool) → b ≡ true → (a || b) ≡ true
 or_right true b h = refl
 or_right false b h = h
 
+same_kind : (n : ℕ) → (n == n) ≡ true
+same_kind n = search arith
+
+subset_when : (xs ys : List ℕ) → ((k : ℕ) → within xs k ≡ true → within ys k ≡ true) → subset xs ys ≡ true
+unfolding subset within
+subset_when [] ys h = refl
+subset_when (x ∷ xs) ys h = and_yes _ _ (h x (or_left (x == x) (within xs x) (same_kind x))) (subset_when xs ys (λ k w. h k (or_right (k == x) (within xs k) w)))
+
+pub subset_self : (xs : List ℕ) → subset xs xs ≡ true
+subset_self xs = subset_when xs xs (λ k w. w)
+
 or_false : (a b : Bool) → (a || b) ≡ false → (a ≡ false) × (b ≡ false)
 or_false true b h = absurd cc
 or_false false b h = (refl, h)
@@ -75,7 +87,7 @@ within_either (x ∷ xs) ys k h = elim (either (k == x) (within (xs ++ ys) k) h)
   ]
 ]
 
-within_neither : (xs ys : List ℕ) (k : ℕ) → within (xs ++ ys) k ≡ false → (within xs k ≡ false) × (within ys k ≡ false)
+pub within_neither : (xs ys : List ℕ) (k : ℕ) → within (xs ++ ys) k ≡ false → (within xs k ≡ false) × (within ys k ≡ false)
 unfolding within
 within_neither [] ys k h = (refl, h)
 within_neither (x ∷ xs) ys k h =

@@ -1,10 +1,13 @@
 pub mod Choices
+pub mod CommaLists
+pub mod Ends
 pub mod FailedLex
 pub mod FaultedPieces
 pub mod KindLists
 pub mod Leaves
 pub mod LexExamples
 pub mod LexedPieces
+pub mod Lists
 pub mod LongestPieces
 pub mod PiecesLex
 pub mod Parts

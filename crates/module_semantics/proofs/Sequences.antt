@@ -88,41 +88,59 @@ seq_starts true true fs fs' ts m r (inl a) b = inl (next_left fs fs' ts a)
 seq_starts true true fs fs' ts m r (inr a) (inl b) = inl (next_right fs fs' ts (ap (next_in fs') a ∙ b))
 seq_starts true true fs fs' ts m r (inr a) (inr b) = inr (a ∙ b)
 
+-- what follows a text of some spelling, before what follows it
+pub later_begun : {E B : Type 0} (p : Spell) (Q : Part E B) (ts m : List LineToken) (n : ℕ) → (b : List LineToken) → ts ≡ b ++ m → ((s : List LineToken) → Near s m → p (b ++ s) ≡ Some s) → Begun Q m n
+    → Begun (record { spelt = λ e. p ▸ Q.spelt e; value = Q.value; depth = Q.depth }) ts n
+later_begun p Q ts m n b split spells e = record {
+  before = b ++ e.before;
+  rest = e.rest;
+  more = e.more;
+  by = e.by;
+  split = split ∙ ap (λ k. b ++ k) e.split ∙ sym (append_assoc b e.before e.rest);
+  left = e.left;
+  fresh = e.fresh;
+  spells = λ s fresh. subst (λ k. (p k >> Q.spelt e.by) ≡ Some s) (sym (append_assoc b e.before (e.more ++ s)))
+      (bound_some (p (b ++ (e.before ++ (e.more ++ s)))) (Q.spelt e.by) (e.before ++ (e.more ++ s)) (Some s)
+      (spells (e.before ++ (e.more ++ s)) (subst (λ k. Near (e.before ++ (e.more ++ s)) k) (sym e.split) (near_after e.before e.rest (e.more ++ s) (inr (fresh_more e.more s e.fresh fresh)))))
+      (e.spells s fresh));
+}
+
+-- what is begun, and then a default
+pub first_begun : {D E A : Type 0} (P : Part D A) (q : E → Spell) (ts : List LineToken) (n : ℕ) → Begun P ts n → Default q → Begun {D = D × E} (record { spelt = λ d. P.spelt d.0 ▸ q d.1; value = λ d. P.value d.0; depth = λ d. P.depth d.0 }) ts n
+first_begun P q ts n d c = record {
+  before = d.before;
+  rest = d.rest;
+  more = d.more ++ c.text;
+  by = (d.by, c.by);
+  split = d.split;
+  left = d.left;
+  fresh = fresh_more d.more c.text d.fresh c.fresh;
+  spells = λ s fresh. subst (λ k. (P.spelt d.by (d.before ++ k) >> q c.by) ≡ Some s) (sym (append_assoc d.more c.text s))
+      (bound_some (P.spelt d.by (d.before ++ (d.more ++ (c.text ++ s)))) (q c.by) (c.text ++ s) (Some s) (d.spells (c.text ++ s) (fresh_more c.text s c.fresh fresh)) (c.spells s fresh));
+}
+
+-- the same text begun by another derivation
+pub same_begun : {D E A B : Type 0} (P : Part D A) (Q : Part E B) (ts : List LineToken) (n : ℕ) (to : D → E) → ((d : D) (k r : List LineToken) → P.spelt d k ≡ Some r → Q.spelt (to d) k ≡ Some r) → Begun P ts n → Begun Q ts n
+same_begun P Q ts n to spells d = record {
+  before = d.before;
+  rest = d.rest;
+  more = d.more;
+  by = to d.by;
+  split = d.split;
+  left = d.left;
+  fresh = d.fresh;
+  spells = λ s fresh. spells d.by (d.before ++ (d.more ++ s)) s (d.spells s fresh);
+}
+
 seq_begun : {D E A B : Type 0} (fs ks fs' ks' : List ℕ) (null null' : Bool) (n : ℕ) (P : Part D A) (Q : Part E B) (f f' : Reader A) (g g' : Reader B)
     → Reads fs null ks n P f f' → Reads fs' null' ks' n Q g g' → (ts : List LineToken) (m : ℕ) → (f & g) ts ≡ Err (unexpected m) → Begun (seq P Q) ts m
 seq_begun fs ks fs' ks' null null' n P Q f f' g g' a b ts m h = elim (bind_err (f ts) (λ x. g x.1 >>= λ y. Ok ((x.0, y.0), y.1)) (unexpected m) h) [
-  | inl w ↦
-      let d = a.begun ts m w in
-      let c = b.some in
-      record {
-        before = d.before;
-        rest = d.rest;
-        more = d.more ++ c.text;
-        by = (d.by, c.by);
-        split = d.split;
-        left = d.left;
-        fresh = fresh_more d.more c.text d.fresh c.fresh;
-        spells = λ s fresh. subst (λ k. (P.spelt d.by (d.before ++ k) >> Q.spelt c.by) ≡ Some s) (sym (append_assoc d.more c.text s))
-            (bound_some (P.spelt d.by (d.before ++ (d.more ++ (c.text ++ s)))) (Q.spelt c.by) (c.text ++ s) (Some s) (d.spells (c.text ++ s) (fresh_more c.text s c.fresh fresh)) (c.spells s fresh));
-      }
+  | inl w ↦ same_begun _ (seq P Q) ts m (λ d. d) (λ d k r h. h) (first_begun P Q.spelt ts m (a.begun ts m w) b.some)
   | inr one ↦ elim (bind_err (g one.0.1) (λ y. Ok ((one.0.0, y.0), y.1)) (unexpected m) one.2) [
     | inl w ↦
         let d = a.whole ts one.0.0 one.0.1 one.1 in
-        let e = b.begun one.0.1 m w in
         let v = a.free d.0 d.3 ts one.0.1 d.1 in
-        record {
-          before = v.0 ++ e.before;
-          rest = e.rest;
-          more = e.more;
-          by = (d.0, e.by);
-          split = v.1 ∙ ap (λ k. v.0 ++ k) e.split ∙ sym (append_assoc v.0 e.before e.rest);
-          left = e.left;
-          fresh = e.fresh;
-          spells = λ s fresh. subst (λ k. (P.spelt d.0 k >> Q.spelt e.by) ≡ Some s) (sym (append_assoc v.0 e.before (e.more ++ s)))
-              (bound_some (P.spelt d.0 (v.0 ++ (e.before ++ (e.more ++ s)))) (Q.spelt e.by) (e.before ++ (e.more ++ s)) (Some s)
-              (v.2 (e.before ++ (e.more ++ s)) (subst (λ k. Near (e.before ++ (e.more ++ s)) k) (sym e.split) (near_after e.before e.rest (e.more ++ s) (inr (fresh_more e.more s e.fresh fresh)))))
-              (e.spells s fresh));
-        }
+        same_begun _ (seq P Q) ts m (λ e. (d.0, e)) (λ e k r h. h) (later_begun (P.spelt d.0) Q ts one.0.1 m v.0 v.1 v.2 (b.begun one.0.1 m w))
     | inr w ↦ absurd cc
   ]
 ]
