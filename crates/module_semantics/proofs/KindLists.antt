@@ -45,7 +45,7 @@ or_right : (a b : Bool) → b ≡ true → (a || b) ≡ true
 or_right true b h = refl
 or_right false b h = h
 
-same_kind : (n : ℕ) → (n == n) ≡ true
+pub same_kind : (n : ℕ) → (n == n) ≡ true
 same_kind n = search arith
 
 subset_when : (xs ys : List ℕ) → ((k : ℕ) → within xs k ≡ true → within ys k ≡ true) → subset xs ys ≡ true
@@ -94,6 +94,11 @@ within_neither (x ∷ xs) ys k h =
     let t = or_false (k == x) (within (xs ++ ys) k) h in
     let w = within_neither xs ys k t.1 in
     (no_or (k == x) (within xs k) t.0 w.0, w.1)
+
+pub disjoint_none : (xs : List ℕ) → disjoint xs [] ≡ true
+unfolding disjoint within
+disjoint_none [] = refl
+disjoint_none (x ∷ xs) = disjoint_none xs
 
 -- the same of the next token
 pub next_apart : (xs ys : List ℕ) (s : List LineToken) → disjoint xs ys ≡ true → next_in xs s ≡ true → next_in ys s ≡ false

@@ -1,6 +1,7 @@
 pub mod Choices
 pub mod CommaLists
 pub mod Ends
+pub mod Expressions
 pub mod FailedLex
 pub mod FaultedPieces
 pub mod KindLists
@@ -10,6 +11,7 @@ pub mod LexedPieces
 pub mod Lists
 pub mod LongestPieces
 pub mod PiecesLex
+pub mod Marks
 pub mod Parts
 pub mod Sequences
 pub mod Steps
