@@ -140,7 +140,7 @@ then_refuses fs f g a s h = bound_err (f s) (λ x. g x.1 >>= λ y. Ok ((x.0, y.0
 pub mapped_refuses : {A B : Type 0} (fs : List ℕ) (f : Reader A) (h : A → B) → Refuses fs f → Refuses fs (mapped h f)
 mapped_refuses fs f h a s is = bound_err (f s) (λ x. Ok (h x.0, x.1)) (unexpected (length s)) (a s is)
 
-next_fewer : (xs ys : List ℕ) (s : List LineToken) (b : Bool) → next_in xs s ≡ b → subset xs ys ≡ true → next_in ys s ≡ false → next_in xs s ≡ false
+pub next_fewer : (xs ys : List ℕ) (s : List LineToken) (b : Bool) → next_in xs s ≡ b → subset xs ys ≡ true → next_in ys s ≡ false → next_in xs s ≡ false
 next_fewer xs ys s false is sub h = is
 next_fewer xs ys s true is sub h = let w = next_more xs ys s sub is in absurd cc
 
@@ -150,7 +150,7 @@ more_refuses fs gs f sub a s h = a s (next_fewer fs gs s (next_in fs s) refl sub
 pub choice_refuses : {A : Type 0} (fs hs : List ℕ) (f g : Reader A) → subset hs fs ≡ true → Refuses fs g → Refuses fs (choice hs f g)
 choice_refuses fs hs f g sub a s h = if_false (next_in hs s) _ _ _ (next_fewer hs fs s (next_in hs s) refl sub h) (a s h)
 
-deep_err : {A : Type 0} (fs : List ℕ) (ts : List LineToken) (m : ℕ) → deep {A = A} fs ts ≡ Err (unexpected m) → (next_in fs ts ≡ false) × (length ts ≡ m)
+pub deep_err : {A : Type 0} (fs : List ℕ) (ts : List LineToken) (m : ℕ) → deep {A = A} fs ts ≡ Err (unexpected m) → (next_in fs ts ≡ false) × (length ts ≡ m)
 unfolding deep
 deep_err {A} fs ts m h = elim (went (next_in fs ts) _ _ (Err (unexpected m)) h) [ inl w ↦ absurd cc | inr w ↦ (w.0, unexpected_at cc) ]
 

@@ -1,9 +1,9 @@
 -- Expressions: each level of the grammar, with its reader.
-use Rattle.std.proofs.Common.{◌≡◌, ℕ, zero, suc, ◌+◌, ◌≤◌, max, List, [], ◌∷◌, ◌++◌, map, Bool, true, false, ◌⊎◌, inl, inr, Option, Some, None, refl, sym, ap, ◌∙◌, arith}
+use Rattle.std.proofs.Common.{◌≡◌, ℕ, zero, suc, ◌+◌, ◌≤◌, max, List, [], ◌∷◌, ◌++◌, map, ◌==◌, Bool, true, false, ◌⊎◌, inl, inr, Option, Some, None, refl, sym, ap, ◌∙◌, arith}
 use Rattle.hmr_types.specs.declared.tree.Op.{Op}
 use Rattle.hmr_types.specs.declared.tree.Op.TheVariants as ops
 use Rattle.module_semantics.specs.Token.{Token, number, LineToken}
-use Rattle.module_semantics.specs.Kinds.{IMPORT, UNDEFINED, META, HOT, DATA, NUMBER, TEXT, OPEN, CLOSE, DOT, PLUS, MINUS, TIMES, QUESTION, COLON, SAFE_DOT, NULLISH, within, kind, free_names, all_names, NameAt}
+use Rattle.module_semantics.specs.Kinds.{IMPORT, UNDEFINED, META, HOT, DATA, NUMBER, TEXT, OPEN, CLOSE, DOT, PLUS, MINUS, TIMES, QUESTION, COLON, SAFE_DOT, NULLISH, SEMICOLON, ERROR, within, kind, value_of, free_names, all_names, NameAt}
 use Rattle.module_semantics.specs.Raw as raw
 use Rattle.module_semantics.specs.Raw.{RawExpr}
 use Rattle.module_semantics.specs.Readers.{Reader, ◌&◌, ◌▷◌, ◌◁◌, mapped, choice, given, many, mark, taken, deep}
@@ -16,6 +16,7 @@ use Rattle.module_semantics.specs.Grammar.{ExprD, NullD, NullRestD, SumD, SumRes
 use Rattle.module_semantics.proofs.Steps.{bind_some, bound_some, regroup}
 use Rattle.module_semantics.proofs.KindLists.{disjoint, disjoint_none, subset}
 use Rattle.module_semantics.proofs.Parts.{Part, Default, Reads}
+use Rattle.module_semantics.proofs.Leaves.{one_is}
 use Rattle.module_semantics.proofs.Sequences.{seq, seq_reads, firsts_of, follow_of}
 use Rattle.module_semantics.proofs.Choices.{As, as_reads, alt, choice_reads, follow_alt, seen, mapped_reads, nothing_part, given_reads, after, after_reads, before, before_reads}
 use Rattle.module_semantics.proofs.Lists.{list_part, many_reads}
@@ -418,15 +419,24 @@ expr_deep (grammar.plain s) = omega arith
 expr_deep (grammar.choice s a b) = omega arith
 
 -- the number 0
-pub expr_default : Default expr_spelt
-expr_default =
-    let some = (number_reads 0).some in
-    record {
-      by = grammar.plain (grammar.null (grammar.sum (grammar.prod (grammar.positive (grammar.number some.by)) grammar.no_prod) grammar.no_sum) grammar.no_null);
-      text = some.text;
-      fresh = some.fresh;
-      spells = λ s fresh. and_no_more _ s (and_no_more _ s (and_no_more _ s (some.spells s fresh)));
-    }
+abbrev pub zero_token : LineToken
+zero_token = record { token = number 0; at = 0; later = true }
+
+pub zero_spells : (s : List LineToken) → spell.number_token 0 (zero_token ∷ s) ≡ Some s
+unfolding within
+zero_spells s = one_is (NUMBER ∷ []) (λ t. 0 == value_of t.token) zero_token s refl refl
+
+pub zero_plain : within (SEMICOLON ∷ ERROR ∷ []) (kind zero_token.token) ≡ false
+unfolding within
+zero_plain = refl
+
+abbrev pub expr_default : Default expr_spelt
+expr_default = record {
+  by = grammar.plain (grammar.null (grammar.sum (grammar.prod (grammar.positive (grammar.number 0)) grammar.no_prod) grammar.no_sum) grammar.no_null);
+  text = zero_token ∷ [];
+  fresh = (refl, zero_plain);
+  spells = λ s fresh. and_no_more _ s (and_no_more _ s (and_no_more _ s (zero_spells s)));
+}
 
 prim_refuses : (e : Reader RawExpr) → Refuses prim_firsts (reading.prim e)
 unfolding reading.prim subset within

@@ -5,6 +5,7 @@ pub mod Expressions
 pub mod FailedLex
 pub mod FaultedPieces
 pub mod KindLists
+pub mod Laters
 pub mod Leaves
 pub mod LexExamples
 pub mod LexedPieces
@@ -12,6 +13,8 @@ pub mod Lists
 pub mod LongestPieces
 pub mod PiecesLex
 pub mod Marks
+pub mod Options
 pub mod Parts
 pub mod Sequences
 pub mod Steps
+pub mod Thrown
