@@ -76,7 +76,7 @@ unfolding within
 within_right [] ys k h = h
 within_right (x ∷ xs) ys k h = or_right (k == x) (within (xs ++ ys) k) (within_right xs ys k h)
 
-within_either : (xs ys : List ℕ) (k : ℕ) → within (xs ++ ys) k ≡ true → (within xs k ≡ true) ⊎ (within ys k ≡ true)
+pub within_either : (xs ys : List ℕ) (k : ℕ) → within (xs ++ ys) k ≡ true → (within xs k ≡ true) ⊎ (within ys k ≡ true)
 unfolding within
 within_either [] ys k h = inr h
 within_either (x ∷ xs) ys k h = elim (either (k == x) (within (xs ++ ys) k) h) [

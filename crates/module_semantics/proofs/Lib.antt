@@ -1,3 +1,4 @@
+pub mod Acts
 pub mod Choices
 pub mod CommaLists
 pub mod Ends
@@ -16,5 +17,6 @@ pub mod Marks
 pub mod Options
 pub mod Parts
 pub mod Sequences
+pub mod Statements
 pub mod Steps
 pub mod Thrown

@@ -6,6 +6,7 @@ use Rattle.std.specs.Str.{bytes_eq}
 use Rattle.module_semantics.specs.Token.{Token, name, number, text, punct, LineToken}
 use Rattle.module_semantics.specs.Kinds.{ACCEPT, ARROW, AS, CLOSE, CLOSE_BRACE, CLOSE_BRACKET, COLON, COMMA, CONSOLE, CONST, DATA, DECLINE, DISPOSE, DOT, ELSE, EQUALS, EXPORT, FROM, HOST, HOT, IF, IMPORT, INVALIDATE, LET, LOG, META, MINUS, NEW, NULLISH, OPEN, OPEN_BRACE, OPEN_BRACKET, PLUS, PRUNE, QUESTION, SAFE_DOT, THROW, TIMES, UNDEFINED, SEMICOLON, ERROR, NUMBER, TEXT, kind, found_word, word_kind, within, free_names, all_names, reserved, bytes_of, value_of, NameAt, name_at, same_name}
 use Rattle.module_semantics.specs.Readers.{mark, taken}
+use Rattle.module_semantics.specs.Reading.{but_console, but_host}
 use Rattle.module_semantics.proofs.PiecesLex.{both}
 use Rattle.module_semantics.proofs.LexedPieces.{and_yes}
 use Rattle.module_semantics.proofs.KindLists.{same_kind}
@@ -27,7 +28,7 @@ same_bytes = record { is = bytes_same; again = bytes_again }
 name_same : (n m : NameAt) → n.name ≡ m.name → n.at ≡ m.at → n ≡ m
 name_same n m h k = rw (← h, ← k) refl
 
-same_names : Same same_name
+pub same_names : Same same_name
 same_names = record {
   is = λ n m h. let w = both (bytes_eq n.name m.name) (n.at == m.at) h in name_same n m (bytes_same n.name m.name w.0) (eqb-true n.at m.at w.1);
   again = λ n. and_yes _ _ (bytes_again n.name) (same_kind n.at);
@@ -247,3 +248,19 @@ place_part k = leaf (k ∷ []) (λ t. t.at) (λ a b. a == b)
 pub import_place : (n : ℕ) → Reads (IMPORT ∷ []) false [] n (place_part IMPORT) (taken (IMPORT ∷ []) (λ t. t.at)) (taken (IMPORT ∷ []) (λ t. t.at))
 unfolding within word_kind found_word
 import_place n = leaf_reads (IMPORT ∷ []) (λ t. t.at) (λ a b. a == b) n same_number (on_line (name (codes "import"))) refl refl refl
+
+pub console_reads : (n : ℕ) → Reads (CONSOLE ∷ []) false [] n (name_part (CONSOLE ∷ [])) (taken (CONSOLE ∷ []) name_at) (taken (CONSOLE ∷ []) name_at)
+unfolding within word_kind found_word
+console_reads n = name_reads n (CONSOLE ∷ []) (name (codes "console")) refl refl
+
+pub but_console_reads : (n : ℕ) → Reads but_console false [] n (name_part but_console) (taken but_console name_at) (taken but_console name_at)
+unfolding within word_kind found_word
+but_console_reads n = name_reads n but_console (name (codes "a")) refl refl
+
+pub host_reads : (n : ℕ) → Reads (HOST ∷ []) false [] n (name_part (HOST ∷ [])) (taken (HOST ∷ []) name_at) (taken (HOST ∷ []) name_at)
+unfolding within word_kind found_word
+host_reads n = name_reads n (HOST ∷ []) (name (codes "host")) refl refl
+
+pub but_host_reads : (n : ℕ) → Reads but_host false [] n (name_part but_host) (taken but_host name_at) (taken but_host name_at)
+unfolding within word_kind found_word
+but_host_reads n = name_reads n but_host (name (codes "a")) refl refl
