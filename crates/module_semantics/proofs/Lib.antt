@@ -1,10 +1,12 @@
 pub mod Acts
+pub mod Callbacks
 pub mod Choices
 pub mod CommaLists
 pub mod Ends
 pub mod Expressions
 pub mod FailedLex
 pub mod FaultedPieces
+pub mod Items
 pub mod KindLists
 pub mod Laters
 pub mod Leaves

@@ -8,7 +8,7 @@ use Rattle.module_semantics.specs.Kinds.{IMPORT, EXPORT, CONST, LET, IF, ELSE, T
 use Rattle.module_semantics.specs.Raw as raw
 use Rattle.module_semantics.specs.Raw.{RawExpr, RawStmt, RawStmts, no_stmts, one_stmt, RawHandler, RawOnce, RawImport, RawItem}
 use Rattle.module_semantics.specs.Readers.{next_two}
-use Rattle.module_semantics.specs.Reading.{but_console, but_host, flat, alone}
+use Rattle.module_semantics.specs.Reading.{but_console, flat, one_or_none, all_of}
 use Rattle.module_semantics.specs.Spelling.{Spell, ◌▸◌, mark, name_of, free_name, key, text_token, number_token, mark_at, end, many, separated, Listed, listed, items_of, maybe}
 
 mutual
@@ -383,10 +383,6 @@ abbrev pub param_spelt : ParamD → Spell
 param_spelt (in_parens n) = mark OPEN ▸ maybe free_name n ▸ mark CLOSE
 param_spelt (bare n) = free_name n
 
-abbrev pub one_or_none : {A : Type 0} → Option A → List A
-one_or_none None = []
-one_or_none (Some x) = x ∷ []
-
 abbrev pub param_raw : ParamD → List NameAt
 param_raw (in_parens n) = one_or_none n
 param_raw (bare n) = n ∷ []
@@ -413,10 +409,6 @@ names_spelt ns = mark OPEN_BRACKET ▸ separated free_name ns ▸ mark CLOSE_BRA
 
 abbrev pub list_callback_spelt : ListCallbackD → Spell
 list_callback_spelt (list_callback ns b) = mark OPEN ▸ maybe names_spelt ns ▸ mark CLOSE ▸ mark ARROW ▸ body_spelt b
-
-abbrev pub all_of : {A : Type 0} → Option (List A) → List A
-all_of None = []
-all_of (Some xs) = xs
 
 abbrev pub list_callback_raw : ListCallbackD → RawHandler
 list_callback_raw (list_callback ns b) = record { params = all_of ns; body = body_raw b }

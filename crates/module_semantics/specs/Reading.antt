@@ -168,8 +168,16 @@ body i = choice (OPEN_BRACE ∷ []) (braces i) (mapped only (choice (IMPORT ∷ 
 abbrev pub alone : {A : Type 0} → A → List A
 alone x = x ∷ []
 
+abbrev pub one_or_none : {A : Type 0} → Option A → List A
+one_or_none None = []
+one_or_none (Some x) = x ∷ []
+
+abbrev pub all_of : {A : Type 0} → Option (List A) → List A
+all_of None = []
+all_of (Some xs) = xs
+
 unfoldable pub in_parens : Reader (List NameAt)
-in_parens = mark OPEN ▷ choice free_names (mapped alone free_name) (given []) ◁ mark CLOSE
+in_parens = mark OPEN ▷ mapped one_or_none (choice free_names (mapped Some free_name) (given None)) ◁ mark CLOSE
 
 abbrev pub handler : List NameAt × RawStmts → RawHandler
 handler v = record { params = v.0; body = v.1 }
@@ -184,7 +192,7 @@ callback b = callback_by free_names b
 unfoldable pub list_callback : Reader RawStmts → Reader RawHandler
 list_callback b =
     mapped handler
-    ((mark OPEN ▷ choice (OPEN_BRACKET ∷ []) (mark OPEN_BRACKET ▷ separated free_names free_name ◁ mark CLOSE_BRACKET) (given []) ◁ mark CLOSE) & mark ARROW ▷ b)
+    ((mark OPEN ▷ mapped all_of (choice (OPEN_BRACKET ∷ []) (mapped Some (mark OPEN_BRACKET ▷ separated free_names free_name ◁ mark CLOSE_BRACKET)) (given None)) ◁ mark CLOSE) & mark ARROW ▷ b)
 
 abbrev pub but_host : List ℕ
 but_host = OTHER ∷ CONSOLE ∷ LOG ∷ NEW ∷ ERROR ∷ FROM ∷ AS ∷ META ∷ HOT ∷ DATA ∷ ACCEPT ∷ DISPOSE ∷ PRUNE ∷ DECLINE ∷ INVALIDATE ∷ []
