@@ -16,6 +16,7 @@ pub mod Lists
 pub mod LongestPieces
 pub mod PiecesLex
 pub mod Marks
+pub mod Modules
 pub mod Options
 pub mod Parts
 pub mod Sequences

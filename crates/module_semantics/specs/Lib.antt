@@ -4,6 +4,7 @@ pub mod Grammar
 pub mod LexFaults
 pub mod Lexing
 pub mod Lines
+pub mod ModuleTokens
 pub mod Pieces
 pub mod Raw
 pub mod Reading

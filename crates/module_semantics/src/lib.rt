@@ -7,8 +7,10 @@
 //! Knows nothing of the code that reads texts, of clients or of versions.
 #![tactic(auto)]
 
+mod grammar;
 mod tokens;
 
+pub use grammar::{reading_is_the_grammar, the_unexpected_stands_first};
 pub use tokens::{
     After, LexFault, LexKind, faults_are_the_rules, lexing_is_the_pieces, none_is_longer,
 };
