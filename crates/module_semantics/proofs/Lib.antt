@@ -22,4 +22,5 @@ pub mod Parts
 pub mod Sequences
 pub mod Statements
 pub mod Steps
+pub mod Texts
 pub mod Thrown

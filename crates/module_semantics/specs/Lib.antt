@@ -4,11 +4,14 @@ pub mod Grammar
 pub mod LexFaults
 pub mod Lexing
 pub mod Lines
+pub mod ModuleText
 pub mod ModuleTokens
+pub mod NameRules
 pub mod Pieces
 pub mod Raw
 pub mod Reading
 pub mod Readers
+pub mod Resolving
 pub mod Spelling
 pub mod Steps
 pub mod Token

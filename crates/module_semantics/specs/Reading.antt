@@ -156,10 +156,14 @@ stmt i =
 unfoldable pub braces : Inner → Reader RawStmts
 braces i = mark OPEN_BRACE ▷ mapped stmts_of (many stmt_firsts (stmt i)) ◁ mark CLOSE_BRACE
 
+-- what stands inside, by the readers of what stands one deeper
+abbrev pub around : Reader RawExpr → Inner → Inner
+around e i = record { expr = e; block = braces i; else_if = if_stmt i }
+
 -- what stands inside, where at most this many expressions, blocks and ifs after `else` may stand in one another
 unfoldable pub inner : ℕ → Inner
 inner zero = record { expr = expr zero; block = deep (OPEN_BRACE ∷ []); else_if = deep (IF ∷ []) }
-inner (suc n) = record { expr = expr (suc n); block = braces (inner n); else_if = if_stmt (inner n) }
+inner (suc n) = around (expr (suc n)) (inner n)
 
 -- callbacks
 unfoldable pub body : Inner → Reader RawStmts
