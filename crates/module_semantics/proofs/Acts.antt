@@ -1,6 +1,5 @@
 -- Statements that begin with a name or with `import`.
-use Rattle.std.proofs.Common.{◌≡◌, ℕ, zero, suc, ◌≤◌, max, List, [], ◌∷◌, ◌++◌, Bool, true, false, ◌==◌, ◌⊎◌, inl, inr, Option, Some, None, refl, sym, ap, ◌∙◌, arith}
-use Rattle.std.specs.Option.{option_map}
+use Rattle.std.proofs.Common.{◌≡◌, ℕ, List, [], ◌∷◌, ◌++◌, Bool, true, false, ◌==◌, ◌⊎◌, inl, inr, Option, Some, refl, ap, ◌∙◌, arith}
 use Rattle.module_semantics.specs.Token.{LineToken}
 use Rattle.module_semantics.specs.Kinds.{COMMA, IMPORT, CONSOLE, LOG, DATA, INVALIDATE, OPEN, CLOSE, DOT, EQUALS, within, kind, free_names, all_names, NameAt, name_at, same_name}
 use Rattle.module_semantics.specs.Raw as raw
@@ -17,9 +16,9 @@ use Rattle.module_semantics.proofs.KindLists.{same_kind, disjoint, subset, withi
 use Rattle.module_semantics.proofs.Parts.{Part, Reads}
 use Rattle.module_semantics.proofs.Leaves.{one_ok, one_is}
 use Rattle.module_semantics.proofs.Sequences.{seq, seq_reads}
-use Rattle.module_semantics.proofs.Choices.{As, as_reads, alt, choice_reads, seen, mapped_reads, after, after_reads, before, before_reads}
+use Rattle.module_semantics.proofs.Choices.{as_reads, alt, choice_reads, seen, mapped_reads, after, after_reads, before, before_reads}
 use Rattle.module_semantics.proofs.Options.{maybe_part, maybe_reads, separated_part, separated_reads}
-use Rattle.module_semantics.proofs.Marks.{same_names, mark_part, name_part, bytes_part, place_part, name_reads, key_reads, import_place, log_mark, data_mark, invalidate_mark, open_mark, close_mark, dot_mark, equals_mark, console_reads, but_console_reads}
+use Rattle.module_semantics.proofs.Marks.{same_names, mark_part, name_part, bytes_part, place_part, key_reads, import_place, log_mark, data_mark, invalidate_mark, open_mark, close_mark, dot_mark, equals_mark, console_reads, but_console_reads}
 use Rattle.module_semantics.proofs.Expressions.{ExprReads, expr_part, expr_follow, hot_part, hot_reads}
 
 -- the same lists of tokens in another order

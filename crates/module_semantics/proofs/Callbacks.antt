@@ -1,13 +1,12 @@
 -- Callbacks, and the calls of `import.meta.hot`.
-use Rattle.std.proofs.Common.{◌≡◌, ℕ, zero, suc, ◌+◌, ◌≤◌, max, List, [], ◌∷◌, ◌++◌, map, Bool, true, false, ◌⊎◌, inl, inr, Option, Some, None, refl, sym, ap, ◌∙◌, subst, arith}
+use Rattle.std.proofs.Common.{◌≡◌, ℕ, ◌≤◌, List, [], ◌∷◌, ◌++◌, map, true, false, ◌⊎◌, inl, inr, Option, Some, None, refl, sym, ap, ◌∙◌, subst, arith}
 use Rattle.std.specs.Option.{option_map}
 use Rattle.module_semantics.specs.Token.{LineToken}
-use Rattle.module_semantics.specs.Kinds.{IMPORT, HOST, DATA, DOT, EQUALS, ACCEPT, DISPOSE, PRUNE, DECLINE, TEXT, COMMA, ARROW, OPEN, CLOSE, OPEN_BRACE, OPEN_BRACKET, CLOSE_BRACKET, within, kind, free_names, NameAt}
+use Rattle.module_semantics.specs.Kinds.{IMPORT, HOST, DATA, DOT, EQUALS, ACCEPT, DISPOSE, PRUNE, DECLINE, TEXT, COMMA, ARROW, OPEN, CLOSE, OPEN_BRACE, OPEN_BRACKET, CLOSE_BRACKET, within, free_names, NameAt}
 use Rattle.module_semantics.specs.Raw as raw
 use Rattle.module_semantics.specs.Raw.{RawStmts, RawHandler, RawOnce, RawItem}
 use Rattle.module_semantics.specs.Readers.{Reader}
-use Rattle.module_semantics.specs.Reading as reading
-use Rattle.module_semantics.specs.Reading.{Inner, only, applied, handler, alone, one_or_none, all_of, but_host, own_firsts, body, in_parens, callback, callback_by, list_callback, host_label, host_code, host_own, once, accepted, hot_call}
+use Rattle.module_semantics.specs.Reading.{Inner, only, applied, handler, alone, one_or_none, all_of, but_host, own_firsts, body, in_parens, callback, list_callback, host_own, once, accepted, hot_call}
 use Rattle.module_semantics.specs.Spelling as spell
 use Rattle.module_semantics.specs.Spelling.{Spell, ◌>>◌, ◌▸◌, name_of, Listed, items_of}
 use Rattle.module_semantics.specs.Grammar as grammar
@@ -21,7 +20,7 @@ use Rattle.module_semantics.proofs.CommaLists.{listed_part, listed_reads}
 use Rattle.module_semantics.proofs.Options.{maybe_part, maybe_reads, separated_part, separated_reads}
 use Rattle.module_semantics.proofs.Marks.{mark_part, name_part, bytes_part, free_name_reads, text_reads, host_reads, but_host_reads, accept_mark, dispose_mark, prune_mark, decline_mark, comma_mark, arrow_mark, open_mark, close_mark, open_bracket_mark, close_bracket_mark}
 use Rattle.module_semantics.proofs.Expressions.{expr_follow}
-use Rattle.module_semantics.proofs.Acts.{relist, first_changes, one_wider, one_weaker, one_split, named, placed, NameWay, name_act_part, name_act_reads, act_of, act_spells, act_same_depth, act_value, ActWay, act_way, ImportWay, import_part, import_reads}
+use Rattle.module_semantics.proofs.Acts.{first_changes, one_wider, one_weaker, one_split, named, placed, NameWay, name_act_part, name_act_reads, act_of, act_spells, act_same_depth, act_value, ActWay, act_way, ImportWay, import_part, import_reads}
 use Rattle.module_semantics.proofs.Statements.{under, assoc, InnerReads, braces_part, braces_reads}
 
 abbrev pub body_part : Part BodyD RawStmts
@@ -63,7 +62,6 @@ body_act d ts r h (inr v) = subst (λ a. (w : body_way) × (to_body w ≡ gramma
 body_from : (e : BodyD) (ts r : List LineToken) → body_part.spelt e ts ≡ Some r → (d : body_way) × (to_body d ≡ e) × (body_parts.spelt d ts ≡ Some r)
 body_from (grammar.braces s) ts r h = ((inl s), refl, h)
 body_from (grammar.only_inval (grammar.invalidate at x)) ts r h = ((inr (inl (at, inr x))), refl, h)
-
 body_from (grammar.only_act d) ts r h = body_act d ts r h (act_way d ts r h)
 
 body_value : (d : body_way) → body_part.value (to_body d) ≡ body_parts.value d
@@ -263,7 +261,6 @@ own_bare n b ts r h =
 own_from : (e : OwnD) (ts r : List LineToken) → own_part.spelt e ts ≡ Some r → (d : own_way) × (to_own d ≡ e) × (own_parts.spelt d ts ≡ Some r)
 unfolding subset within
 own_from (grammar.OwnD.code (grammar.callback (grammar.in_parens o) b)) ts r h = ((inr (inl o, b)), refl, h)
-
 own_from (grammar.OwnD.host l) ts r h = own_host l ts r h
 own_from (grammar.OwnD.code (grammar.callback (grammar.bare m) b)) ts r h = own_bare m b ts r h
 

@@ -1,12 +1,11 @@
 -- One part or another, a part under another name, and nothing.
-use Rattle.std.proofs.Common.{◌≡◌, ℕ, zero, suc, ◌≤◌, max, List, [], ◌∷◌, ◌++◌, length, Bool, true, false, cond, ◌&&◌, ◌⊎◌, inl, inr, Option, Some, None, Result, Ok, Err, refl, sym, ap, ◌∙◌, subst, arith}
-use Rattle.module_semantics.specs.Steps.{◌>>=◌}
+use Rattle.std.proofs.Common.{◌≡◌, ℕ, ◌≤◌, List, [], ◌++◌, Bool, true, false, ◌&&◌, ◌⊎◌, inl, inr, Some, Ok, Err, refl, sym, ap, ◌∙◌, subst, arith}
 use Rattle.module_semantics.specs.Token.{LineToken}
-use Rattle.module_semantics.specs.Readers.{GrammarFault, unexpected, Reader, next_in, given, ◌&◌, mapped, ◌▷◌, ◌◁◌, choice}
-use Rattle.module_semantics.specs.Spelling.{Spell, ◌>>◌, ◌▸◌}
-use Rattle.module_semantics.proofs.Steps.{ok_parts, bind_ok, bind_err, bound, bound_err, went, if_true, if_false, next, next_after}
+use Rattle.module_semantics.specs.Readers.{unexpected, Reader, next_in, given, ◌&◌, mapped, ◌▷◌, ◌◁◌, choice}
+use Rattle.module_semantics.specs.Spelling.{Spell, ◌▸◌}
+use Rattle.module_semantics.proofs.Steps.{ok_parts, bind_ok, bind_err, bound, went, if_true, if_false, next_after}
 use Rattle.module_semantics.proofs.KindLists.{disjoint, subset, subset_self, next_apart, next_more, next_left, next_right, next_neither, next_in_looks}
-use Rattle.module_semantics.proofs.Parts.{Near, Free, Stable, Part, Begun, Default, Starts, Reads}
+use Rattle.module_semantics.proofs.Parts.{Free, Stable, Part, Begun, Starts, Reads}
 use Rattle.module_semantics.proofs.Sequences.{firsts_of, follow_of, seq, seq_reads, then_stable, ok_stable}
 
 -- nothing

@@ -1,6 +1,6 @@
 -- Parts with a comma between each two, and perhaps one after the last.
-use Rattle.std.proofs.Common.{◌≡◌, ℕ, zero, suc, ◌≤◌, max, List, [], ◌∷◌, ◌++◌, length, map, Bool, true, false, cond, ◌⊎◌, inl, inr, Option, Some, None, Result, Ok, Err, refl, sym, ap, ◌∙◌, subst, arith}
-use Rattle.std.proofs.lemmas.List.{append-nil, append_assoc, length-append}
+use Rattle.std.proofs.Common.{◌≡◌, ℕ, zero, suc, ◌≤◌, List, [], ◌∷◌, ◌++◌, length, map, true, false, cond, ◌⊎◌, inl, inr, Option, Some, None, Result, Ok, Err, refl, sym, ap, ◌∙◌, subst, arith}
+use Rattle.std.proofs.lemmas.List.{append_assoc}
 use Rattle.module_semantics.specs.Steps.{◌>>=◌}
 use Rattle.module_semantics.specs.Token.{LineToken}
 use Rattle.module_semantics.specs.Kinds.{COMMA}
@@ -10,10 +10,10 @@ use Rattle.module_semantics.specs.Spelling.{Spell, ◌>>◌, ◌▸◌, Listed, 
 use Rattle.module_semantics.specs.Grammar.{deepest}
 use Rattle.module_semantics.proofs.Steps.{ok_parts, bind_ok, bind_err, bound, bound_err, went, if_true, if_false, bind_some, bound_some, next, next_after, no_tokens, grown}
 use Rattle.module_semantics.proofs.KindLists.{disjoint, next_apart, next_neither, next_in_looks, none_next}
-use Rattle.module_semantics.proofs.Parts.{Fresh, Near, Free, Stable, Part, Begun, Default, Reads, shorter}
-use Rattle.module_semantics.proofs.Leaves.{one_ok, one_is, one_next, one_free, taken_ok, taken_is, taken_err, next_is}
+use Rattle.module_semantics.proofs.Parts.{Free, Stable, Part, Begun, Default, Reads, shorter}
+use Rattle.module_semantics.proofs.Leaves.{one_ok, one_is, one_next, one_free, taken_err}
 use Rattle.module_semantics.proofs.Ends.{mark_spelt, mark_read}
-use Rattle.module_semantics.proofs.Sequences.{then_free, later_begun, first_begun, same_begun}
+use Rattle.module_semantics.proofs.Sequences.{then_free, later_begun, same_begun}
 use Rattle.module_semantics.proofs.Lists.{some_tokens, no_length, cons_same, Takes, turn_takes}
 
 abbrev pub listed_part : {D A : Type 0} → Part D A → Part (Listed D) (List A)
@@ -69,11 +69,12 @@ listed_whole fs ks n P f g a (suc m) ts xs r h = elim (went (next_in fs ts) _ _ 
             let two = bind_ok (mark COMMA one.0.1) (λ c. listed_from fs f m c.1 >>= λ y. Ok (one.0.0 ∷ y.0, y.1)) (xs, r) v.1 in
             let three = bind_ok (listed_from fs f m two.0.1) (λ y. Ok (one.0.0 ∷ y.0, y.1)) (xs, r) two.2 in
             let ds = listed_whole fs ks n P f g a m two.0.1 three.0.0 three.0.1 three.1 in
-            let same = ok_parts (one.0.0 ∷ three.0.0) xs three.0.1 r three.2 in
-            (more d.0 ds.0,
-            bound_some (P.spelt d.0 ts) (spell.mark COMMA ▸ spell.listed P.spelt ds.0) one.0.1 (Some r) d.1 (bound_some (spell.mark COMMA one.0.1) (spell.listed P.spelt ds.0) two.0.1 (Some r) (mark_spelt COMMA one.0.1 two.0.0 two.0.1 two.1) (ds.1 ∙ ap Some same.0)),
-            cons_same _ _ _ _ d.2 ds.2 ∙ same.1,
-            omega (arith, d.3, ds.3))
+            let same = ok_parts (one.0.0 ∷ three.0.0) xs three.0.1 r three.2 in (
+              more d.0 ds.0,
+              bound_some (P.spelt d.0 ts) (spell.mark COMMA ▸ spell.listed P.spelt ds.0) one.0.1 (Some r) d.1 (bound_some (spell.mark COMMA one.0.1) (spell.listed P.spelt ds.0) two.0.1 (Some r) (mark_spelt COMMA one.0.1 two.0.0 two.0.1 two.1) (ds.1 ∙ ap Some same.0)),
+              cons_same _ _ _ _ d.2 ds.2 ∙ same.1,
+              omega (arith, d.3, ds.3),
+            )
         | inr v ↦
             let same = ok_parts (one.0.0 ∷ []) xs one.0.1 r v.1 in
             (last d.0, d.1 ∙ ap Some same.0, cons_same _ _ _ _ d.2 refl ∙ same.1, omega (arith, d.3))
@@ -198,11 +199,14 @@ listed_reads_on fs f g takes st (suc m) ts xs r fits h = elim (went (next_in fs 
                   fits',
             )
         | inr v ↦
-            let e = ok_parts (one.0.0 ∷ []) xs one.0.1 r v.1 in
-            (a.0, a.1 ∙ ap (λ k. a.0 ++ k) e.0, λ s k same fits'.
-            let near : next s ≡ next one.0.1 = same ∙ sym (ap next e.0) in
-            turn_on fs f g takes st ts one.0.1 one.0.0 a.0 w.0 one.1 a.1 a.2 s (Ok (xs, s)) k near fits'
-            (λ j fits3. if_false (next_in (COMMA ∷ []) s) _ _ _ (next_in_looks (COMMA ∷ []) s one.0.1 near ∙ v.0) (ap (λ z. Ok (z, s)) e.1)))
+            let e = ok_parts (one.0.0 ∷ []) xs one.0.1 r v.1 in (
+              a.0,
+              a.1 ∙ ap (λ k. a.0 ++ k) e.0,
+              λ s k same fits'.
+                  let near : next s ≡ next one.0.1 = same ∙ sym (ap next e.0) in
+                  turn_on fs f g takes st ts one.0.1 one.0.0 a.0 w.0 one.1 a.1 a.2 s (Ok (xs, s)) k near fits'
+                  (λ j fits3. if_false (next_in (COMMA ∷ []) s) _ _ _ (next_in_looks (COMMA ∷ []) s one.0.1 near ∙ v.0) (ap (λ z. Ok (z, s)) e.1)),
+            )
       ]
   | inr w ↦
       let e = ok_parts [] xs ts r w.1 in
@@ -215,11 +219,15 @@ listed_faults_on fs f g takes st zero ts j fits h = absurd cc
 listed_faults_on fs f g takes st (suc m) ts j fits h = elim (went (next_in fs ts) _ _ (Err (unexpected j)) h) [
   | inl w ↦ elim (bind_err (f ts) (λ x. after_item fs f m x.0 x.1) (unexpected j) w.1) [
     | inl v ↦
-        let a = st.faults ts j v in
-        (a.0, a.1, a.2, a.3,
-        λ s k same fits'.
-            let go : next_in fs (a.0 ++ s) ≡ true = next_in_looks fs (a.0 ++ s) (a.0 ++ a.1) (next_after a.0 a.1 s same) ∙ sym (ap (next_in fs) a.2) ∙ w.0 in
-            listed_fails fs g k (a.0 ++ s) (unexpected (length s)) go (a.4 s same) (some_tokens fs (a.0 ++ s) go) fits')
+        let a = st.faults ts j v in (
+          a.0,
+          a.1,
+          a.2,
+          a.3,
+          λ s k same fits'.
+              let go : next_in fs (a.0 ++ s) ≡ true = next_in_looks fs (a.0 ++ s) (a.0 ++ a.1) (next_after a.0 a.1 s same) ∙ sym (ap (next_in fs) a.2) ∙ w.0 in
+              listed_fails fs g k (a.0 ++ s) (unexpected (length s)) go (a.4 s same) (some_tokens fs (a.0 ++ s) go) fits',
+        )
     | inr one ↦ elim (went (next_in (COMMA ∷ []) one.0.1) _ _ (Err (unexpected j)) one.2) [
       | inl u ↦ elim (bind_err (mark COMMA one.0.1) (λ c. listed_from fs f m c.1 >>= λ y. Ok (one.0.0 ∷ y.0, y.1)) (unexpected j) u.1) [
         | inl v ↦ let k = taken_err (COMMA ∷ []) (λ t. tt) one.0.1 j v in absurd cc

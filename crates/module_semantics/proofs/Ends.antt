@@ -1,14 +1,14 @@
 -- The end of a statement, and the end of what may stand in one another.
-use Rattle.std.proofs.Common.{◌≡◌, ℕ, zero, suc, ◌≤◌, List, [], ◌∷◌, ◌++◌, length, Bool, true, false, not, cond, ◌&&◌, ◌⊎◌, inl, inr, Option, Some, None, Result, Ok, Err, refl, sym, ap, ◌∙◌, subst, arith}
+use Rattle.std.proofs.Common.{◌≡◌, ℕ, zero, ◌≤◌, List, [], ◌∷◌, ◌++◌, length, Bool, true, false, not, cond, ◌&&◌, ◌⊎◌, inl, inr, Option, Some, Ok, Err, refl, sym, ap, ◌∙◌, arith}
 use Rattle.module_semantics.specs.Steps.{◌>>=◌}
 use Rattle.module_semantics.specs.Token.{LineToken}
 use Rattle.module_semantics.specs.Kinds.{kind, within, SEMICOLON, CLOSE_BRACE, ERROR}
-use Rattle.module_semantics.specs.Readers.{GrammarFault, unexpected, Reader, next_in, taken, mark, ends, end, deep, ◌&◌, mapped, ◌▷◌, choice}
+use Rattle.module_semantics.specs.Readers.{unexpected, Reader, next_in, taken, mark, ends, end, deep, ◌&◌, mapped, choice}
 use Rattle.module_semantics.specs.Spelling as spell
 use Rattle.module_semantics.proofs.Steps.{ok_parts, bound_err, went, if_true, if_false, unexpected_at, next}
-use Rattle.module_semantics.proofs.KindLists.{subset, within_neither, next_in_looks, next_more, none_next}
-use Rattle.module_semantics.proofs.Parts.{Fresh, Near, Free, Stable, Part, Begun, Default, Starts, Reads}
-use Rattle.module_semantics.proofs.Leaves.{one_ok, one_is, one_next, taken_ok, taken_is, taken_not, taken_err, taken_stable, next_is}
+use Rattle.module_semantics.proofs.KindLists.{subset, within_neither, next_in_looks, next_more}
+use Rattle.module_semantics.proofs.Parts.{Fresh, Free, Stable, Part, Default, Reads}
+use Rattle.module_semantics.proofs.Leaves.{one_ok, one_is, taken_ok, taken_is, taken_not, taken_err, next_is}
 
 abbrev pub end_part : Part (Unit {0}) (Unit {0})
 end_part = record { spelt = λ u. spell.end; value = λ u. tt; depth = λ u. 0 }
@@ -98,12 +98,16 @@ end_free ts r h = elim (end_way ts r h) [
   | inl w ↦
       let v = one_ok (SEMICOLON ∷ []) spell.any_token ts r w.1 in
       (v.0 ∷ [], v.1, λ s near. if_true (next_in (SEMICOLON ∷ []) (v.0 ∷ s)) _ _ _ (next_is (SEMICOLON ∷ []) v.0 s (v.0 ∷ s) refl v.2) (one_is (SEMICOLON ∷ []) spell.any_token v.0 s v.2 refl))
-  | inr w ↦ ([], w.2, λ s near. elim near [
-    | inl same ↦
-        let e : next s ≡ next ts = same ∙ sym (ap next w.2) in
-        if_false (next_in (SEMICOLON ∷ []) s) _ _ _ (next_in_looks (SEMICOLON ∷ []) s ts e ∙ w.0) (if_true (ends s) _ _ _ (ends_looks s ts e ∙ w.1) refl)
-    | inr fresh ↦ fresh_end s fresh
-  ])
+  | inr w ↦ (
+    [],
+    w.2,
+    λ s near. elim near [
+      | inl same ↦
+          let e : next s ≡ next ts = same ∙ sym (ap next w.2) in
+          if_false (next_in (SEMICOLON ∷ []) s) _ _ _ (next_in_looks (SEMICOLON ∷ []) s ts e ∙ w.0) (if_true (ends s) _ _ _ (ends_looks s ts e ∙ w.1) refl)
+      | inr fresh ↦ fresh_end s fresh
+    ],
+  )
 ]
 
 end_stable : Stable end end

@@ -1,24 +1,24 @@
 -- Expressions: each level of the grammar, with its reader.
-use Rattle.std.proofs.Common.{◌≡◌, ℕ, zero, suc, ◌+◌, ◌≤◌, max, List, [], ◌∷◌, ◌++◌, map, ◌==◌, Bool, true, false, ◌⊎◌, inl, inr, Option, Some, None, refl, sym, ap, ◌∙◌, arith}
+use Rattle.std.proofs.Common.{◌≡◌, ℕ, zero, suc, ◌+◌, ◌≤◌, max, List, [], ◌∷◌, map, ◌==◌, Bool, true, false, ◌⊎◌, inl, inr, Option, Some, None, refl, sym, ap, ◌∙◌, arith}
 use Rattle.hmr_types.specs.declared.tree.Op.{Op}
 use Rattle.hmr_types.specs.declared.tree.Op.TheVariants as ops
-use Rattle.module_semantics.specs.Token.{Token, number, LineToken}
+use Rattle.module_semantics.specs.Token.{number, LineToken}
 use Rattle.module_semantics.specs.Kinds.{IMPORT, UNDEFINED, META, HOT, DATA, NUMBER, TEXT, OPEN, CLOSE, DOT, PLUS, MINUS, TIMES, QUESTION, COLON, SAFE_DOT, NULLISH, SEMICOLON, ERROR, within, kind, value_of, free_names, all_names, NameAt}
 use Rattle.module_semantics.specs.Raw as raw
 use Rattle.module_semantics.specs.Raw.{RawExpr}
-use Rattle.module_semantics.specs.Readers.{Reader, ◌&◌, ◌▷◌, ◌◁◌, mapped, choice, given, many, mark, taken, deep}
+use Rattle.module_semantics.specs.Readers.{Reader}
 use Rattle.module_semantics.specs.Reading as reading
 use Rattle.module_semantics.specs.Reading.{hot, access, accessed, grouped, chosen, expr_firsts, expr_over, operation}
 use Rattle.module_semantics.specs.Spelling as spell
 use Rattle.module_semantics.specs.Spelling.{Spell, ◌>>◌, ◌▸◌}
 use Rattle.module_semantics.specs.Grammar as grammar
 use Rattle.module_semantics.specs.Grammar.{ExprD, NullD, NullRestD, SumD, SumRestD, ProdD, ProdRestD, UnaryD, PrimD, expr_spelt, null_spelt, null_rest_spelt, sum_spelt, sum_rest_spelt, prod_spelt, prod_rest_spelt, unary_spelt, prim_spelt, expr_raw, null_raw, null_rest_raw, sum_raw, sum_rest_raw, prod_raw, prod_rest_raw, unary_raw, prim_raw, expr_depth, null_depth, null_rest_depth, sum_depth, sum_rest_depth, prod_depth, prod_rest_depth, unary_depth, prim_depth, hot_spelt, deepest}
-use Rattle.module_semantics.proofs.Steps.{bind_some, bound_some, regroup}
+use Rattle.module_semantics.proofs.Steps.{regroup}
 use Rattle.module_semantics.proofs.KindLists.{disjoint, disjoint_none, subset}
 use Rattle.module_semantics.proofs.Parts.{Part, Default, Reads}
 use Rattle.module_semantics.proofs.Leaves.{one_is}
-use Rattle.module_semantics.proofs.Sequences.{seq, seq_reads, firsts_of, follow_of}
-use Rattle.module_semantics.proofs.Choices.{As, as_reads, alt, choice_reads, follow_alt, seen, mapped_reads, nothing_part, given_reads, after, after_reads, before, before_reads}
+use Rattle.module_semantics.proofs.Sequences.{seq, seq_reads, follow_of}
+use Rattle.module_semantics.proofs.Choices.{As, as_reads, alt, choice_reads, seen, mapped_reads, nothing_part, given_reads, after, after_reads, before, before_reads}
 use Rattle.module_semantics.proofs.Lists.{list_part, many_reads}
 use Rattle.module_semantics.proofs.Ends.{Refuses, taken_refuses, then_refuses, mapped_refuses, choice_refuses, more_refuses, deep_refuses, deep_reads}
 use Rattle.module_semantics.proofs.Marks.{mark_part, name_part, bytes_part, number_part, number_reads, text_reads, key_reads, free_name_reads, undefined_mark, import_mark, meta_mark, hot_mark, data_mark, open_mark, close_mark, dot_mark, plus_mark, minus_mark, times_mark, question_mark, colon_mark, safe_dot_mark, nullish_mark}
@@ -164,7 +164,7 @@ access_reads n = as_reads _ _ (DOT ∷ SAFE_DOT ∷ []) prim_follow _ n n access
 pub prim_reads : (n : ℕ) (e e' : Reader RawExpr) → ExprReads n e e' → Reads prim_firsts false prim_follow n prim_level (reading.prim e) (reading.prim e')
 unfolding reading.prim disjoint within subset
 prim_reads n e e' a =
-    as_reads _ _ (prim_firsts) (prim_follow) _ n n prim_parts prim_level _ _ refl refl (prim_as n) 
+    as_reads _ _ (prim_firsts) (prim_follow) _ n n prim_parts prim_level _ _ refl refl (prim_as n)
     (choice_reads (NUMBER ∷ []) _ _ _ _ _ n _ _ _ _ _ _ refl refl (mapped_reads _ _ _ n _ _ _ (raw.num) (number_reads n)) (choice_reads (TEXT ∷ []) _ _ _ _ _ n _ _ _ _ _ _ refl refl (mapped_reads _ _ _ n _ _ _ (raw.text) (text_reads n)) (choice_reads (UNDEFINED ∷ []) _ _ _ _ _ n _ _ _ _ _ _ refl refl (mapped_reads _ _ _ n _ _ _ (λ u. raw.undefined) (undefined_mark n)) (choice_reads (IMPORT ∷ []) _ _ _ _ _ n _ _ _ _ _ _ refl refl (mapped_reads _ _ _ n _ _ _ (raw.bag) (after_reads _ _ _ _ _ _ n _ _ _ _ _ _ refl refl (import_mark n) (hot_reads _ _ _ n _ _ _ (after_reads _ _ _ _ _ _ n _ _ _ _ _ _ refl refl (data_mark n) (after_reads _ _ _ _ _ _ n _ _ _ _ _ _ refl refl (dot_mark n) (key_reads n)))))) (choice_reads (OPEN ∷ []) _ _ _ _ _ n _ _ _ _ _ _ refl refl (after_reads _ _ _ _ _ _ n _ _ _ _ _ _ refl refl (open_mark n) (before_reads _ _ _ _ _ _ n _ _ _ _ _ _ refl refl a (close_mark n))) (mapped_reads _ _ _ n _ _ _ (accessed) (seq_reads _ _ _ _ _ _ n _ _ _ _ _ _ refl (free_name_reads n) (access_reads n))))))))
 
 abbrev unary_way : Type 0

@@ -1,12 +1,11 @@
 -- Items.
-use Rattle.std.proofs.Common.{◌≡◌, ℕ, zero, suc, ◌+◌, ◌≤◌, max, List, [], ◌∷◌, ◌++◌, map, Bool, true, false, ◌==◌, ◌&&◌, ◌⊎◌, inl, inr, Option, Some, None, refl, sym, ap, ◌∙◌, subst, arith}
+use Rattle.std.proofs.Common.{◌≡◌, ℕ, ◌≤◌, List, [], ◌∷◌, map, Bool, true, false, ◌==◌, ◌⊎◌, inl, inr, Option, Some, None, refl, sym, ap, ◌∙◌, subst, arith}
 use Rattle.std.specs.Str.{bytes_eq}
 use Rattle.module_semantics.specs.Token.{LineToken}
-use Rattle.module_semantics.specs.Kinds.{IMPORT, EXPORT, CONST, LET, IF, THROW, DATA, DOT, EQUALS, META, HOT, FROM, AS, TEXT, COMMA, OPEN, CLOSE, OPEN_BRACE, CLOSE_BRACE, within, kind, free_names, all_names, reserved, bytes_of, NameAt, name_at, same_name}
+use Rattle.module_semantics.specs.Kinds.{IMPORT, EXPORT, CONST, LET, IF, THROW, DATA, DOT, EQUALS, FROM, AS, TEXT, OPEN_BRACE, CLOSE_BRACE, within, free_names, all_names, reserved, bytes_of, NameAt, name_at, same_name}
 use Rattle.module_semantics.specs.Raw as raw
 use Rattle.module_semantics.specs.Raw.{RawExpr, RawItem, RawImport}
 use Rattle.module_semantics.specs.Readers.{Reader}
-use Rattle.module_semantics.specs.Reading as reading
 use Rattle.module_semantics.specs.Reading.{Inner, alone, imported, body, top_firsts, item_firsts, hot_top, plain_top, top, guard, declaration, import_name, import_item, item}
 use Rattle.module_semantics.specs.Spelling as spell
 use Rattle.module_semantics.specs.Spelling.{Spell, ◌>>◌, ◌▸◌, one, name_of, Listed, items_of}
@@ -19,8 +18,8 @@ use Rattle.module_semantics.proofs.KindLists.{same_kind, disjoint, subset}
 use Rattle.module_semantics.proofs.Parts.{Part, Reads}
 use Rattle.module_semantics.proofs.Leaves.{one_ok, one_is}
 use Rattle.module_semantics.proofs.Sequences.{seq, seq_reads}
-use Rattle.module_semantics.proofs.Choices.{As, as_reads, alt, choice_reads, seen, mapped_reads, nothing_part, given_reads, after, after_reads, before, before_reads}
-use Rattle.module_semantics.proofs.Lists.{list_part, many_reads}
+use Rattle.module_semantics.proofs.Choices.{As, as_reads, alt, choice_reads, seen, mapped_reads, after, after_reads, before, before_reads}
+use Rattle.module_semantics.proofs.Lists.{many_reads}
 use Rattle.module_semantics.proofs.CommaLists.{listed_part, listed_reads}
 use Rattle.module_semantics.proofs.Ends.{end_part, end_reads}
 use Rattle.module_semantics.proofs.Options.{maybe_part, maybe_reads}
@@ -87,7 +86,6 @@ top_act d ts r h m end (inr v) = subst (λ a. (w : top_way) × (to_top w ≡ gra
 top_from : (e : TopD) (ts r : List LineToken) → top_part.spelt e ts ≡ Some r → (d : top_way) × (to_top d ≡ e) × (top_parts.spelt d ts ≡ Some r)
 top_from (grammar.TopD.call c) ts r h = ((inl (inr c)), refl, h)
 top_from (grammar.TopD.throw t) ts r h = ((inr (inl t)), refl, h)
-
 top_from (grammar.TopD.act d) ts r h = let m = bind_some (act_spelt d ts) spell.end r h in top_act d ts r h m.0 m.2 (act_way d ts m.0 m.1)
 
 top_value : (d : top_way) → top_part.value (to_top d) ≡ top_parts.value d
@@ -215,7 +213,6 @@ spec_renamed k l ts r h =
 spec_from : (e : SpecD) (ts r : List LineToken) → spec_part.spelt e ts ≡ Some r → (d : spec_way) × (to_spec d ≡ e) × (spec_parts.spelt d ts ≡ Some r)
 unfolding subset within
 spec_from (grammar.same m) ts r h = (inr (m, None), refl, and_no_more _ r h)
-
 spec_from (grammar.renamed k l) ts r h = spec_renamed k l ts r h
 
 spec_value : (d : spec_way) → spec_part.value (to_spec d) ≡ spec_parts.value d
@@ -312,7 +309,6 @@ item_from (grammar.exported d) ts r h = ((inr (inl d)), refl, h)
 item_from (grammar.declared d) ts r h = ((inr (inr (inl d))), refl, h)
 item_from (grammar.ItemD.guard ds) ts r h = ((inr (inr (inr (inl ds)))), refl, h)
 item_from (grammar.ItemD.top (grammar.TopD.throw t)) ts r h = ((inr (inr (inr (inr (inl t))))), refl, h)
-
 item_from (grammar.ItemD.top (grammar.TopD.act d)) ts r h = let m = bind_some (act_spelt d ts) spell.end r h in item_act d ts r h m.0 m.2 (act_way d ts m.0 m.1)
 
 item_value : (d : item_way) → item_part.value (to_item d) ≡ item_parts.value d

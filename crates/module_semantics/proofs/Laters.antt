@@ -1,15 +1,15 @@
 -- A reader that takes the token at which its part begins: no fault stands at that token.
-use Rattle.std.proofs.Common.{◌≡◌, ℕ, zero, suc, ◌≤◌, List, [], ◌∷◌, ◌++◌, length, Bool, true, false, ◌⊎◌, inl, inr, Option, Some, None, Result, Ok, Err, refl, sym, ap, ◌∙◌, arith}
+use Rattle.std.proofs.Common.{◌≡◌, ℕ, zero, suc, ◌≤◌, List, [], ◌∷◌, ◌++◌, length, Bool, true, false, inl, inr, Some, None, Ok, Err, refl, ap, arith}
 use Rattle.hmr_types.specs.declared.tree.Op.TheVariants as ops
 use Rattle.module_semantics.specs.Steps.{◌>>=◌}
 use Rattle.module_semantics.specs.Token.{LineToken}
-use Rattle.module_semantics.specs.Kinds.{QUESTION, COLON, PLUS, TIMES, NULLISH, IMPORT, UNDEFINED, NUMBER, TEXT, OPEN, CLOSE, MINUS, DATA, DOT, within, kind, free_names}
+use Rattle.module_semantics.specs.Kinds.{QUESTION, PLUS, IMPORT, UNDEFINED, NUMBER, TEXT, OPEN, MINUS, within, free_names}
 use Rattle.module_semantics.specs.Raw as raw
 use Rattle.module_semantics.specs.Raw.{RawExpr}
-use Rattle.module_semantics.specs.Readers.{GrammarFault, unexpected, Reader, next_in, taken, mark, ◌&◌, ◌▷◌, mapped, choice, deep}
+use Rattle.module_semantics.specs.Readers.{unexpected, Reader, next_in, taken, mark, ◌&◌, ◌▷◌, mapped, choice, deep}
 use Rattle.module_semantics.specs.Reading as reading
 use Rattle.module_semantics.specs.Reading.{access, accessed, grouped, chosen, expr_firsts, expr_over}
-use Rattle.module_semantics.proofs.Steps.{bind_ok, bind_err, went, unexpected_at, split_length}
+use Rattle.module_semantics.proofs.Steps.{bind_err, went, split_length}
 use Rattle.module_semantics.proofs.KindLists.{disjoint, subset, next_more, next_either}
 use Rattle.module_semantics.proofs.Parts.{Part, Begun, Reads}
 use Rattle.module_semantics.proofs.Leaves.{taken_ok, taken_err}
@@ -56,6 +56,7 @@ choice_later fs hs gs f g sub a b ts m go h = elim (went (next_in hs ts) (f ts) 
 
 deep_later : {A : Type 0} (fs : List ℕ) → Later {A = A} fs (deep fs)
 deep_later {A} fs ts m go h = let w = deep_err {A = A} fs ts m h in absurd cc
+
 taken_takes : {A : Type 0} (ks : List ℕ) (v : LineToken → A) → Takes (taken ks v)
 taken_takes ks v ts x r h = let w = taken_ok ks v ts x r h in omega (arith, ap length w.1)
 

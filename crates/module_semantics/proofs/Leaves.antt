@@ -1,14 +1,13 @@
 -- A token of some kinds, and nothing.
-use Rattle.std.proofs.Common.{◌≡◌, ℕ, zero, suc, ◌≤◌, List, [], ◌∷◌, ◌++◌, length, Bool, true, false, cond, ◌&&◌, inl, inr, Option, Some, None, Result, Ok, Err, refl, sym, ap, ◌∙◌, subst, arith}
+use Rattle.std.proofs.Common.{◌≡◌, ℕ, List, [], ◌∷◌, length, Bool, true, false, cond, ◌&&◌, inl, inr, Some, None, Ok, Err, refl, sym, ap, ◌∙◌, subst, arith}
 use Rattle.module_semantics.specs.Token.{LineToken}
 use Rattle.module_semantics.specs.Kinds.{kind, within, SEMICOLON, ERROR}
-use Rattle.module_semantics.specs.Readers.{GrammarFault, unexpected, Reader, next_in, taken, given}
-use Rattle.module_semantics.specs.Spelling.{Spell, one}
+use Rattle.module_semantics.specs.Readers.{unexpected, next_in, taken}
+use Rattle.module_semantics.specs.Spelling.{one}
 use Rattle.module_semantics.proofs.PiecesLex.{both}
-use Rattle.module_semantics.proofs.LexedPieces.{and_yes}
-use Rattle.module_semantics.proofs.Steps.{ok_parts, went, some_same, unexpected_at, next}
+use Rattle.module_semantics.proofs.Steps.{ok_parts, went, unexpected_at}
 use Rattle.module_semantics.proofs.KindLists.{next_in_looks}
-use Rattle.module_semantics.proofs.Parts.{Free, Stable, Part, Default, Reads, leaf}
+use Rattle.module_semantics.proofs.Parts.{Free, Stable, Default, Reads, leaf}
 
 -- the test says which values are the same
 pub record Same {A : Type 0} (same : A → A → Bool) : Type 0 where

@@ -22,5 +22,6 @@ pub mod Parts
 pub mod Sequences
 pub mod Statements
 pub mod Steps
+pub mod TextExamples
 pub mod Texts
 pub mod Thrown

@@ -1,15 +1,15 @@
 -- A part as many times as it stands there.
-use Rattle.std.proofs.Common.{◌≡◌, ℕ, zero, suc, ◌≤◌, max, List, [], ◌∷◌, ◌++◌, length, map, Bool, true, false, cond, ◌⊎◌, inl, inr, Option, Some, None, Result, Ok, Err, refl, sym, ap, ◌∙◌, subst, arith}
-use Rattle.std.proofs.lemmas.List.{append-nil, append_assoc, length-append}
+use Rattle.std.proofs.Common.{◌≡◌, ℕ, zero, suc, ◌≤◌, List, [], ◌∷◌, ◌++◌, length, map, true, false, ◌⊎◌, inl, inr, Some, Result, Ok, Err, refl, sym, ap, ◌∙◌, subst, arith}
+use Rattle.std.proofs.lemmas.List.{append_assoc}
 use Rattle.module_semantics.specs.Steps.{◌>>=◌}
 use Rattle.module_semantics.specs.Token.{LineToken}
 use Rattle.module_semantics.specs.Readers.{GrammarFault, unexpected, Reader, next_in, many_from, many}
 use Rattle.module_semantics.specs.Spelling as spell
 use Rattle.module_semantics.specs.Spelling.{Spell, ◌>>◌, ◌▸◌}
 use Rattle.module_semantics.specs.Grammar.{deepest}
-use Rattle.module_semantics.proofs.Steps.{ok_parts, bind_ok, bind_err, bound, bound_err, went, if_true, if_false, bind_some, bound_some, next, next_after, no_tokens, grown, split_length}
+use Rattle.module_semantics.proofs.Steps.{ok_parts, bind_ok, bind_err, bound, bound_err, went, if_true, if_false, bind_some, bound_some, next, next_after, no_tokens, grown}
 use Rattle.module_semantics.proofs.KindLists.{disjoint, next_apart, next_neither, next_in_looks, none_next}
-use Rattle.module_semantics.proofs.Parts.{Fresh, Near, Free, Stable, Part, Begun, Default, Reads, shorter}
+use Rattle.module_semantics.proofs.Parts.{Free, Stable, Part, Begun, Default, Reads, shorter}
 use Rattle.module_semantics.proofs.Sequences.{then_free, later_begun, first_begun, same_begun}
 
 abbrev pub list_part : {D A : Type 0} → Part D A → Part (List D) (List A)
@@ -160,11 +160,15 @@ many_faults_on fs f g takes st zero ts j fits h = absurd cc
 many_faults_on fs f g takes st (suc m) ts j fits h = elim (went (next_in fs ts) _ _ (Err (unexpected j)) h) [
   | inl w ↦ elim (bind_err (f ts) (λ x. many_from fs f m x.1 >>= λ y. Ok (x.0 ∷ y.0, y.1)) (unexpected j) w.1) [
     | inl v ↦
-        let a = st.faults ts j v in
-        (a.0, a.1, a.2, a.3,
-        λ s k same fits'.
-            let go : next_in fs (a.0 ++ s) ≡ true = next_in_looks fs (a.0 ++ s) (a.0 ++ a.1) (next_after a.0 a.1 s same) ∙ sym (ap (next_in fs) a.2) ∙ w.0 in
-            many_fails fs g k (a.0 ++ s) (unexpected (length s)) go (a.4 s same) (some_tokens fs (a.0 ++ s) go) fits')
+        let a = st.faults ts j v in (
+          a.0,
+          a.1,
+          a.2,
+          a.3,
+          λ s k same fits'.
+              let go : next_in fs (a.0 ++ s) ≡ true = next_in_looks fs (a.0 ++ s) (a.0 ++ a.1) (next_after a.0 a.1 s same) ∙ sym (ap (next_in fs) a.2) ∙ w.0 in
+              many_fails fs g k (a.0 ++ s) (unexpected (length s)) go (a.4 s same) (some_tokens fs (a.0 ++ s) go) fits',
+        )
     | inr one ↦ elim (bind_err (many_from fs f m one.0.1) (λ y. Ok (one.0.0 ∷ y.0, y.1)) (unexpected j) one.2) [
       | inl v ↦
           let a = st.reads ts one.0.0 one.0.1 one.1 in

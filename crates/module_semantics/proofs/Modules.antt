@@ -1,18 +1,18 @@
 -- Whole modules: the reader is the grammar, and its faults stand first.
-use Rattle.std.proofs.Common.{◌≡◌, ℕ, suc, ◌+◌, ◌-◌, ◌≤◌, max, List, [], ◌∷◌, ◌++◌, length, Bool, true, false, Some, Result, Ok, Err, refl, sym, ap, ◌∙◌, subst, inl, inr, arith}
+use Rattle.std.proofs.Common.{◌≡◌, ℕ, ◌+◌, ◌-◌, ◌≤◌, max, List, [], ◌∷◌, ◌++◌, length, true, Some, Result, Ok, Err, refl, sym, ap, ◌∙◌, subst, inl, inr, arith}
 use Rattle.std.proofs.lemmas.Bool.{cases_lt}
 use Rattle.std.proofs.lemmas.List.{append-nil, append_assoc, length-append}
 use Rattle.module_semantics.specs.Steps.{◌>>=◌}
 use Rattle.module_semantics.specs.Token.{LineToken}
 use Rattle.module_semantics.specs.Kinds.{within}
 use Rattle.module_semantics.specs.Raw.{RawItem}
-use Rattle.module_semantics.specs.Readers.{GrammarFault, unexpected, Reader, next_in, mapped, many, ◌&◌, ◌◁◌}
+use Rattle.module_semantics.specs.Readers.{GrammarFault, unexpected, Reader, mapped, many, ◌&◌}
 use Rattle.module_semantics.specs.Reading.{flat, item, item_firsts, inner, finished, module_reader, reading}
 use Rattle.module_semantics.specs.Grammar.{ModuleD, module_spelt, module_raw, module_depth}
 use Rattle.module_semantics.specs.ModuleTokens.{IsModule, Says, Continues, Stops, FirstUnexpected}
-use Rattle.module_semantics.proofs.Steps.{ok_parts, bind_ok, bind_err, bound, bound_err, unexpected_at, next, no_tokens}
-use Rattle.module_semantics.proofs.KindLists.{disjoint, subset, none_next}
-use Rattle.module_semantics.proofs.Parts.{Fresh, Stable, Part, Begun, Reads}
+use Rattle.module_semantics.proofs.Steps.{ok_parts, bind_ok, bind_err, bound, unexpected_at, next, no_tokens}
+use Rattle.module_semantics.proofs.KindLists.{disjoint, none_next}
+use Rattle.module_semantics.proofs.Parts.{Stable, Part, Begun, Reads}
 use Rattle.module_semantics.proofs.Sequences.{then_stable, ok_stable}
 use Rattle.module_semantics.proofs.Choices.{mapped_reads}
 use Rattle.module_semantics.proofs.Lists.{list_part, many_reads}

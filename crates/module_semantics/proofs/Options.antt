@@ -1,9 +1,9 @@
 -- A part that may be missing, and parts with a comma between each two.
-use Rattle.std.proofs.Common.{◌≡◌, ℕ, zero, suc, ◌≤◌, max, List, [], ◌∷◌, ◌++◌, map, Bool, true, false, ◌⊎◌, inl, inr, Option, Some, None, refl, sym, ap, ◌∙◌, arith}
+use Rattle.std.proofs.Common.{◌≡◌, ℕ, List, [], ◌∷◌, ◌++◌, map, true, false, ◌⊎◌, inl, inr, Option, Some, None, refl, arith}
 use Rattle.std.specs.Option.{option_map}
 use Rattle.module_semantics.specs.Token.{LineToken}
 use Rattle.module_semantics.specs.Kinds.{COMMA}
-use Rattle.module_semantics.specs.Readers.{Reader, ◌&◌, ◌▷◌, mapped, choice, given, many, mark, separated}
+use Rattle.module_semantics.specs.Readers.{Reader, mapped, choice, given, separated}
 use Rattle.module_semantics.specs.Spelling as spell
 use Rattle.module_semantics.specs.Spelling.{Spell, ◌>>◌, ◌▸◌}
 use Rattle.module_semantics.specs.Grammar.{deepest, deep_if}

@@ -1,14 +1,12 @@
 -- A reader and the part of the grammar that it reads, with all that is known of the two: each combinator of readers keeps it.
-use Rattle.std.proofs.Common.{◌≡◌, ℕ, zero, suc, ◌+◌, ◌≤◌, max, List, [], ◌∷◌, ◌++◌, length, Bool, true, false, cond, ◌&&◌, ◌⊎◌, inl, inr, Option, Some, None, Result, Ok, Err, refl, sym, ap, ◌∙◌, subst, arith}
-use Rattle.std.proofs.lemmas.List.{append-nil, append_assoc, length-append}
-use Rattle.module_semantics.specs.Steps.{◌>>=◌}
+use Rattle.std.proofs.Common.{◌≡◌, ℕ, suc, ◌≤◌, List, [], ◌∷◌, ◌++◌, length, Bool, true, false, ◌⊎◌, inl, inr, Some, Ok, Err, refl, ap, arith}
+use Rattle.std.proofs.lemmas.List.{length-append}
 use Rattle.module_semantics.specs.Token.{LineToken}
 use Rattle.module_semantics.specs.Kinds.{kind, within, SEMICOLON, ERROR}
-use Rattle.module_semantics.specs.Readers.{GrammarFault, unexpected, Reader, next_in, taken, given, ◌&◌, mapped, choice}
-use Rattle.module_semantics.specs.Spelling.{Spell, ◌>>◌, ◌▸◌, one}
-use Rattle.module_semantics.proofs.PiecesLex.{both}
-use Rattle.module_semantics.proofs.Steps.{ok_parts, bind_ok, bind_err, bound, bound_err, went, if_true, if_false, bind_some, bound_some, some_same, unexpected_at, next, next_after, no_tokens, split_length}
-use Rattle.module_semantics.proofs.KindLists.{disjoint, next_apart, next_left, next_right, next_either, next_neither, next_in_looks, none_next}
+use Rattle.module_semantics.specs.Readers.{unexpected, Reader, next_in}
+use Rattle.module_semantics.specs.Spelling.{Spell, one}
+use Rattle.module_semantics.proofs.Steps.{next}
+use Rattle.module_semantics.proofs.KindLists.{none_next}
 
 -- a rest that begins a line, with no semicolon and not with `Error`
 abbrev pub Fresh : List LineToken → Type 0

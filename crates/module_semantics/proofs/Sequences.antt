@@ -1,13 +1,13 @@
 -- One part after another.
-use Rattle.std.proofs.Common.{◌≡◌, ℕ, zero, suc, ◌≤◌, max, List, [], ◌∷◌, ◌++◌, length, Bool, true, false, cond, ◌&&◌, ◌⊎◌, inl, inr, Option, Some, None, Result, Ok, Err, refl, sym, ap, ◌∙◌, subst, arith}
-use Rattle.std.proofs.lemmas.List.{append-nil, append_assoc}
+use Rattle.std.proofs.Common.{◌≡◌, ℕ, ◌≤◌, max, List, [], ◌++◌, length, Bool, true, false, ◌&&◌, inl, inr, Some, Ok, Err, refl, sym, ap, ◌∙◌, subst, arith}
+use Rattle.std.proofs.lemmas.List.{append_assoc}
 use Rattle.module_semantics.specs.Steps.{◌>>=◌}
 use Rattle.module_semantics.specs.Token.{LineToken}
-use Rattle.module_semantics.specs.Readers.{GrammarFault, unexpected, Reader, next_in, ◌&◌}
+use Rattle.module_semantics.specs.Readers.{unexpected, Reader, next_in, ◌&◌}
 use Rattle.module_semantics.specs.Spelling.{Spell, ◌>>◌, ◌▸◌}
 use Rattle.module_semantics.proofs.Steps.{ok_parts, bind_ok, bind_err, bound, bound_err, bind_some, bound_some, next, next_after}
 use Rattle.module_semantics.proofs.KindLists.{disjoint, next_apart, next_left, next_right, next_neither}
-use Rattle.module_semantics.proofs.Parts.{Fresh, Near, near_after, fresh_more, Free, Stable, Part, Begun, Default, Starts, Reads}
+use Rattle.module_semantics.proofs.Parts.{Near, near_after, fresh_more, Free, Stable, Part, Begun, Default, Starts, Reads}
 
 abbrev pub firsts_of : Bool → List ℕ → List ℕ → List ℕ
 firsts_of true a b = a ++ b

@@ -1,10 +1,9 @@
 -- Statements, blocks and ifs, and what stands inside them.
-use Rattle.std.proofs.Common.{◌≡◌, ℕ, zero, suc, ◌+◌, ◌≤◌, max, List, [], ◌∷◌, ◌++◌, map, Bool, true, false, ◌⊎◌, inl, inr, Option, Some, None, refl, sym, ap, ◌∙◌, subst, arith, codes}
+use Rattle.std.proofs.Common.{◌≡◌, ℕ, zero, suc, ◌+◌, ◌≤◌, max, List, [], ◌∷◌, ◌++◌, map, true, false, ◌⊎◌, inl, inr, Some, refl, sym, ap, ◌∙◌, subst, arith, codes}
 use Rattle.module_semantics.specs.Token.{Token, name, punct, LineToken}
-use Rattle.module_semantics.specs.Kinds.{DATA, DOT, EQUALS, IF, ELSE, THROW, IMPORT, OPEN, CLOSE, OPEN_BRACE, CLOSE_BRACE, SEMICOLON, ERROR, within, kind, word_kind, found_word, free_names}
+use Rattle.module_semantics.specs.Kinds.{DATA, DOT, EQUALS, IF, ELSE, THROW, IMPORT, OPEN, CLOSE, OPEN_BRACE, CLOSE_BRACE, within, kind, word_kind, found_word}
 use Rattle.module_semantics.specs.Raw as raw
 use Rattle.module_semantics.specs.Raw.{RawExpr, RawStmt, RawStmts, no_stmts, one_stmt, stmts_of}
-use Rattle.module_semantics.specs.Readers.{Reader, deep}
 use Rattle.module_semantics.specs.Reading as reading
 use Rattle.module_semantics.specs.Reading.{Inner, only, applied, expr_firsts, stmt_firsts, else_part, if_stmt, stmt, braces, inner}
 use Rattle.module_semantics.specs.Spelling as spell
@@ -179,7 +178,6 @@ stmt_from : (e : StmtD) (ts r : List LineToken) → stmt_part.spelt e ts ≡ Som
 stmt_from (grammar.StmtD.branch d) ts r h = ((inl d), refl, h)
 stmt_from (grammar.StmtD.throw d) ts r h = ((inr (inl d)), refl, h)
 stmt_from (grammar.StmtD.inval (grammar.invalidate at x)) ts r h = ((inr (inr (inl (at, inr x)))), refl, h)
-
 stmt_from (grammar.StmtD.act d) ts r h = stmt_act d ts r h
 
 stmt_value : (d : stmt_way) → stmt_part.value (to_stmt d) ≡ stmt_parts.value d

@@ -1,9 +1,9 @@
 -- Steps of readers and of spellings, taken apart.
-use Rattle.std.proofs.Common.{◌≡◌, ℕ, suc, ◌+◌, ◌≤◌, List, [], ◌∷◌, ◌++◌, length, Bool, true, false, cond, ◌⊎◌, inl, inr, Option, Some, None, Result, Ok, Err, refl, sym, ap, ◌∙◌, arith}
+use Rattle.std.proofs.Common.{◌≡◌, ℕ, suc, ◌≤◌, List, [], ◌∷◌, ◌++◌, length, Bool, true, false, cond, ◌⊎◌, inl, inr, Option, Some, None, Result, Ok, Err, refl, ap, arith}
 use Rattle.std.proofs.lemmas.List.{length-append}
 use Rattle.module_semantics.specs.Steps.{◌>>=◌}
 use Rattle.module_semantics.specs.Token.{LineToken}
-use Rattle.module_semantics.specs.Readers.{GrammarFault, unexpected, Reader}
+use Rattle.module_semantics.specs.Readers.{GrammarFault, unexpected}
 use Rattle.module_semantics.specs.Spelling.{Spell, ◌>>◌}
 
 pub ok_parts : {A : Type 0} (x y : A) (ts r : List LineToken) → ◌≡◌ {A = Result (A × List LineToken) GrammarFault} (Ok (x, ts)) (Ok (y, r)) → (ts ≡ r) × (x ≡ y)

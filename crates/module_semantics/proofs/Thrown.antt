@@ -1,11 +1,10 @@
 -- What is thrown: the one choice by two tokens. Both ways take the first of the two, so no fault at it hangs on the second.
-use Rattle.std.proofs.Common.{◌≡◌, ℕ, zero, suc, ◌≤◌, List, [], ◌∷◌, ◌++◌, length, Bool, true, false, cond, ◌&&◌, ◌⊎◌, inl, inr, Option, Some, None, Result, Ok, Err, refl, sym, ap, ◌∙◌, subst, arith}
+use Rattle.std.proofs.Common.{◌≡◌, ℕ, ◌≤◌, List, [], ◌∷◌, ◌++◌, length, Bool, true, false, cond, ◌&&◌, ◌⊎◌, inl, inr, Some, None, Result, Ok, Err, refl, sym, ap, ◌∙◌, arith}
 use Rattle.std.proofs.lemmas.List.{length-append}
-use Rattle.module_semantics.specs.Steps.{◌>>=◌}
 use Rattle.module_semantics.specs.Token.{LineToken}
-use Rattle.module_semantics.specs.Kinds.{NEW, ERROR, OPEN, CLOSE, THROW, NUMBER, SEMICOLON, within, kind}
+use Rattle.module_semantics.specs.Kinds.{NEW, ERROR, OPEN, CLOSE, THROW, SEMICOLON, within, kind}
 use Rattle.module_semantics.specs.Raw.{RawExpr}
-use Rattle.module_semantics.specs.Readers.{GrammarFault, unexpected, Reader, next_in, next_two, mark, ◌&◌, ◌▷◌, ◌◁◌, mapped}
+use Rattle.module_semantics.specs.Readers.{GrammarFault, unexpected, Reader, next_in, next_two, mark, ◌▷◌, ◌◁◌}
 use Rattle.module_semantics.specs.Reading as reading
 use Rattle.module_semantics.specs.Reading.{expr_firsts}
 use Rattle.module_semantics.specs.Spelling as spell
@@ -13,15 +12,15 @@ use Rattle.module_semantics.specs.Spelling.{Spell, ◌>>◌, ◌▸◌}
 use Rattle.module_semantics.specs.Grammar as grammar
 use Rattle.module_semantics.specs.Grammar.{ExprD, ThrowD, expr_spelt, expr_raw, expr_depth, throw_spelt, throw_raw, throw_depth, not_error}
 use Rattle.module_semantics.proofs.PiecesLex.{both}
-use Rattle.module_semantics.proofs.Steps.{ok_parts, bound, bound_err, went, if_true, if_false, bind_some, bound_some, unexpected_at, next, next_after}
-use Rattle.module_semantics.proofs.KindLists.{disjoint, subset, within_neither, next_more, next_in_looks, none_next}
+use Rattle.module_semantics.proofs.Steps.{went, if_true, if_false, bind_some, bound_some, next}
+use Rattle.module_semantics.proofs.KindLists.{disjoint, subset, within_neither, next_more, next_in_looks}
 use Rattle.module_semantics.proofs.Parts.{shorter, Fresh, Near, fresh_more, Free, Stable, Part, Begun, Default, Reads}
 use Rattle.module_semantics.proofs.Leaves.{one_ok, one_is, one_next, one_free, taken_is}
 use Rattle.module_semantics.proofs.Sequences.{then_free}
-use Rattle.module_semantics.proofs.Choices.{As, as_reads, after, after_reads, before, before_reads}
+use Rattle.module_semantics.proofs.Choices.{as_reads, after, after_reads, before, before_reads}
 use Rattle.module_semantics.proofs.Lists.{turn_takes}
 use Rattle.module_semantics.proofs.Ends.{chose, next_fewer}
-use Rattle.module_semantics.proofs.Marks.{mark_part, open_mark, close_mark, throw_mark, number_reads}
+use Rattle.module_semantics.proofs.Marks.{mark_part, open_mark, close_mark, throw_mark}
 use Rattle.module_semantics.proofs.Expressions.{ExprReads, expr_part, expr_follow, expr_default}
 use Rattle.module_semantics.proofs.Laters.{Later}
 

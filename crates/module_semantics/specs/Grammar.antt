@@ -1,10 +1,9 @@
 -- The grammar of a module text: derivations, with one constructor for each production. A derivation is spelled by tokens,
 -- says something of the module, and has a depth.
-use Rattle.std.specs.Prelude.{ℕ, suc, max, List, [], ◌∷◌, ◌++◌, Bool, true, false, ◌==◌, if◌then◌else◌, Option, Some, None, map}
+use Rattle.std.specs.Prelude.{ℕ, suc, max, List, [], ◌∷◌, Bool, true, false, if◌then◌else◌, Option, Some, None, map}
 use Rattle.std.specs.Option.{option_map}
 use Rattle.hmr_types.specs.declared.tree.Op.TheVariants as ops
-use Rattle.module_semantics.specs.Token.{LineToken}
-use Rattle.module_semantics.specs.Kinds.{IMPORT, EXPORT, CONST, LET, IF, ELSE, THROW, UNDEFINED, CONSOLE, LOG, HOST, NEW, ERROR, FROM, AS, META, HOT, DATA, ACCEPT, DISPOSE, PRUNE, DECLINE, INVALIDATE, OPEN_BRACE, CLOSE_BRACE, OPEN, CLOSE, OPEN_BRACKET, CLOSE_BRACKET, COMMA, DOT, EQUALS, PLUS, MINUS, TIMES, QUESTION, COLON, ARROW, SAFE_DOT, NULLISH, NameAt, all_names, free_names}
+use Rattle.module_semantics.specs.Kinds.{IMPORT, EXPORT, CONST, LET, IF, ELSE, THROW, UNDEFINED, CONSOLE, LOG, HOST, NEW, ERROR, FROM, AS, META, HOT, DATA, ACCEPT, DISPOSE, PRUNE, DECLINE, INVALIDATE, OPEN_BRACE, CLOSE_BRACE, OPEN, CLOSE, OPEN_BRACKET, CLOSE_BRACKET, COMMA, DOT, EQUALS, PLUS, MINUS, TIMES, QUESTION, COLON, ARROW, SAFE_DOT, NULLISH, NameAt}
 use Rattle.module_semantics.specs.Raw as raw
 use Rattle.module_semantics.specs.Raw.{RawExpr, RawStmt, RawStmts, no_stmts, one_stmt, RawHandler, RawOnce, RawImport, RawItem}
 use Rattle.module_semantics.specs.Readers.{next_two}

@@ -1,6 +1,6 @@
 -- The kinds of tokens that the grammar tells apart. A kind is a number: 0 for a name that is none of the grammar's own words,
 -- then the words, first those that are never names, and then numbers, texts, and each punctuation.
-use Rattle.std.specs.Prelude.{ℕ, ◌+◌, List, [], ◌∷◌, ◌++◌, Bool, true, false, ◌||◌, ◌==◌, ◌&&◌, not, if◌then◌else◌, codes}
+use Rattle.std.specs.Prelude.{ℕ, ◌+◌, List, [], ◌∷◌, Bool, false, ◌||◌, ◌==◌, ◌&&◌, if◌then◌else◌, codes}
 use Rattle.std.specs.Str.{bytes_eq}
 use Rattle.module_semantics.specs.Token.{Token, name, number, text, punct, LineToken}
 

@@ -37,7 +37,6 @@ given x ts = Ok (x, ts)
 infixr 20 ◌&◌
 infixr 20 ◌▷◌
 infixl 25 ◌◁◌
-
 -- one, and then another
 abbrev pub ◌&◌ : {A B : Type 0} → Reader A → Reader B → Reader (A × B)
 (f & g) ts = f ts >>= λ x. g x.1 >>= λ y. Ok ((x.0, y.0), y.1)

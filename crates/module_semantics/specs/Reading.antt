@@ -7,7 +7,7 @@ use Rattle.module_semantics.specs.Steps.{◌>>=◌}
 use Rattle.module_semantics.specs.Token.{LineToken}
 use Rattle.module_semantics.specs.Kinds.{OTHER, IMPORT, EXPORT, CONST, LET, IF, ELSE, THROW, UNDEFINED, CONSOLE, LOG, HOST, NEW, ERROR, FROM, AS, META, HOT, DATA, ACCEPT, DISPOSE, PRUNE, DECLINE, INVALIDATE, NUMBER, TEXT, OPEN_BRACE, CLOSE_BRACE, OPEN, CLOSE, OPEN_BRACKET, CLOSE_BRACKET, COMMA, DOT, EQUALS, PLUS, MINUS, TIMES, QUESTION, COLON, ARROW, SAFE_DOT, NULLISH, reserved, free_names, all_names, bytes_of, value_of, NameAt, name_at}
 use Rattle.module_semantics.specs.Raw.{RawExpr, num, text, undefined, name, bag, member, neg, binary, choose, RawStmt, RawStmts, no_stmts, one_stmt, stmts_of, log, assign, set, set_bag, throw, invalidate, branch, RawHandler, RawOnce, code, host, RawImport, RawItem, import, declare, act, own, deps, dispose, prune, decline}
-use Rattle.module_semantics.specs.Readers.{GrammarFault, unexpected, Reader, next_two, failed, taken, mark, given, ◌&◌, mapped, ◌▷◌, ◌◁◌, choice, many, listed, separated, end, deep}
+use Rattle.module_semantics.specs.Readers.{GrammarFault, unexpected, Reader, next_two, taken, mark, given, ◌&◌, mapped, ◌▷◌, ◌◁◌, choice, many, listed, separated, end, deep}
 
 -- a name that is none of the reserved words
 abbrev pub free_name : Reader NameAt

@@ -1,7 +1,7 @@
 -- The tree of a module, of what its text says by the grammar. What a name means hangs on where it stands: in a `dispose` or
 -- `prune` callback the keys of the parameter are those of the bag, and the parameter is forgotten; in an accept callback a
 -- parameter is told by its place.
-use Rattle.std.specs.Prelude.{ℕ, suc, List, [], ◌∷◌, Bool, if◌then◌else◌, Option, Some, None, map}
+use Rattle.std.specs.Prelude.{ℕ, suc, List, [], ◌∷◌, Bool, if◌then◌else◌, map}
 use Rattle.std.specs.Option.{option_map}
 use Rattle.std.specs.Str.{bytes_eq}
 use Rattle.hmr_types.specs.Syntax as tree

@@ -1,5 +1,5 @@
 -- How tokens spell a part of a text: what is left of them after the part, where they begin with it.
-use Rattle.std.specs.Prelude.{ℕ, List, [], ◌∷◌, Bool, true, false, ◌&&◌, ◌==◌, if◌then◌else◌, Option, Some, None}
+use Rattle.std.specs.Prelude.{ℕ, List, [], ◌∷◌, Bool, true, ◌&&◌, ◌==◌, if◌then◌else◌, Option, Some, None}
 use Rattle.std.specs.Str.{bytes_eq}
 use Rattle.module_semantics.specs.Token.{LineToken}
 use Rattle.module_semantics.specs.Kinds.{kind, within, COMMA, SEMICOLON, NUMBER, TEXT, free_names, all_names, bytes_of, value_of, NameAt, name_at, same_name}
@@ -10,7 +10,6 @@ Spell = List LineToken → Option (List LineToken)
 
 infixl 10 ◌>>◌
 infixr 15 ◌▸◌
-
 -- what is left after one more part
 abbrev pub ◌>>◌ : Option (List LineToken) → Spell → Option (List LineToken)
 (Some r) >> f = f r

@@ -13,13 +13,11 @@ ghost use Rattle.module_semantics.specs.Token.{LineToken};
 pub fn reading_is_the_grammar()
     ensures same { (most : ℕ) (ts : List LineToken) (items : List RawItem) → (reading most ts ≡ Ok items) ↔ Says most ts items }
     ensures one { (most : ℕ) (ts : List LineToken) (x y : List RawItem) → Says most ts x → Says most ts y → x ≡ y }
-{
-}
+{}
 
 /// Where reading meets an unexpected token, the tokens before it begin a module, and no module goes
 /// on with it; so there is one such place.
 pub fn the_unexpected_stands_first()
     ensures first { (most : ℕ) (ts : List LineToken) (n : ℕ) → (reading most ts ≡ Err (unexpected n)) → FirstUnexpected ts n }
     ensures one { (ts : List LineToken) (n m : ℕ) → FirstUnexpected ts n → FirstUnexpected ts m → n ≡ m }
-{
-}
+{}

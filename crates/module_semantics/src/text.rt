@@ -9,5 +9,4 @@ ghost use Rattle.std.specs.Prelude.{◌↔◌, Ok, ◌≡◌, ℕ, List};
 pub fn parsing_is_reading()
     ensures same { (text : List ℕ) (m : ModuleTree) → (parsing text ≡ Ok m) ↔ ReadsAs text m }
     ensures one { (text : List ℕ) (m n : ModuleTree) → ReadsAs text m → ReadsAs text n → m ≡ n }
-{
-}
+{}
