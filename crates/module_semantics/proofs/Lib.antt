@@ -1,5 +1,6 @@
 pub mod Acts
 pub mod Callbacks
+pub mod CanonExamples
 pub mod Choices
 pub mod CommaLists
 pub mod Ends

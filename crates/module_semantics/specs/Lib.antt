@@ -1,5 +1,6 @@
 pub mod Bytes
 pub mod Kinds
+pub mod Canon
 pub mod Grammar
 pub mod LexFaults
 pub mod Lexing
