@@ -1,4 +1,5 @@
 -- Callbacks, and the calls of `import.meta.hot`.
+use Rattle.module_semantics.proofs.Leaves.{taken_shallow}
 use Rattle.std.proofs.Common.{◌≡◌, ℕ, ◌≤◌, List, [], ◌∷◌, ◌++◌, map, true, false, ◌⊎◌, inl, inr, Option, Some, None, refl, sym, ap, ◌∙◌, subst, arith}
 use Rattle.std.specs.Option.{option_map}
 use Rattle.module_semantics.specs.Token.{LineToken}
@@ -357,7 +358,7 @@ accept_as n = record { to = to_accept; spells = accept_spells; from = accept_fro
 accept_reads : (n : ℕ) (b b' : Reader RawStmts) → BodyReads n b b' → Reads (TEXT ∷ OPEN_BRACKET ∷ own_firsts) true (TEXT ∷ COMMA ∷ OPEN_BRACKET ∷ own_firsts ++ expr_follow) n accept_part (accepted b) (accepted b')
 unfolding accepted disjoint subset within
 accept_reads n b b' a =
-    as_reads _ _ (TEXT ∷ OPEN_BRACKET ∷ own_firsts) (TEXT ∷ COMMA ∷ OPEN_BRACKET ∷ own_firsts ++ expr_follow) _ n n accept_parts accept_part _ _ refl refl (accept_as n) (choice_reads (TEXT ∷ []) _ _ _ _ _ n _ _ _ _ _ _ refl refl (mapped_reads _ _ _ n _ _ _ (λ v. raw.deps false (alone v.0) v.1) (seq_reads _ _ _ _ _ _ n _ _ _ _ _ _ refl (text_reads n) (maybe_reads (COMMA ∷ []) _ _ (COMMA ∷ expr_follow) n _ _ _ refl refl refl (after_reads _ _ _ _ _ _ n _ _ _ _ _ _ refl refl (comma_mark n) (callback_reads n b b' a))))) (choice_reads (OPEN_BRACKET ∷ []) _ _ _ _ _ n _ _ _ _ _ _ refl refl (mapped_reads _ _ _ n _ _ _ (λ v. raw.deps true v.0 v.1) (seq_reads _ _ _ _ _ _ n _ _ _ _ _ _ refl (after_reads _ _ _ _ _ _ n _ _ _ _ _ _ refl refl (open_bracket_mark n) (before_reads _ _ _ _ _ _ n _ _ _ _ _ _ refl refl (listed_reads (TEXT ∷ []) _ n _ _ _ refl (text_reads n)) (close_bracket_mark n))) (maybe_reads (COMMA ∷ []) _ _ (COMMA ∷ expr_follow) n _ _ _ refl refl refl (after_reads _ _ _ _ _ _ n _ _ _ _ _ _ refl refl (comma_mark n) (list_callback_reads n b b' a))))) (choice_reads (own_firsts) _ _ _ _ _ n _ _ _ _ _ _ refl refl (mapped_reads _ _ _ n _ _ _ (λ o. raw.own (Some o)) (own_reads n b b' a)) (given_reads n (raw.own None)))))
+    as_reads _ _ (TEXT ∷ OPEN_BRACKET ∷ own_firsts) (TEXT ∷ COMMA ∷ OPEN_BRACKET ∷ own_firsts ++ expr_follow) _ n n accept_parts accept_part _ _ refl refl (accept_as n) (choice_reads (TEXT ∷ []) _ _ _ _ _ n _ _ _ _ _ _ refl refl (mapped_reads _ _ _ n _ _ _ (λ v. raw.deps false (alone v.0) v.1) (seq_reads _ _ _ _ _ _ n _ _ _ _ _ _ refl (text_reads n) (maybe_reads (COMMA ∷ []) _ _ (COMMA ∷ expr_follow) n _ _ _ refl refl refl (after_reads _ _ _ _ _ _ n _ _ _ _ _ _ refl refl (comma_mark n) (callback_reads n b b' a))))) (choice_reads (OPEN_BRACKET ∷ []) _ _ _ _ _ n _ _ _ _ _ _ refl refl (mapped_reads _ _ _ n _ _ _ (λ v. raw.deps true v.0 v.1) (seq_reads _ _ _ _ _ _ n _ _ _ _ _ _ refl (after_reads _ _ _ _ _ _ n _ _ _ _ _ _ refl refl (open_bracket_mark n) (before_reads _ _ _ _ _ _ n _ _ _ _ _ _ refl refl (listed_reads (TEXT ∷ []) _ n _ _ _ refl (taken_shallow (TEXT ∷ []) _) (text_reads n)) (close_bracket_mark n))) (maybe_reads (COMMA ∷ []) _ _ (COMMA ∷ expr_follow) n _ _ _ refl refl refl (after_reads _ _ _ _ _ _ n _ _ _ _ _ _ refl refl (comma_mark n) (list_callback_reads n b b' a))))) (choice_reads (own_firsts) _ _ _ _ _ n _ _ _ _ _ _ refl refl (mapped_reads _ _ _ n _ _ _ (λ o. raw.own (Some o)) (own_reads n b b' a)) (given_reads n (raw.own None)))))
 
 abbrev pub hot_call_part : Part HotCallD RawItem
 hot_call_part = record { spelt = hot_call_spelt; value = hot_call_raw; depth = hot_call_depth }

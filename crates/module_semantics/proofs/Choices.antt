@@ -1,12 +1,12 @@
 -- One part or another, a part under another name, and nothing.
-use Rattle.std.proofs.Common.{◌≡◌, ℕ, ◌≤◌, List, [], ◌++◌, Bool, true, false, ◌&&◌, ◌⊎◌, inl, inr, Some, Ok, Err, refl, sym, ap, ◌∙◌, subst, arith}
+use Rattle.std.proofs.Common.{◌≡◌, ℕ, ◌≤◌, List, [], ◌++◌, Bool, true, false, ◌&&◌, ◌⊎◌, inl, inr, Some, Ok, Err, refl, sym, ap, ◌∙◌, subst, arith, Result, ◌∷◌, cond}
 use Rattle.module_semantics.specs.Token.{LineToken}
-use Rattle.module_semantics.specs.Readers.{unexpected, Reader, next_in, given, ◌&◌, mapped, ◌▷◌, ◌◁◌, choice}
+use Rattle.module_semantics.specs.Readers.{unexpected, Reader, next_in, given, ◌&◌, mapped, ◌▷◌, ◌◁◌, choice, too_deep, GrammarFault}
 use Rattle.module_semantics.specs.Spelling.{Spell, ◌▸◌}
 use Rattle.module_semantics.proofs.Steps.{ok_parts, bind_ok, bind_err, bound, went, if_true, if_false, next_after}
 use Rattle.module_semantics.proofs.KindLists.{disjoint, subset, subset_self, next_apart, next_more, next_left, next_right, next_neither, next_in_looks}
-use Rattle.module_semantics.proofs.Parts.{Free, Stable, Part, Begun, Starts, Reads}
-use Rattle.module_semantics.proofs.Sequences.{firsts_of, follow_of, seq, seq_reads, then_stable, ok_stable}
+use Rattle.module_semantics.proofs.Parts.{Free, Stable, Part, Begun, Starts, Reads, Sunk}
+use Rattle.module_semantics.proofs.Sequences.{firsts_of, follow_of, seq, seq_reads, then_stable, ok_stable, same_sunk}
 
 -- nothing
 abbrev pub nothing_part : {A : Type 0} → A → Part (Unit {0}) A
@@ -21,6 +21,8 @@ given_reads n x = record {
   free = λ d few ts r h. ([], cc, λ s near. refl);
   some = record { by = tt; text = []; fresh = tt; spells = λ s fresh. refl };
   stable = ok_stable x;
+  self = ok_stable x;
+  sunk = λ ts m h. absurd cc;
 }
 
 -- one or the other
@@ -93,6 +95,28 @@ alt_begun fs ks fs' ks' hs null' n P Q f f' g g' a b ts m h = elim (went (next_i
   | inr w ↦ let d = b.begun ts m w.1 in record { before = d.before; rest = d.rest; more = d.more; by = inr d.by; split = d.split; left = d.left; fresh = d.fresh; spells = d.spells }
 ]
 
+pub test_stays : (hs : List ℕ) (ts b : List LineToken) (t : LineToken) (r s : List LineToken) (v : Bool) → ts ≡ b ++ (t ∷ r) → next_in hs ts ≡ v → next_in hs (b ++ (t ∷ s)) ≡ v
+test_stays hs ts b t r s v split h = next_in_looks hs (b ++ (t ∷ s)) (b ++ (t ∷ r)) (next_after b (t ∷ r) (t ∷ s) refl) ∙ sym (ap (next_in hs) split) ∙ h
+
+pub first_way : {A : Type 0} (b : Bool) (x y z : Result (A × List LineToken) GrammarFault) → b ≡ true → cond b x y ≡ z → x ≡ z
+first_way true x y z h g = g
+first_way false x y z h g = absurd cc
+
+pub second_way : {A : Type 0} (b : Bool) (x y z : Result (A × List LineToken) GrammarFault) → b ≡ false → cond b x y ≡ z → y ≡ z
+second_way true x y z h g = absurd cc
+second_way false x y z h g = g
+
+alt_sunk : {D E A : Type 0} (fs ks fs' ks' hs : List ℕ) (null' : Bool) (n : ℕ) (P : Part D A) (Q : Part E A) (f f' g g' : Reader A) → Reads fs false ks n P f f' → Reads fs' null' ks' n Q g g'
+    → (ts : List LineToken) (m : ℕ) → choice hs f g ts ≡ Err (too_deep m) → Sunk (alt P Q) (choice hs f g) ts m
+alt_sunk fs ks fs' ks' hs null' n P Q f f' g g' a b ts m h = elim (went (next_in hs ts) (f ts) (g ts) (Err (too_deep m)) h) [
+  | inl w ↦
+      let d = a.sunk ts m w.1 in
+      record { before = d.before; at = d.at; rest = d.rest; more = d.more; by = inl d.by; split = d.split; left = d.left; fresh = d.fresh; spells = d.spells; never = λ s x q is. d.never s x q (first_way (next_in hs (d.before ++ (d.at ∷ s))) _ _ _ (test_stays hs ts d.before d.at d.rest s true d.split w.0) is) }
+  | inr w ↦
+      let d = b.sunk ts m w.1 in
+      record { before = d.before; at = d.at; rest = d.rest; more = d.more; by = inr d.by; split = d.split; left = d.left; fresh = d.fresh; spells = d.spells; never = λ s x q is. d.never s x q (second_way (next_in hs (d.before ++ (d.at ∷ s))) _ _ _ (test_stays hs ts d.before d.at d.rest s false d.split w.0) is) }
+]
+
 alt_starts : (null' : Bool) (fs fs' : List ℕ) (ts r : List LineToken) → (next_in fs ts ≡ true) ⊎ Starts fs' null' ts r → Starts (fs ++ fs') null' ts r
 alt_starts false fs fs' ts r (inl h) = next_left fs fs' ts h
 alt_starts false fs fs' ts r (inr h) = next_right fs fs' ts h
@@ -119,6 +143,8 @@ choice_reads hs fs ks fs' ks' null' n P Q f f' g g' within apart a b = record {
   free = alt_free fs ks fs' ks' null' n P Q f f' g g' a b;
   some = record { by = inl a.some.by; text = a.some.text; fresh = a.some.fresh; spells = a.some.spells };
   stable = stable_if hs f f' g g' a.stable b.stable;
+  self = stable_if hs f f g g a.self b.self;
+  sunk = alt_sunk fs ks fs' ks' hs null' n P Q f f' g g' a b;
 }
 
 -- what is said, seen by h
@@ -141,6 +167,11 @@ mapped_reads fs ks null n P f g h a = record {
   free = a.free;
   some = a.some;
   stable = then_stable f g (λ x ts. Ok (h x, ts)) (λ x ts. Ok (h x, ts)) a.stable (λ x. ok_stable (h x));
+  self = then_stable f f (λ x ts. Ok (h x, ts)) (λ x ts. Ok (h x, ts)) a.self (λ x. ok_stable (h x));
+  sunk = λ ts m is. elim (bind_err (f ts) (λ x. Ok (h x.0, x.1)) (too_deep m) is) [
+    | inl w ↦ same_sunk P (seen h P) f (mapped h f) ts m (λ d. d) (λ d k r g. g) (λ k y q g. let v = bind_ok (f k) (λ x. Ok (h x.0, x.1)) (y, q) g in (v.0.0, v.0.1, v.1)) (a.sunk ts m w)
+    | inr w ↦ absurd cc
+  ];
 }
 
 -- the derivations of P are those of Q under other names, at a depth n of the one and m of the other
@@ -177,6 +208,8 @@ as_reads fs ks gs js null n m P Q f g firsts follow as_ a = record {
       (w.0, w.1, λ s near. subst (λ k. Q.spelt k (w.0 ++ s) ≡ Some s) d.1 (as_.spells d.0 (w.0 ++ s) s (w.2 s near)));
   some = record { by = as_.to a.some.by; text = a.some.text; fresh = a.some.fresh; spells = λ s fresh. as_.spells a.some.by (a.some.text ++ s) s (a.some.spells s fresh) };
   stable = a.stable;
+  self = a.self;
+  sunk = λ ts k h. same_sunk P Q f f ts k as_.to as_.spells (λ u y q g. (y, q, g)) (a.sunk ts k h);
 }
 
 -- a part that says nothing, before or after another

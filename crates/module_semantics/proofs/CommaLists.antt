@@ -4,14 +4,14 @@ use Rattle.std.proofs.lemmas.List.{append_assoc}
 use Rattle.module_semantics.specs.Steps.{◌>>=◌}
 use Rattle.module_semantics.specs.Token.{LineToken}
 use Rattle.module_semantics.specs.Kinds.{COMMA}
-use Rattle.module_semantics.specs.Readers.{GrammarFault, unexpected, Reader, next_in, mark, listed_from, listed}
+use Rattle.module_semantics.specs.Readers.{GrammarFault, unexpected, Reader, next_in, mark, listed_from, listed, too_deep, given, ◌&◌, mapped, choice}
 use Rattle.module_semantics.specs.Spelling as spell
 use Rattle.module_semantics.specs.Spelling.{Spell, ◌>>◌, ◌▸◌, Listed, none, last, more, items_of}
 use Rattle.module_semantics.specs.Grammar.{deepest}
 use Rattle.module_semantics.proofs.Steps.{ok_parts, bind_ok, bind_err, bound, bound_err, went, if_true, if_false, bind_some, bound_some, next, next_after, no_tokens, grown}
 use Rattle.module_semantics.proofs.KindLists.{disjoint, next_apart, next_neither, next_in_looks, none_next}
 use Rattle.module_semantics.proofs.Parts.{Free, Stable, Part, Begun, Default, Reads, shorter}
-use Rattle.module_semantics.proofs.Leaves.{one_ok, one_is, one_next, one_free, taken_err}
+use Rattle.module_semantics.proofs.Leaves.{one_ok, one_is, one_next, one_free, taken_err, taken_shallow}
 use Rattle.module_semantics.proofs.Ends.{mark_spelt, mark_read}
 use Rattle.module_semantics.proofs.Sequences.{then_free, later_begun, same_begun}
 use Rattle.module_semantics.proofs.Lists.{some_tokens, no_length, cons_same, Takes, turn_takes}
@@ -266,8 +266,47 @@ listed_stable fs f g takes st = record {
       (a.0, a.1, a.2, a.3, λ s same. a.4 s (length (a.0 ++ s)) same (omega arith));
 }
 
-pub listed_reads : {D A : Type 0} (fs ks : List ℕ) (n : ℕ) (P : Part D A) (f g : Reader A) → disjoint (COMMA ∷ []) ks ≡ true → Reads fs false ks n P f g → Reads fs true (fs ++ (COMMA ∷ ks)) n (listed_part P) (listed fs f) (listed fs g)
-listed_reads fs ks n P f g apart a = record {
+-- nothing in it can be too deep
+abbrev pub Shallow : {A : Type 0} → Reader A → Type 0
+Shallow {A} f = (ts : List LineToken) (m : ℕ) → f ts ≡ Err (too_deep m) → ⊥
+
+pub given_shallow : {A : Type 0} {x : A} → Shallow (given x)
+given_shallow ts m h = absurd cc
+
+pub then_shallow : {A B : Type 0} (f : Reader A) (g : Reader B) → Shallow f → Shallow g → Shallow (f & g)
+then_shallow f g a b ts m h = elim (bind_err (f ts) (λ x. g x.1 >>= λ y. Ok ((x.0, y.0), y.1)) (too_deep m) h) [
+  | inl w ↦ a ts m w
+  | inr one ↦ elim (bind_err (g one.0.1) (λ y. Ok ((one.0.0, y.0), y.1)) (too_deep m) one.2) [ inl w ↦ b one.0.1 m w | inr w ↦ absurd cc ]
+]
+
+pub mapped_shallow : {A B : Type 0} (f : Reader A) (h : A → B) → Shallow f → Shallow (mapped h f)
+mapped_shallow f h a ts m is = elim (bind_err (f ts) (λ x. Ok (h x.0, x.1)) (too_deep m) is) [ inl w ↦ a ts m w | inr w ↦ absurd cc ]
+
+pub choice_shallow : {A : Type 0} (hs : List ℕ) (f g : Reader A) → Shallow f → Shallow g → Shallow (choice hs f g)
+choice_shallow hs f g a b ts m h = elim (went (next_in hs ts) (f ts) (g ts) (Err (too_deep m)) h) [ inl w ↦ a ts m w.1 | inr w ↦ b ts m w.1 ]
+
+listed_shallow : {A : Type 0} (fs : List ℕ) (f : Reader A) → Shallow f → (m : ℕ) → Shallow (listed_from fs f m)
+unfolding listed_from
+listed_shallow fs f flat zero ts j h = absurd cc
+listed_shallow fs f flat (suc m) ts j h = elim (went (next_in fs ts) _ _ (Err (too_deep j)) h) [
+  | inl w ↦ elim (bind_err (f ts) (λ x. after_item fs f m x.0 x.1) (too_deep j) w.1) [
+    | inl v ↦ flat ts j v
+    | inr one ↦ elim (went (next_in (COMMA ∷ []) one.0.1) _ _ (Err (too_deep j)) one.2) [
+      | inl u ↦ elim (bind_err (mark COMMA one.0.1) (λ c. listed_from fs f m c.1 >>= λ y. Ok (one.0.0 ∷ y.0, y.1)) (too_deep j) u.1) [
+        | inl v ↦ taken_shallow (COMMA ∷ []) (λ t. tt) one.0.1 j v
+        | inr two ↦ elim (bind_err (listed_from fs f m two.0.1) (λ y. Ok (one.0.0 ∷ y.0, y.1)) (too_deep j) two.2) [
+          | inl v ↦ listed_shallow fs f flat m two.0.1 j v
+          | inr v ↦ absurd cc
+        ]
+      ]
+      | inr u ↦ absurd cc
+    ]
+  ]
+  | inr w ↦ absurd cc
+]
+
+pub listed_reads : {D A : Type 0} (fs ks : List ℕ) (n : ℕ) (P : Part D A) (f g : Reader A) → disjoint (COMMA ∷ []) ks ≡ true → Shallow f → Reads fs false ks n P f g → Reads fs true (fs ++ (COMMA ∷ ks)) n (listed_part P) (listed fs f) (listed fs g)
+listed_reads fs ks n P f g apart flat a = record {
   whole = λ ts xs r h. listed_whole fs ks n P f g a (length ts) ts xs r h;
   comp = λ ds ts r few h stop. listed_comp fs ks n P f g apart a ds (length ts) ts r (omega arith) few h stop;
   begun = λ ts j h. listed_begun fs ks n P f g a (length ts) ts j h;
@@ -275,4 +314,6 @@ listed_reads fs ks n P f g apart a = record {
   free = listed_free fs ks n P f g a;
   some = listed_default P.spelt;
   stable = listed_stable fs f g (turn_takes fs ks n P f g a) a.stable;
+  self = listed_stable fs f f (turn_takes fs ks n P f g a) a.self;
+  sunk = λ ts j h. absurd (listed_shallow fs f flat (length ts) ts j h);
 }

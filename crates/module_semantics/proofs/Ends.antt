@@ -1,14 +1,15 @@
 -- The end of a statement, and the end of what may stand in one another.
+use Rattle.module_semantics.specs.Spelling.{Spell}
 use Rattle.std.proofs.Common.{◌≡◌, ℕ, zero, ◌≤◌, List, [], ◌∷◌, ◌++◌, length, Bool, true, false, not, cond, ◌&&◌, ◌⊎◌, inl, inr, Option, Some, Ok, Err, refl, sym, ap, ◌∙◌, arith}
 use Rattle.module_semantics.specs.Steps.{◌>>=◌}
 use Rattle.module_semantics.specs.Token.{LineToken}
 use Rattle.module_semantics.specs.Kinds.{kind, within, SEMICOLON, CLOSE_BRACE, ERROR}
-use Rattle.module_semantics.specs.Readers.{unexpected, Reader, next_in, taken, mark, ends, end, deep, ◌&◌, mapped, choice}
+use Rattle.module_semantics.specs.Readers.{unexpected, Reader, next_in, taken, mark, ends, end, deep, ◌&◌, mapped, choice, too_deep}
 use Rattle.module_semantics.specs.Spelling as spell
-use Rattle.module_semantics.proofs.Steps.{ok_parts, bound_err, went, if_true, if_false, unexpected_at, next}
+use Rattle.module_semantics.proofs.Steps.{ok_parts, bound_err, went, if_true, if_false, unexpected_at, next, too_deep_at}
 use Rattle.module_semantics.proofs.KindLists.{subset, within_neither, next_in_looks, next_more}
-use Rattle.module_semantics.proofs.Parts.{Fresh, Free, Stable, Part, Default, Reads}
-use Rattle.module_semantics.proofs.Leaves.{one_ok, one_is, taken_ok, taken_is, taken_not, taken_err, next_is}
+use Rattle.module_semantics.proofs.Parts.{Fresh, Free, Stable, Part, Default, Reads, Sunk}
+use Rattle.module_semantics.proofs.Leaves.{one_ok, one_is, taken_ok, taken_is, taken_not, taken_err, next_is, taken_shallow}
 
 abbrev pub end_part : Part (Unit {0}) (Unit {0})
 end_part = record { spelt = λ u. spell.end; value = λ u. tt; depth = λ u. 0 }
@@ -120,6 +121,13 @@ end_starts : (ts r : List LineToken) → EndWay ts r → (next_in (SEMICOLON ∷
 end_starts ts r (inl w) = inl w.0
 end_starts ts r (inr w) = inr w.2
 
+end_shallow : (ts : List LineToken) (m : ℕ) → end ts ≡ Err (too_deep m) → ⊥
+unfolding end
+end_shallow ts m h = elim (went (next_in (SEMICOLON ∷ []) ts) _ _ (Err (too_deep m)) h) [
+  | inl w ↦ taken_shallow (SEMICOLON ∷ []) (λ t. tt) ts m w.1
+  | inr w ↦ elim (went (ends ts) _ _ (Err (too_deep m)) w.1) [ inl v ↦ absurd cc | inr v ↦ absurd cc ]
+]
+
 pub end_reads : (n : ℕ) → Reads (SEMICOLON ∷ []) true [] n end_part end end
 end_reads n = record {
   whole = λ ts x r h. (tt, end_whole ts x r h, refl, omega arith);
@@ -129,6 +137,8 @@ end_reads n = record {
   free = λ d few. end_free;
   some = record { by = tt; text = []; fresh = tt; spells = λ s fresh. fresh_end s fresh };
   stable = end_stable;
+  self = end_stable;
+  sunk = λ ts m h. absurd (end_shallow ts m h);
 }
 
 -- a token that doesn't begin it is unexpected at once
@@ -158,7 +168,7 @@ pub deep_err : {A : Type 0} (fs : List ℕ) (ts : List LineToken) (m : ℕ) → 
 unfolding deep
 deep_err {A} fs ts m h = elim (went (next_in fs ts) _ _ (Err (unexpected m)) h) [ inl w ↦ absurd cc | inr w ↦ (w.0, unexpected_at cc) ]
 
-deep_ok : {A : Type 0} (fs : List ℕ) (ts : List LineToken) (x : A) (r : List LineToken) → deep {A = A} fs ts ≡ Ok (x, r) → ⊥
+pub deep_ok : {A : Type 0} (fs : List ℕ) (ts : List LineToken) (x : A) (r : List LineToken) → deep {A = A} fs ts ≡ Ok (x, r) → ⊥
 unfolding deep
 deep_ok {A} fs ts x r h = elim (went (next_in fs ts) _ _ (Ok (x, r)) h) [ inl w ↦ absurd cc | inr w ↦ absurd cc ]
 
@@ -166,9 +176,30 @@ pub deep_refuses : {A : Type 0} (fs : List ℕ) → Refuses {A = A} fs (deep fs)
 unfolding deep
 deep_refuses fs s h = if_false (next_in fs s) _ _ _ h refl
 
+-- a part begins with each token of these kinds
+abbrev pub Starter : {D : Type 0} → List ℕ → (D → Spell) → Type 0
+Starter {D} fs spelt = (t : LineToken) → within fs (kind t.token) ≡ true → (d : D) × (more : List LineToken) × (Fresh more) × ((s : List LineToken) → Fresh s → spelt d (t ∷ (more ++ s)) ≡ Some s)
+
+-- the token at which it would begin
+deep_first : (fs : List ℕ) (ts : List LineToken) → next_in fs ts ≡ true → (t : LineToken) × (r : List LineToken) × (ts ≡ t ∷ r) × (within fs (kind t.token) ≡ true)
+unfolding next_in
+deep_first fs [] h = absurd cc
+deep_first fs (t ∷ r) h = (t, r, refl, h)
+
+deep_sunk : {A : Type 0} (fs : List ℕ) (ts : List LineToken) (m : ℕ) → deep {A = A} fs ts ≡ Err (too_deep m) → (next_in fs ts ≡ true) × (length ts ≡ m)
+unfolding deep
+deep_sunk {A} fs ts m h = elim (went (next_in fs ts) _ _ (Err (too_deep m)) h) [ inl w ↦ (w.0, too_deep_at cc) | inr w ↦ absurd cc ]
+
+deep_sinks : {D A : Type 0} (fs : List ℕ) (P : Part D A) → Starter fs P.spelt → (ts : List LineToken) (m : ℕ) → deep {A = A} fs ts ≡ Err (too_deep m) → Sunk P (deep fs) ts m
+deep_sinks fs P starter ts m h =
+    let w = deep_sunk fs ts m h in
+    let t = deep_first fs ts w.0 in
+    let d = starter t.0 t.3 in
+    record { before = []; at = t.0; rest = t.1; more = d.1; by = d.0; split = t.2; left = sym (ap length t.2) ∙ w.1; fresh = d.2; spells = d.3; never = λ s x q is. deep_ok fs (t.0 ∷ s) x q is }
+
 -- where nothing deeper may stand, no part is read
-pub deep_reads : {D A : Type 0} (fs : List ℕ) (P : Part D A) (g : Reader A) → ((d : D) → 1 ≤ P.depth d) → Default P.spelt → Refuses fs g → (ks : List ℕ) → Reads fs false ks zero P (deep fs) g
-deep_reads fs P g deep_ some refuses ks = record {
+pub deep_reads : {D A : Type 0} (fs : List ℕ) (P : Part D A) (g : Reader A) → ((d : D) → 1 ≤ P.depth d) → Default P.spelt → Starter fs P.spelt → Refuses fs g → (ks : List ℕ) → Reads fs false ks zero P (deep fs) g
+deep_reads fs P g deep_ some starter refuses ks = record {
   whole = λ ts x r h. absurd (deep_ok fs ts x r h);
   comp = λ d ts r few h stop. absurd (omega (arith, few, deep_ d));
   begun = λ ts m h. record { before = []; rest = ts; more = some.text; by = some.by; split = refl; left = (deep_err fs ts m h).1; fresh = some.fresh; spells = some.spells };
@@ -179,4 +210,9 @@ deep_reads fs P g deep_ some refuses ks = record {
     reads = λ ts x r h. absurd (deep_ok fs ts x r h);
     faults = λ ts n h. let w = deep_err fs ts n h in ([], ts, refl, w.1, λ s same. refuses s (next_in_looks fs s ts same ∙ w.0));
   };
+  self = record {
+    reads = λ ts x r h. absurd (deep_ok fs ts x r h);
+    faults = λ ts n h. let w = deep_err fs ts n h in ([], ts, refl, w.1, λ s same. deep_refuses fs s (next_in_looks fs s ts same ∙ w.0));
+  };
+  sunk = deep_sinks fs P starter;
 }

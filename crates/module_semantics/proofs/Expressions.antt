@@ -1,27 +1,28 @@
 -- Expressions: each level of the grammar, with its reader.
-use Rattle.std.proofs.Common.{◌≡◌, ℕ, zero, suc, ◌+◌, ◌≤◌, max, List, [], ◌∷◌, map, ◌==◌, Bool, true, false, ◌⊎◌, inl, inr, Option, Some, None, refl, sym, ap, ◌∙◌, arith}
+use Rattle.std.specs.Str.{bytes_eq}
+use Rattle.std.proofs.Common.{◌≡◌, ℕ, zero, suc, ◌+◌, ◌≤◌, max, List, [], ◌∷◌, map, ◌==◌, Bool, true, false, ◌⊎◌, inl, inr, Option, Some, None, refl, sym, ap, ◌∙◌, arith, codes, ◌++◌}
 use Rattle.hmr_types.specs.declared.tree.Op.{Op}
 use Rattle.hmr_types.specs.declared.tree.Op.TheVariants as ops
-use Rattle.module_semantics.specs.Token.{number, LineToken}
-use Rattle.module_semantics.specs.Kinds.{IMPORT, UNDEFINED, META, HOT, DATA, NUMBER, TEXT, OPEN, CLOSE, DOT, PLUS, MINUS, TIMES, QUESTION, COLON, SAFE_DOT, NULLISH, SEMICOLON, ERROR, within, kind, value_of, free_names, all_names, NameAt}
+use Rattle.module_semantics.specs.Token.{number, LineToken, name, punct}
+use Rattle.module_semantics.specs.Kinds.{IMPORT, UNDEFINED, META, HOT, DATA, NUMBER, TEXT, OPEN, CLOSE, DOT, PLUS, MINUS, TIMES, QUESTION, COLON, SAFE_DOT, NULLISH, SEMICOLON, ERROR, within, kind, value_of, free_names, all_names, NameAt, name_at, same_name, bytes_of, word_kind, found_word}
 use Rattle.module_semantics.specs.Raw as raw
 use Rattle.module_semantics.specs.Raw.{RawExpr}
 use Rattle.module_semantics.specs.Readers.{Reader}
 use Rattle.module_semantics.specs.Reading as reading
 use Rattle.module_semantics.specs.Reading.{hot, access, accessed, grouped, chosen, expr_firsts, expr_over, operation}
 use Rattle.module_semantics.specs.Spelling as spell
-use Rattle.module_semantics.specs.Spelling.{Spell, ◌>>◌, ◌▸◌}
+use Rattle.module_semantics.specs.Spelling.{Spell, ◌>>◌, ◌▸◌, one}
 use Rattle.module_semantics.specs.Grammar as grammar
 use Rattle.module_semantics.specs.Grammar.{ExprD, NullD, NullRestD, SumD, SumRestD, ProdD, ProdRestD, UnaryD, PrimD, expr_spelt, null_spelt, null_rest_spelt, sum_spelt, sum_rest_spelt, prod_spelt, prod_rest_spelt, unary_spelt, prim_spelt, expr_raw, null_raw, null_rest_raw, sum_raw, sum_rest_raw, prod_raw, prod_rest_raw, unary_raw, prim_raw, expr_depth, null_depth, null_rest_depth, sum_depth, sum_rest_depth, prod_depth, prod_rest_depth, unary_depth, prim_depth, hot_spelt, deepest}
-use Rattle.module_semantics.proofs.Steps.{regroup}
-use Rattle.module_semantics.proofs.KindLists.{disjoint, disjoint_none, subset}
-use Rattle.module_semantics.proofs.Parts.{Part, Default, Reads}
+use Rattle.module_semantics.proofs.Steps.{regroup, bound_some}
+use Rattle.module_semantics.proofs.KindLists.{disjoint, disjoint_none, subset, within_either, same_kind}
+use Rattle.module_semantics.proofs.Parts.{Part, Default, Reads, Fresh}
 use Rattle.module_semantics.proofs.Leaves.{one_is}
 use Rattle.module_semantics.proofs.Sequences.{seq, seq_reads, follow_of}
 use Rattle.module_semantics.proofs.Choices.{As, as_reads, alt, choice_reads, seen, mapped_reads, nothing_part, given_reads, after, after_reads, before, before_reads}
 use Rattle.module_semantics.proofs.Lists.{list_part, many_reads}
-use Rattle.module_semantics.proofs.Ends.{Refuses, taken_refuses, then_refuses, mapped_refuses, choice_refuses, more_refuses, deep_refuses, deep_reads}
-use Rattle.module_semantics.proofs.Marks.{mark_part, name_part, bytes_part, number_part, number_reads, text_reads, key_reads, free_name_reads, undefined_mark, import_mark, meta_mark, hot_mark, data_mark, open_mark, close_mark, dot_mark, plus_mark, minus_mark, times_mark, question_mark, colon_mark, safe_dot_mark, nullish_mark}
+use Rattle.module_semantics.proofs.Ends.{Refuses, taken_refuses, then_refuses, mapped_refuses, choice_refuses, more_refuses, deep_refuses, deep_reads, Starter}
+use Rattle.module_semantics.proofs.Marks.{mark_part, name_part, bytes_part, number_part, number_reads, text_reads, key_reads, free_name_reads, undefined_mark, import_mark, meta_mark, hot_mark, data_mark, open_mark, close_mark, dot_mark, plus_mark, minus_mark, times_mark, question_mark, colon_mark, safe_dot_mark, nullish_mark, same_names, same_bytes, on_line, mark_spells}
 
 -- nothing more, left out or written
 pub no_more : (o : Option (List LineToken)) (r : List LineToken) → (o >> grammar.nothing) ≡ Some r → o ≡ Some r
@@ -438,6 +439,97 @@ expr_default = record {
   spells = λ s fresh. and_no_more _ s (and_no_more _ s (and_no_more _ s (zero_spells s)));
 }
 
+-- a prim alone
+abbrev only_prim : PrimD → ExprD
+only_prim p = grammar.plain (grammar.null (grammar.sum (grammar.prod (grammar.positive p) grammar.no_prod) grammar.no_sum) grammar.no_null)
+
+only_spells : (p : PrimD) (ts r : List LineToken) → prim_spelt p ts ≡ Some r → expr_spelt (only_prim p) ts ≡ Some r
+only_spells p ts r h = and_no_more _ r (and_no_more _ r (and_no_more _ r h))
+
+abbrev Start : LineToken → Type 0
+Start t = (d : ExprD) × (more : List LineToken) × (Fresh more) × ((s : List LineToken) → Fresh s → expr_spelt d (t ∷ (more ++ s)) ≡ Some s)
+
+start_name : (t : LineToken) → within free_names (kind t.token) ≡ true → Start t
+start_name t is = (only_prim (grammar.name (name_at t)), [], tt, λ s fresh. only_spells (grammar.name (name_at t)) (t ∷ s) s (one_is free_names (λ u. same_name (name_at t) (name_at u)) t s is (same_names.again (name_at t))))
+
+start_minus : (t : LineToken) → within (MINUS ∷ []) (kind t.token) ≡ true → Start t
+start_minus t is = (
+  grammar.plain (grammar.null (grammar.sum (grammar.prod (grammar.negative (grammar.number 0)) grammar.no_prod) grammar.no_sum) grammar.no_null),
+  zero_token ∷ [],
+  (refl, zero_plain),
+  λ s fresh. and_no_more _ s (and_no_more _ s (and_no_more _ s (bound_some (spell.mark MINUS (t ∷ (zero_token ∷ s))) (spell.number_token 0) (zero_token ∷ s) (Some s) (mark_spells MINUS t (zero_token ∷ s) is) (zero_spells s)))),
+)
+
+close_fresh : within (SEMICOLON ∷ ERROR ∷ []) (kind (on_line (punct 3)).token) ≡ false
+unfolding within
+close_fresh = refl
+
+close_is : within (CLOSE ∷ []) (kind (on_line (punct 3)).token) ≡ true
+unfolding within
+close_is = refl
+
+start_open : (t : LineToken) → within (OPEN ∷ []) (kind t.token) ≡ true → Start t
+start_open t is = (
+  only_prim (grammar.brackets expr_default.by),
+  zero_token ∷ (on_line (punct 3) ∷ []),
+  (refl, zero_plain),
+  λ s fresh.
+      let rest : List LineToken = on_line (punct 3) ∷ s in
+      only_spells (grammar.brackets expr_default.by) (t ∷ (zero_token ∷ rest)) s
+      (bound_some (spell.mark OPEN (t ∷ (zero_token ∷ rest))) (expr_spelt expr_default.by ▸ spell.mark CLOSE) (zero_token ∷ rest) (Some s) (mark_spells OPEN t (zero_token ∷ rest) is)
+      (bound_some (expr_spelt expr_default.by (zero_token ∷ rest)) (spell.mark CLOSE) rest (Some s) (expr_default.spells rest (refl, close_fresh)) (mark_spells CLOSE (on_line (punct 3)) s close_is))),
+)
+
+-- `.meta.hot.data.a`
+abbrev bag_tail : List LineToken
+bag_tail = on_line (punct 8) ∷ (on_line (name (codes "meta")) ∷ (on_line (punct 8) ∷ (on_line (name (codes "hot")) ∷ (on_line (punct 8) ∷ (on_line (name (codes "data")) ∷ (on_line (punct 8) ∷ (on_line (name (codes "a")) ∷ [])))))))
+
+bag_fresh : Fresh bag_tail
+unfolding within
+bag_fresh = (refl, refl)
+
+bag_spells : (s : List LineToken) → hot_spelt (spell.mark DATA ▸ spell.mark DOT ▸ spell.key (codes "a")) (bag_tail ++ s) ≡ Some s
+unfolding one within word_kind found_word
+bag_spells s = refl
+
+start_import : (t : LineToken) → within (IMPORT ∷ []) (kind t.token) ≡ true → Start t
+start_import t is = (
+  only_prim (grammar.bag (codes "a")),
+  bag_tail,
+  bag_fresh,
+  λ s fresh.
+      only_spells (grammar.bag (codes "a")) (t ∷ (bag_tail ++ s)) s
+      (bound_some (spell.mark IMPORT (t ∷ (bag_tail ++ s))) (hot_spelt (spell.mark DATA ▸ spell.mark DOT ▸ spell.key (codes "a"))) (bag_tail ++ s) (Some s) (mark_spells IMPORT t (bag_tail ++ s) is) (bag_spells s)),
+)
+
+start_undefined : (t : LineToken) → within (UNDEFINED ∷ []) (kind t.token) ≡ true → Start t
+start_undefined t is = (only_prim grammar.undefined, [], tt, λ s fresh. only_spells grammar.undefined (t ∷ s) s (mark_spells UNDEFINED t s is))
+
+start_text : (t : LineToken) → within (TEXT ∷ []) (kind t.token) ≡ true → Start t
+start_text t is = (only_prim (grammar.text (bytes_of t.token)), [], tt, λ s fresh. only_spells (grammar.text (bytes_of t.token)) (t ∷ s) s (one_is (TEXT ∷ []) (λ u. bytes_eq (bytes_of t.token) (bytes_of u.token)) t s is (same_bytes.again (bytes_of t.token))))
+
+start_number : (t : LineToken) → within (NUMBER ∷ []) (kind t.token) ≡ true → Start t
+start_number t is = (only_prim (grammar.number (value_of t.token)), [], tt, λ s fresh. only_spells (grammar.number (value_of t.token)) (t ∷ s) s (one_is (NUMBER ∷ []) (λ u. value_of t.token == value_of u.token) t s is (same_kind (value_of t.token))))
+
+-- an expression begins with each of its first tokens
+expr_starter : Starter expr_firsts expr_spelt
+expr_starter t is = elim (within_either (NUMBER ∷ []) (TEXT ∷ UNDEFINED ∷ IMPORT ∷ OPEN ∷ MINUS ∷ free_names) (kind t.token) is) [
+  | inl w ↦ start_number t w
+  | inr w ↦ elim (within_either (TEXT ∷ []) (UNDEFINED ∷ IMPORT ∷ OPEN ∷ MINUS ∷ free_names) (kind t.token) w) [
+    | inl v ↦ start_text t v
+    | inr v ↦ elim (within_either (UNDEFINED ∷ []) (IMPORT ∷ OPEN ∷ MINUS ∷ free_names) (kind t.token) v) [
+      | inl u ↦ start_undefined t u
+      | inr u ↦ elim (within_either (IMPORT ∷ []) (OPEN ∷ MINUS ∷ free_names) (kind t.token) u) [
+        | inl z ↦ start_import t z
+        | inr z ↦ elim (within_either (OPEN ∷ []) (MINUS ∷ free_names) (kind t.token) z) [
+          | inl y ↦ start_open t y
+          | inr y ↦ elim (within_either (MINUS ∷ []) free_names (kind t.token) y) [ inl x ↦ start_minus t x | inr x ↦ start_name t x ]
+        ]
+      ]
+    ]
+  ]
+]
+
 prim_refuses : (e : Reader RawExpr) → Refuses prim_firsts (reading.prim e)
 unfolding reading.prim subset within
 prim_refuses e =
@@ -454,6 +546,6 @@ expr_refuses (suc n) =
 -- the reader of expressions at a depth, beside the same where they may be deeper
 pub expr_reads : (gap less more : ℕ) → more ≡ gap + less → ExprReads less (reading.expr less) (reading.expr more)
 unfolding reading.expr
-expr_reads gap zero more h = deep_reads expr_firsts expr_part (reading.expr more) expr_deep expr_default (expr_refuses more) expr_follow
+expr_reads gap zero more h = deep_reads expr_firsts expr_part (reading.expr more) expr_deep expr_default expr_starter (expr_refuses more) expr_follow
 expr_reads gap (suc less) zero h = absurd (omega (arith, h))
 expr_reads gap (suc less) (suc more) h = expr_level less (reading.expr less) (reading.expr more) (expr_reads gap less more (omega (arith, h)))

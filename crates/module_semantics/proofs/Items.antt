@@ -16,11 +16,11 @@ use Rattle.module_semantics.proofs.LexedPieces.{and_yes}
 use Rattle.module_semantics.proofs.Steps.{bind_some, bound_some}
 use Rattle.module_semantics.proofs.KindLists.{same_kind, disjoint, subset}
 use Rattle.module_semantics.proofs.Parts.{Part, Reads}
-use Rattle.module_semantics.proofs.Leaves.{one_ok, one_is}
+use Rattle.module_semantics.proofs.Leaves.{one_ok, one_is, taken_shallow}
 use Rattle.module_semantics.proofs.Sequences.{seq, seq_reads}
 use Rattle.module_semantics.proofs.Choices.{As, as_reads, alt, choice_reads, seen, mapped_reads, after, after_reads, before, before_reads}
 use Rattle.module_semantics.proofs.Lists.{many_reads}
-use Rattle.module_semantics.proofs.CommaLists.{listed_part, listed_reads}
+use Rattle.module_semantics.proofs.CommaLists.{listed_part, listed_reads, Shallow, then_shallow, mapped_shallow, choice_shallow, given_shallow}
 use Rattle.module_semantics.proofs.Ends.{end_part, end_reads}
 use Rattle.module_semantics.proofs.Options.{maybe_part, maybe_reads}
 use Rattle.module_semantics.proofs.Marks.{same_bytes, mark_part, name_part, bytes_part, free_name_reads, text_reads, reserved_reads, import_mark, export_mark, const_mark, let_mark, if_mark, from_mark, as_mark, dot_mark, meta_mark, hot_mark, equals_mark, open_mark, close_mark, open_brace_mark, close_brace_mark}
@@ -49,7 +49,7 @@ plain_top_reads : (n : ℕ) (i i' : Inner) → InnerReads n i i' → Reads (THRO
 unfolding plain_top disjoint subset within
 plain_top_reads n i i' a =
     relist _ _ (THROW ∷ free_names) expr_follow _ n _ _ _ refl refl
-    (choice_reads (THROW ∷ []) _ _ _ _ _ n _ _ _ _ _ _ refl refl (before_reads _ _ _ _ _ _ n _ _ _ _ _ _ refl refl (mapped_reads _ _ _ n _ _ _ (λ x. raw.act (raw.throw x)) (throw_reads n i.expr i'.expr a.expr a.later)) (end_reads n)) (before_reads _ _ _ _ _ _ n _ _ _ _ _ _ refl refl (mapped_reads _ _ _ n _ _ _ (raw.act) (name_act_reads n i.expr i'.expr a.expr)) (end_reads n)))
+    (choice_reads (THROW ∷ []) _ _ _ _ _ n _ _ _ _ _ _ refl refl (before_reads _ _ _ _ _ _ n _ _ _ _ _ _ refl refl (mapped_reads _ _ _ n _ _ _ (λ x. raw.act (raw.throw x)) (throw_reads n i.expr i'.expr a.expr a.later a.bottom)) (end_reads n)) (before_reads _ _ _ _ _ _ n _ _ _ _ _ _ refl refl (mapped_reads _ _ _ n _ _ _ (raw.act) (name_act_reads n i.expr i'.expr a.expr)) (end_reads n)))
 
 abbrev pub top_part : Part TopD RawItem
 top_part = record { spelt = top_spelt; value = top_raw; depth = top_depth }
@@ -233,6 +233,12 @@ spec_lower n (inr (m, None)) h = omega (arith, h)
 spec_as : (n : ℕ) → As spec_parts spec_part n n
 spec_as n = record { to = to_spec; spells = spec_spells; from = spec_from; value = spec_value; deeper = spec_deeper n; lower = spec_lower n }
 
+spec_shallow : Shallow import_name
+unfolding import_name
+spec_shallow =
+    choice_shallow reserved _ _ (mapped_shallow _ _ (then_shallow _ _ (taken_shallow reserved _) (mapped_shallow _ _ (then_shallow _ _ (taken_shallow (AS ∷ []) _) (taken_shallow free_names _)))))
+    (mapped_shallow _ imported (then_shallow _ _ (taken_shallow free_names _) (choice_shallow (AS ∷ []) _ _ (mapped_shallow _ _ (mapped_shallow _ _ (then_shallow _ _ (taken_shallow (AS ∷ []) _) (taken_shallow free_names _)))) given_shallow)))
+
 spec_reads : (n : ℕ) → Reads all_names false (AS ∷ []) n spec_part import_name import_name
 unfolding import_name disjoint subset within
 spec_reads n =
@@ -251,7 +257,7 @@ import_item_reads : (n : ℕ) (i i' : Inner) → InnerReads n i i' → Reads (TE
 unfolding import_item disjoint subset within
 import_item_reads n i i' a =
     relist _ _ (TEXT ∷ OPEN_BRACE ∷ DOT ∷ []) expr_follow _ n _ _ _ refl refl
-    (choice_reads (TEXT ∷ []) _ _ _ _ _ n _ _ _ _ _ _ refl refl (mapped_reads _ _ _ n _ _ _ (λ s. raw.import s []) (before_reads _ _ _ _ _ _ n _ _ _ _ _ _ refl refl (text_reads n) (end_reads n))) (choice_reads (OPEN_BRACE ∷ []) _ _ _ _ _ n _ _ _ _ _ _ refl refl (mapped_reads _ _ _ n _ _ _ (λ v. raw.import v.1 v.0) (seq_reads _ _ _ _ _ _ n _ _ _ _ _ _ refl (after_reads _ _ _ _ _ _ n _ _ _ _ _ _ refl refl (open_brace_mark n) (before_reads _ _ _ _ _ _ n _ _ _ _ _ _ refl refl (listed_reads all_names _ n _ _ _ refl (spec_reads n)) (close_brace_mark n))) (after_reads _ _ _ _ _ _ n _ _ _ _ _ _ refl refl (from_mark n) (before_reads _ _ _ _ _ _ n _ _ _ _ _ _ refl refl (text_reads n) (end_reads n))))) (hot_top_reads n i i' a)))
+    (choice_reads (TEXT ∷ []) _ _ _ _ _ n _ _ _ _ _ _ refl refl (mapped_reads _ _ _ n _ _ _ (λ s. raw.import s []) (before_reads _ _ _ _ _ _ n _ _ _ _ _ _ refl refl (text_reads n) (end_reads n))) (choice_reads (OPEN_BRACE ∷ []) _ _ _ _ _ n _ _ _ _ _ _ refl refl (mapped_reads _ _ _ n _ _ _ (λ v. raw.import v.1 v.0) (seq_reads _ _ _ _ _ _ n _ _ _ _ _ _ refl (after_reads _ _ _ _ _ _ n _ _ _ _ _ _ refl refl (open_brace_mark n) (before_reads _ _ _ _ _ _ n _ _ _ _ _ _ refl refl (listed_reads all_names _ n _ _ _ refl spec_shallow (spec_reads n)) (close_brace_mark n))) (after_reads _ _ _ _ _ _ n _ _ _ _ _ _ refl refl (from_mark n) (before_reads _ _ _ _ _ _ n _ _ _ _ _ _ refl refl (text_reads n) (end_reads n))))) (hot_top_reads n i i' a)))
 
 abbrev pub item_part : Part ItemD (List RawItem)
 item_part = record { spelt = item_spelt; value = item_raw; depth = item_depth }

@@ -2,7 +2,7 @@
 use Rattle.std.proofs.Common.{◌≡◌, ℕ, List, [], ◌∷◌, length, Bool, true, false, cond, ◌&&◌, inl, inr, Some, None, Ok, Err, refl, sym, ap, ◌∙◌, subst, arith}
 use Rattle.module_semantics.specs.Token.{LineToken}
 use Rattle.module_semantics.specs.Kinds.{kind, within, SEMICOLON, ERROR}
-use Rattle.module_semantics.specs.Readers.{unexpected, next_in, taken}
+use Rattle.module_semantics.specs.Readers.{unexpected, next_in, taken, too_deep}
 use Rattle.module_semantics.specs.Spelling.{one}
 use Rattle.module_semantics.proofs.PiecesLex.{both}
 use Rattle.module_semantics.proofs.Steps.{ok_parts, went, unexpected_at}
@@ -71,6 +71,11 @@ taken_stable ks v = record {
   faults = λ ts n h. let w = taken_err ks v ts n h in ([], ts, refl, w.1, λ s same. taken_not ks v s (next_in_looks ks s ts same ∙ w.0));
 }
 
+pub taken_shallow : {A : Type 0} (ks : List ℕ) (v : LineToken → A) (ts : List LineToken) (m : ℕ) → taken ks v ts ≡ Err (too_deep m) → ⊥
+unfolding taken
+taken_shallow ks v [] m h = absurd cc
+taken_shallow ks v (t ∷ ts) m h = elim (went (within ks (kind t.token)) _ _ (Err (too_deep m)) h) [ inl w ↦ absurd cc | inr w ↦ absurd cc ]
+
 pub leaf_reads : {A : Type 0} (ks : List ℕ) (v : LineToken → A) (same : A → A → Bool) (n : ℕ) → Same same → (t : LineToken) → within ks (kind t.token) ≡ true → t.later ≡ true → within (SEMICOLON ∷ ERROR ∷ []) (kind t.token) ≡ false
     → Reads ks false [] n (leaf ks v same) (taken ks v) (taken ks v)
 leaf_reads ks v same n S t is later plain =
@@ -87,4 +92,6 @@ leaf_reads ks v same n S t is later plain =
       free = λ d few. one_free ks (λ u. same d (v u));
       some = some;
       stable = taken_stable ks v;
+      self = taken_stable ks v;
+      sunk = λ ts m h. absurd (taken_shallow ks v ts m h);
     }

@@ -1,16 +1,17 @@
 -- A part as many times as it stands there.
+use Rattle.module_semantics.proofs.Choices.{test_stays, first_way}
 use Rattle.std.proofs.Common.{◌≡◌, ℕ, zero, suc, ◌≤◌, List, [], ◌∷◌, ◌++◌, length, map, true, false, ◌⊎◌, inl, inr, Some, Result, Ok, Err, refl, sym, ap, ◌∙◌, subst, arith}
 use Rattle.std.proofs.lemmas.List.{append_assoc}
 use Rattle.module_semantics.specs.Steps.{◌>>=◌}
 use Rattle.module_semantics.specs.Token.{LineToken}
-use Rattle.module_semantics.specs.Readers.{GrammarFault, unexpected, Reader, next_in, many_from, many}
+use Rattle.module_semantics.specs.Readers.{GrammarFault, unexpected, Reader, next_in, many_from, many, too_deep}
 use Rattle.module_semantics.specs.Spelling as spell
 use Rattle.module_semantics.specs.Spelling.{Spell, ◌>>◌, ◌▸◌}
 use Rattle.module_semantics.specs.Grammar.{deepest}
 use Rattle.module_semantics.proofs.Steps.{ok_parts, bind_ok, bind_err, bound, bound_err, went, if_true, if_false, bind_some, bound_some, next, next_after, no_tokens, grown}
 use Rattle.module_semantics.proofs.KindLists.{disjoint, next_apart, next_neither, next_in_looks, none_next}
-use Rattle.module_semantics.proofs.Parts.{Free, Stable, Part, Begun, Default, Reads, shorter}
-use Rattle.module_semantics.proofs.Sequences.{then_free, later_begun, first_begun, same_begun}
+use Rattle.module_semantics.proofs.Parts.{Free, Stable, Part, Begun, Default, Reads, shorter, Sunk, Fresh, Near}
+use Rattle.module_semantics.proofs.Sequences.{then_free, later_begun, first_begun, same_begun, alike, one_cut}
 
 abbrev pub list_part : {D A : Type 0} → Part D A → Part (List D) (List A)
 list_part P = record { spelt = spell.many P.spelt; value = map P.value; depth = deepest P.depth }
@@ -112,14 +113,110 @@ many_begun fs ks n P f g a (suc m) ts j h = elim (went (next_in fs ts) _ _ (Err 
   | inr w ↦ absurd cc
 ]
 
+-- a turn takes a token
+pub turn_takes : {D A : Type 0} (fs ks : List ℕ) (n : ℕ) (P : Part D A) (f g : Reader A) → Reads fs false ks n P f g → (ts : List LineToken) (x : A) (r : List LineToken) → f ts ≡ Ok (x, r) → suc (length r) ≤ length ts
+turn_takes fs ks n P f g a ts x r h = let d = a.whole ts x r h in shorter fs ks n P f g a d.0 ts r d.3 d.1
+
+-- the same of a loop, whatever turns are allowed
+record ManySunk {D A : Type 0} (fs : List ℕ) (P : Part D A) (f : Reader A) (ts : List LineToken) (n : ℕ) : Type 0 where
+  before : List LineToken
+  at : LineToken
+  rest : List LineToken
+  more : List LineToken
+  by : List D
+  split : ts ≡ before ++ (at ∷ rest)
+  left : suc (length rest) ≡ n
+  fresh : Fresh more
+  spells : (s : List LineToken) → Fresh s → spell.many P.spelt by (before ++ (at ∷ (more ++ s))) ≡ Some s
+  never : (s : List LineToken) (k : ℕ) → length (before ++ (at ∷ s)) ≤ k → (xs : List A) (q : List LineToken) → many_from fs f k (before ++ (at ∷ s)) ≡ Ok (xs, q) → ⊥
+
+-- a turn of a loop that ends well
+abbrev TurnOk : {A : Type 0} → List ℕ → Reader A → ℕ → List LineToken → List LineToken → Type 0
+TurnOk {A} fs f k ts q = (x : A) × (r : List LineToken) × (j : ℕ) × (ys : List A) × (f ts ≡ Ok (x, r)) × (k ≡ suc j) × (many_from fs f j r ≡ Ok (ys, q))
+
+turn_ok : {A : Type 0} (fs : List ℕ) (f : Reader A) (k : ℕ) (ts : List LineToken) (xs : List A) (q : List LineToken) → next_in fs ts ≡ true → 1 ≤ length ts → length ts ≤ k → many_from fs f k ts ≡ Ok (xs, q) → TurnOk fs f k ts q
+unfolding many_from
+turn_ok fs f zero ts xs q go some fits h = absurd (omega (arith, some, fits))
+turn_ok fs f (suc k) ts xs q go some fits h =
+    let w = first_way (next_in fs ts) (f ts >>= λ x. many_from fs f k x.1 >>= λ y. Ok (x.0 ∷ y.0, y.1)) (Ok ([], ts)) (Ok (xs, q)) go h in
+    let one = bind_ok (f ts) (λ x. many_from fs f k x.1 >>= λ y. Ok (x.0 ∷ y.0, y.1)) (xs, q) w in
+    let two = bind_ok (many_from fs f k one.0.1) (λ y. Ok (one.0.0 ∷ y.0, y.1)) (xs, q) one.2 in
+    let same = ok_parts (one.0.0 ∷ two.0.0) xs two.0.1 q two.2 in
+    (one.0.0, one.0.1, k, two.0.0, one.1, refl, two.1 ∙ ap (λ u. Ok (two.0.0, u)) same.0)
+
+none_spells : {D : Type 0} (f : D → Spell) (s : List LineToken) → spell.many f [] s ≡ Some s
+unfolding spell.many
+none_spells f s = refl
+
+later_sunk : {D A : Type 0} (fs ks : List ℕ) (n : ℕ) (P : Part D A) (f g : Reader A) → Reads fs false ks n P f g → (ts m : List LineToken) (x : A) (j : ℕ) (d : D) (b : List LineToken) → ts ≡ b ++ m → ((s : List LineToken) → Near s m → P.spelt d (b ++ s) ≡ Some s) → ((s : List LineToken) → next s ≡ next m → f (b ++ s) ≡ Ok (x, s)) → next_in fs ts ≡ true → ManySunk fs P f m j → ManySunk fs P f ts j
+later_sunk {D} {A} fs ks n P f g a ts m x j d b split spells reads go e = record {
+  before = b ++ e.before;
+  at = e.at;
+  rest = e.rest;
+  more = e.more;
+  by = d ∷ e.by;
+  split = split ∙ ap (λ k. b ++ k) e.split ∙ sym (append_assoc b e.before (e.at ∷ e.rest));
+  left = e.left;
+  fresh = e.fresh;
+  spells = λ s fresh.
+      let tail : List LineToken = e.before ++ (e.at ∷ (e.more ++ s)) in
+      subst (λ k. spell.many P.spelt (d ∷ e.by) k ≡ Some s) (sym (append_assoc b e.before (e.at ∷ (e.more ++ s))))
+      (pair_spells P.spelt d e.by (b ++ tail) s (bound_some (P.spelt d (b ++ tail)) (spell.many P.spelt e.by) tail (Some s) (spells tail (inl (alike e.before e.at e.rest (e.more ++ s) ∙ sym (ap next e.split)))) (e.spells s fresh)));
+  never = λ s k fits xs q is.
+      let tail : List LineToken = e.before ++ (e.at ∷ s) in
+      let whole : (b ++ e.before) ++ (e.at ∷ s) ≡ b ++ tail = append_assoc b e.before (e.at ∷ s) in
+      let near : next tail ≡ next m = alike e.before e.at e.rest s ∙ sym (ap next e.split) in
+      let fits' : length (b ++ tail) ≤ k = subst (λ u. length u ≤ k) whole fits in
+      let is' : many_from fs f k (b ++ tail) ≡ Ok (xs, q) = subst (λ u. many_from fs f k u ≡ Ok (xs, q)) whole is in
+      let go' : next_in fs (b ++ tail) ≡ true = next_in_looks fs (b ++ tail) (b ++ m) (next_after b m tail near) ∙ sym (ap (next_in fs) split) ∙ go in
+      let t = turn_ok fs f k (b ++ tail) xs q go' (some_tokens fs (b ++ tail) go') fits' is' in
+      let read : f (b ++ tail) ≡ Ok (x, tail) = reads tail near in
+      let same : ◌≡◌ {A = Result (A × List LineToken) GrammarFault} (Ok (t.0, t.1)) (Ok (x, tail)) = sym t.4 ∙ read in
+      let parts = ok_parts t.0 x t.1 tail same in
+      let less = turn_takes fs ks n P f g a (b ++ tail) x tail read in
+      e.never s t.2 (omega (arith, less, fits', t.5)) t.3 q (subst (λ u. many_from fs f t.2 u ≡ Ok (t.3, q)) parts.0 t.6);
+}
+
+many_sunk : {D A : Type 0} (fs ks : List ℕ) (n : ℕ) (P : Part D A) (f g : Reader A) → Reads fs false ks n P f g → (m : ℕ) (ts : List LineToken) (j : ℕ) → many_from fs f m ts ≡ Err (too_deep j) → ManySunk fs P f ts j
+unfolding many_from
+many_sunk fs ks n P f g a zero ts j h = absurd cc
+many_sunk fs ks n P f g a (suc m) ts j h = elim (went (next_in fs ts) _ _ (Err (too_deep j)) h) [
+  | inl w ↦ elim (bind_err (f ts) (λ x. many_from fs f m x.1 >>= λ y. Ok (x.0 ∷ y.0, y.1)) (too_deep j) w.1) [
+    | inl v ↦
+        let d = a.sunk ts j v in
+        record {
+          before = d.before;
+          at = d.at;
+          rest = d.rest;
+          more = d.more;
+          by = d.by ∷ [];
+          split = d.split;
+          left = d.left;
+          fresh = d.fresh;
+          spells = λ s fresh. pair_spells P.spelt d.by [] (d.before ++ (d.at ∷ (d.more ++ s))) s (bound_some (P.spelt d.by (d.before ++ (d.at ∷ (d.more ++ s)))) (spell.many P.spelt []) s (Some s) (d.spells s fresh) (none_spells P.spelt s));
+          never = λ s k fits xs q is.
+              let go = test_stays fs ts d.before d.at d.rest s true d.split w.0 in
+              let t = turn_ok fs f k (d.before ++ (d.at ∷ s)) xs q go (some_tokens fs (d.before ++ (d.at ∷ s)) go) fits is in
+              d.never s t.0 t.1 t.4;
+        }
+    | inr one ↦ elim (bind_err (many_from fs f m one.0.1) (λ y. Ok (one.0.0 ∷ y.0, y.1)) (too_deep j) one.2) [
+      | inl v ↦
+          let c = one_cut fs ks false n P f g a ts one.0.0 one.0.1 one.1 in
+          let e = many_sunk fs ks n P f g a m one.0.1 j v in
+          later_sunk fs ks n P f g a ts one.0.1 one.0.0 j c.0 c.1 c.2 c.3 c.4 w.0 e
+      | inr v ↦ absurd cc
+    ]
+  ]
+  | inr w ↦ absurd cc
+]
+
+many_sinks : {D A : Type 0} (fs : List ℕ) (P : Part D A) (f : Reader A) (ts : List LineToken) (n : ℕ) → ManySunk fs P f ts n → Sunk (list_part P) (many fs f) ts n
+many_sinks fs P f ts n e = record { before = e.before; at = e.at; rest = e.rest; more = e.more; by = e.by; split = e.split; left = e.left; fresh = e.fresh; spells = e.spells; never = λ s xs q h. e.never s (length (e.before ++ (e.at ∷ s))) (omega arith) xs q h }
+
 many_free : {D A : Type 0} (fs ks : List ℕ) (n : ℕ) (P : Part D A) (f g : Reader A) → Reads fs false ks n P f g → (ds : List D) → deepest P.depth ds ≤ n → Free (spell.many P.spelt ds)
 unfolding spell.many
 many_free fs ks n P f g a [] few ts r h = ([], cc, λ s near. refl)
 many_free fs ks n P f g a (d ∷ ds) few ts r h = then_free (P.spelt d) (spell.many P.spelt ds) (a.free d (omega (arith, few))) (many_free fs ks n P f g a ds (omega (arith, few))) ts r h
-
--- a turn takes a token
-pub turn_takes : {D A : Type 0} (fs ks : List ℕ) (n : ℕ) (P : Part D A) (f g : Reader A) → Reads fs false ks n P f g → (ts : List LineToken) (x : A) (r : List LineToken) → f ts ≡ Ok (x, r) → suc (length r) ≤ length ts
-turn_takes fs ks n P f g a ts x r h = let d = a.whole ts x r h in shorter fs ks n P f g a d.0 ts r d.3 d.1
 
 abbrev pub Takes : {A : Type 0} → Reader A → Type 0
 Takes {A} f = (ts : List LineToken) (x : A) (r : List LineToken) → f ts ≡ Ok (x, r) → suc (length r) ≤ length ts
@@ -211,4 +308,6 @@ many_reads fs ks n P f g apart a = record {
   free = many_free fs ks n P f g a;
   some = many_default P.spelt;
   stable = many_stable fs f g (turn_takes fs ks n P f g a) a.stable;
+  self = many_stable fs f f (turn_takes fs ks n P f g a) a.self;
+  sunk = λ ts j h. many_sinks fs P f ts j (many_sunk fs ks n P f g a (length ts) ts j h);
 }

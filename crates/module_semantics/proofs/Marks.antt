@@ -1,5 +1,5 @@
 -- Names, texts, numbers and marks, each with its reader.
-use Rattle.std.proofs.Common.{◌≡◌, ℕ, List, [], ◌∷◌, true, false, ◌==◌, refl, codes}
+use Rattle.std.proofs.Common.{◌≡◌, ℕ, List, [], ◌∷◌, true, false, ◌==◌, refl, codes, Some}
 use Rattle.std.proofs.lemmas.Bool.{eqb-true}
 use Rattle.std.proofs.lemmas.Slice.Eq.{bytes_eq-Decides}
 use Rattle.std.specs.Str.{bytes_eq}
@@ -7,11 +7,12 @@ use Rattle.module_semantics.specs.Token.{Token, name, number, text, punct, LineT
 use Rattle.module_semantics.specs.Kinds.{ACCEPT, ARROW, AS, CLOSE, CLOSE_BRACE, CLOSE_BRACKET, COLON, COMMA, CONSOLE, CONST, DATA, DECLINE, DISPOSE, DOT, ELSE, EQUALS, EXPORT, FROM, HOST, HOT, IF, IMPORT, INVALIDATE, LET, LOG, META, MINUS, NEW, NULLISH, OPEN, OPEN_BRACE, OPEN_BRACKET, PLUS, PRUNE, QUESTION, SAFE_DOT, THROW, TIMES, UNDEFINED, SEMICOLON, ERROR, NUMBER, TEXT, kind, found_word, word_kind, within, free_names, all_names, reserved, bytes_of, value_of, NameAt, name_at, same_name}
 use Rattle.module_semantics.specs.Readers.{mark, taken}
 use Rattle.module_semantics.specs.Reading.{but_console, but_host}
+use Rattle.module_semantics.specs.Spelling as spell
 use Rattle.module_semantics.proofs.PiecesLex.{both}
 use Rattle.module_semantics.proofs.LexedPieces.{and_yes}
 use Rattle.module_semantics.proofs.KindLists.{same_kind}
 use Rattle.module_semantics.proofs.Parts.{Part, Reads, leaf}
-use Rattle.module_semantics.proofs.Leaves.{Same, leaf_reads}
+use Rattle.module_semantics.proofs.Leaves.{Same, leaf_reads, one_is}
 
 same_number : Same (λ (a : ℕ) (b : ℕ). a == b)
 same_number = record { is = λ a b h. eqb-true a b h; again = λ a. same_kind a }
@@ -35,7 +36,7 @@ same_names = record {
 }
 
 -- a token that begins a line
-abbrev on_line : Token → LineToken
+abbrev pub on_line : Token → LineToken
 on_line t = record { token = t; at = 0; later = true }
 
 -- a mark
@@ -264,3 +265,7 @@ host_reads n = name_reads n (HOST ∷ []) (name (codes "host")) refl refl
 pub but_host_reads : (n : ℕ) → Reads but_host false [] n (name_part but_host) (taken but_host name_at) (taken but_host name_at)
 unfolding within word_kind found_word
 but_host_reads n = name_reads n but_host (name (codes "a")) refl refl
+
+-- a mark is spelled by its token
+pub mark_spells : (k : ℕ) (t : LineToken) (s : List LineToken) → within (k ∷ []) (kind t.token) ≡ true → spell.mark k (t ∷ s) ≡ Some s
+mark_spells k t s h = one_is (k ∷ []) spell.any_token t s h refl

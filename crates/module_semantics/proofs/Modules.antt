@@ -1,16 +1,16 @@
 -- Whole modules: the reader is the grammar, and its faults stand first.
-use Rattle.std.proofs.Common.{◌≡◌, ℕ, ◌+◌, ◌-◌, ◌≤◌, max, List, [], ◌∷◌, ◌++◌, length, true, Some, Result, Ok, Err, refl, sym, ap, ◌∙◌, subst, inl, inr, arith}
+use Rattle.std.proofs.Common.{◌≡◌, ℕ, ◌+◌, ◌-◌, ◌≤◌, max, List, [], ◌∷◌, ◌++◌, length, true, Some, Result, Ok, Err, refl, sym, ap, ◌∙◌, subst, inl, inr, arith, suc, ◌<◌}
 use Rattle.std.proofs.lemmas.Bool.{cases_lt}
 use Rattle.std.proofs.lemmas.List.{append-nil, append_assoc, length-append}
 use Rattle.module_semantics.specs.Steps.{◌>>=◌}
 use Rattle.module_semantics.specs.Token.{LineToken}
 use Rattle.module_semantics.specs.Kinds.{within}
 use Rattle.module_semantics.specs.Raw.{RawItem}
-use Rattle.module_semantics.specs.Readers.{GrammarFault, unexpected, Reader, mapped, many, ◌&◌}
+use Rattle.module_semantics.specs.Readers.{GrammarFault, unexpected, Reader, mapped, many, ◌&◌, too_deep}
 use Rattle.module_semantics.specs.Reading.{flat, item, item_firsts, inner, finished, module_reader, reading}
 use Rattle.module_semantics.specs.Grammar.{ModuleD, module_spelt, module_raw, module_depth}
-use Rattle.module_semantics.specs.ModuleTokens.{IsModule, Says, Continues, Stops, FirstUnexpected}
-use Rattle.module_semantics.proofs.Steps.{ok_parts, bind_ok, bind_err, bound, unexpected_at, next, no_tokens}
+use Rattle.module_semantics.specs.ModuleTokens.{IsModule, Says, Continues, Stops, FirstUnexpected, TooDeepAt}
+use Rattle.module_semantics.proofs.Steps.{ok_parts, bind_ok, bind_err, bound, unexpected_at, next, no_tokens, same_split}
 use Rattle.module_semantics.proofs.KindLists.{disjoint, none_next}
 use Rattle.module_semantics.proofs.Parts.{Stable, Part, Begun, Reads}
 use Rattle.module_semantics.proofs.Sequences.{then_stable, ok_stable}
@@ -109,17 +109,6 @@ module_stable less more h =
     (λ x. then_stable finished finished (λ y ts. Ok ((x, y), ts)) (λ y ts. Ok ((x, y), ts)) finished_stable (λ y. ok_stable (x, y))))
     (λ x. ok_stable x.0)
 
--- two splits with as many tokens left are one
-same_split : (b r b' r' : List LineToken) → b ++ r ≡ b' ++ r' → length r ≡ length r' → (b ≡ b') × (r ≡ r')
-same_split [] r [] r' h len = (refl, h)
-same_split [] r (t ∷ b') r' h len = absurd (omega (arith, len, ap length h, length-append b' r'))
-same_split (t ∷ b) r [] r' h len = absurd (omega (arith, len, ap length h, length-append b r))
-same_split (t ∷ b) r (u ∷ b') r' h len =
-    let first : t ≡ u = cc in
-    let rest : b ++ r ≡ b' ++ r' = cc in
-    let w = same_split b r b' r' rest len in
-    (rw (first, w.0) refl, w.1)
-
 reading_err : (n : ℕ) (ts : List LineToken) (m : ℕ) → reading n ts ≡ Err (unexpected m) → module_reader n ts ≡ Err (unexpected m)
 unfolding reading
 reading_err n ts m h = elim (bind_err (module_reader n ts) (λ v. Ok v.0) (unexpected m) h) [ inl w ↦ w | inr w ↦ absurd cc ]
@@ -197,4 +186,53 @@ pub one_place : (ts : List LineToken) (n m : ℕ) → FirstUnexpected ts n → F
 one_place ts n m a b = elim (cases_lt n m) [
   | inl w ↦ sym (no_earlier ts m n b a (omega (arith, w)))
   | inr w ↦ no_earlier ts n m a b w
+]
+
+finished_shallow : (ts : List LineToken) (m : ℕ) → finished ts ≡ Err (too_deep m) → ⊥
+unfolding finished
+finished_shallow [] m h = absurd cc
+finished_shallow (t ∷ ts) m h = absurd cc
+
+items_deep : (n : ℕ) (ts : List LineToken) (m : ℕ) → module_reader n ts ≡ Err (too_deep m) → items n ts ≡ Err (too_deep m)
+unfolding module_reader
+items_deep n ts m h = elim (bind_err ((items n & finished) ts) (λ v. Ok (v.0.0, v.1)) (too_deep m) h) [
+  | inl w ↦ elim (bind_err (items n ts) (λ v. finished v.1 >>= λ y. Ok ((v.0, y.0), y.1)) (too_deep m) w) [
+    | inl v ↦ v
+    | inr one ↦ elim (bind_err (finished one.0.1) (λ y. Ok ((one.0.0, y.0), y.1)) (too_deep m) one.2) [ inl u ↦ absurd (finished_shallow one.0.1 m u) | inr u ↦ absurd cc ]
+  ]
+  | inr w ↦ absurd cc
+]
+
+reading_deep : (n : ℕ) (ts : List LineToken) (m : ℕ) → reading n ts ≡ Err (too_deep m) → module_reader n ts ≡ Err (too_deep m)
+unfolding reading
+reading_deep n ts m h = elim (bind_err (module_reader n ts) (λ v. Ok v.0) (too_deep m) h) [ inl w ↦ w | inr w ↦ absurd cc ]
+
+not_shallow : (most : ℕ) (d : ModuleD) (ts : List LineToken) → ((x : List RawItem) (q : List LineToken) → items most ts ≡ Ok (x, q) → ⊥) → module_spelt d ts ≡ Some [] → most < module_depth d
+not_shallow most d ts never h = elim (cases_lt most (module_depth d)) [
+  | inl w ↦ w
+  | inr w ↦ absurd (never (module_raw d) [] ((items_at most).comp d ts [] w h (none_next _)))
+]
+
+pub sinks_there : (most : ℕ) (ts : List LineToken) (m : ℕ) → reading most ts ≡ Err (too_deep m) → TooDeepAt most ts m
+sinks_there most ts m h =
+    let d = (items_at most).sunk ts m (items_deep most ts m (reading_deep most ts m h)) in
+    record {
+      before = d.before;
+      at = d.at;
+      after = d.rest;
+      split = d.split;
+      left = d.left;
+      begins = record { more = d.more; whole = record { by = d.by; spelt = subst (λ k. module_spelt d.by k ≡ Some []) (ap (λ k. d.before ++ (d.at ∷ k)) (append-nil d.more) ∙ sym (append_assoc d.before (d.at ∷ []) d.more)) (d.spells [] tt) } };
+      deep = λ e more is. not_shallow most e (d.before ++ (d.at ∷ more)) (d.never more) is;
+    }
+
+-- what is too deep stands before what is unexpected
+pub sinks_first : (most : ℕ) (ts : List LineToken) (n m : ℕ) → TooDeepAt most ts m → FirstUnexpected ts n → n < m
+sinks_first most ts n m a b = elim (cases_lt n (length a.after)) [
+  | inl w ↦ omega (arith, a.left, w)
+  | inr w ↦
+      let split : b.before ++ b.after ≡ (a.before ++ (a.at ∷ [])) ++ a.after = sym b.split ∙ a.split ∙ sym (append_assoc a.before (a.at ∷ []) a.after) in
+      let k = later b.before b.after (a.before ++ (a.at ∷ [])) a.after split (omega (arith, b.left, w)) in
+      let same = not_past b.before b.after k.0 a.after k.2 b.stops (subst Continues k.1 a.begins) in
+      omega (arith, same, b.left, a.left)
 ]

@@ -3,7 +3,7 @@ use Rattle.std.proofs.Common.{◌≡◌, ℕ, suc, ◌≤◌, List, [], ◌∷�
 use Rattle.std.proofs.lemmas.List.{length-append}
 use Rattle.module_semantics.specs.Token.{LineToken}
 use Rattle.module_semantics.specs.Kinds.{kind, within, SEMICOLON, ERROR}
-use Rattle.module_semantics.specs.Readers.{unexpected, Reader, next_in}
+use Rattle.module_semantics.specs.Readers.{unexpected, too_deep, Reader, next_in}
 use Rattle.module_semantics.specs.Spelling.{Spell, one}
 use Rattle.module_semantics.proofs.Steps.{next}
 use Rattle.module_semantics.proofs.KindLists.{none_next}
@@ -52,6 +52,19 @@ pub record Begun {D A : Type 0} (P : Part D A) (ts : List LineToken) (n : ℕ) :
   pub fresh : Fresh more
   pub spells : (s : List LineToken) → Fresh s → P.spelt by (before ++ (more ++ s)) ≡ Some s
 
+-- the tokens up to one that is too deep begin a text of the part, but the reader reads none that begins so
+pub record Sunk {D A : Type 0} (P : Part D A) (f : Reader A) (ts : List LineToken) (n : ℕ) : Type 0 where
+  pub before : List LineToken
+  pub at : LineToken
+  pub rest : List LineToken
+  pub more : List LineToken
+  pub by : D
+  pub split : ts ≡ before ++ (at ∷ rest)
+  pub left : suc (length rest) ≡ n
+  pub fresh : Fresh more
+  pub spells : (s : List LineToken) → Fresh s → P.spelt by (before ++ (at ∷ (more ++ s))) ≡ Some s
+  pub never : (s : List LineToken) (x : A) (q : List LineToken) → f (before ++ (at ∷ s)) ≡ Ok (x, q) → ⊥
+
 -- some text of the part, which begins a line
 pub record Default {D : Type 0} (spelt : D → Spell) : Type 0 where
   pub by : D
@@ -74,6 +87,8 @@ pub record Reads {D A : Type 0} (fs : List ℕ) (null : Bool) (ks : List ℕ) (n
   pub free : (d : D) → P.depth d ≤ n → Free (P.spelt d)
   pub some : Default P.spelt
   pub stable : Stable f g
+  pub self : Stable f f
+  pub sunk : (ts : List LineToken) (m : ℕ) → f ts ≡ Err (too_deep m) → Sunk P f ts m
 
 shorter_by : {D A : Type 0} (fs ks : List ℕ) (n : ℕ) (P : Part D A) (f g : Reader A) → Reads fs false ks n P f g → (d : D) (ts r : List LineToken) → P.depth d ≤ n
     → (b : List LineToken) → ts ≡ b ++ r → ((s : List LineToken) → Near s r → P.spelt d (b ++ s) ≡ Some s) → suc (length r) ≤ length ts

@@ -1,13 +1,13 @@
 -- One part after another.
-use Rattle.std.proofs.Common.{◌≡◌, ℕ, ◌≤◌, max, List, [], ◌++◌, length, Bool, true, false, ◌&&◌, inl, inr, Some, Ok, Err, refl, sym, ap, ◌∙◌, subst, arith}
+use Rattle.std.proofs.Common.{◌≡◌, ℕ, ◌≤◌, max, List, [], ◌++◌, length, Bool, true, false, ◌&&◌, inl, inr, Some, Ok, Err, refl, sym, ap, ◌∙◌, subst, arith, Result, suc, ◌∷◌, cond}
 use Rattle.std.proofs.lemmas.List.{append_assoc}
 use Rattle.module_semantics.specs.Steps.{◌>>=◌}
 use Rattle.module_semantics.specs.Token.{LineToken}
-use Rattle.module_semantics.specs.Readers.{unexpected, Reader, next_in, ◌&◌}
+use Rattle.module_semantics.specs.Readers.{unexpected, Reader, next_in, ◌&◌, too_deep, GrammarFault}
 use Rattle.module_semantics.specs.Spelling.{Spell, ◌>>◌, ◌▸◌}
-use Rattle.module_semantics.proofs.Steps.{ok_parts, bind_ok, bind_err, bound, bound_err, bind_some, bound_some, next, next_after}
+use Rattle.module_semantics.proofs.Steps.{ok_parts, bind_ok, bind_err, bound, bound_err, bind_some, bound_some, next, next_after, same_split}
 use Rattle.module_semantics.proofs.KindLists.{disjoint, next_apart, next_left, next_right, next_neither}
-use Rattle.module_semantics.proofs.Parts.{Near, near_after, fresh_more, Free, Stable, Part, Begun, Default, Starts, Reads}
+use Rattle.module_semantics.proofs.Parts.{Near, near_after, fresh_more, Free, Stable, Part, Begun, Default, Starts, Reads, Sunk, Fresh}
 
 abbrev pub firsts_of : Bool → List ℕ → List ℕ → List ℕ
 firsts_of true a b = a ++ b
@@ -132,6 +132,92 @@ same_begun P Q ts n to spells d = record {
   spells = λ s fresh. spells d.by (d.before ++ (d.more ++ s)) s (d.spells s fresh);
 }
 
+-- a part that sinks, and then a default
+sunk_first : {D E A B : Type 0} (P : Part D A) (q : E → Spell) (g : Reader B) (f : Reader A) (v : D × E → A × B) (n : D × E → ℕ) (ts : List LineToken) (m : ℕ) → Sunk P f ts m → Default q
+    → Sunk (record { spelt = λ d. P.spelt d.0 ▸ q d.1; value = v; depth = n }) (f & g) ts m
+sunk_first P q g f v n ts m d c = record {
+  before = d.before;
+  at = d.at;
+  rest = d.rest;
+  more = d.more ++ c.text;
+  by = (d.by, c.by);
+  split = d.split;
+  left = d.left;
+  fresh = fresh_more d.more c.text d.fresh c.fresh;
+  spells = λ s fresh. subst (λ k. (P.spelt d.by (d.before ++ (d.at ∷ k)) >> q c.by) ≡ Some s) (sym (append_assoc d.more c.text s))
+      (bound_some (P.spelt d.by (d.before ++ (d.at ∷ (d.more ++ (c.text ++ s))))) (q c.by) (c.text ++ s) (Some s) (d.spells (c.text ++ s) (fresh_more c.text s c.fresh fresh)) (c.spells s fresh));
+  never = λ s x r h. let w = bind_ok (f (d.before ++ (d.at ∷ s))) (λ x. g x.1 >>= λ y. Ok ((x.0, y.0), y.1)) (x, r) h in d.never s w.0.0 w.0.1 w.1;
+}
+
+-- what stands alike at a place, whatever follows it
+pub alike : (b : List LineToken) (t : LineToken) (r s : List LineToken) → next (b ++ (t ∷ s)) ≡ next (b ++ (t ∷ r))
+alike [] t r s = refl
+alike (u ∷ b) t r s = refl
+
+-- what follows a text of some spelling, which sinks
+pub sunk_later : {E A B : Type 0} (p : Spell) (Q : Part E B) (f : Reader A) (g : Reader B) (x : A) (ts m : List LineToken) (n : ℕ) → (b : List LineToken) → ts ≡ b ++ m → ((s : List LineToken) → Near s m → p (b ++ s) ≡ Some s) → ((s : List LineToken) → next s ≡ next m → f (b ++ s) ≡ Ok (x, s)) → Sunk Q g m n
+    → Sunk (record { spelt = λ e. p ▸ Q.spelt e; value = λ e. (x, Q.value e); depth = Q.depth }) (f & g) ts n
+sunk_later {E} {A} {B} p Q f g x ts m n b split spells reads e = record {
+  before = b ++ e.before;
+  at = e.at;
+  rest = e.rest;
+  more = e.more;
+  by = e.by;
+  split = split ∙ ap (λ k. b ++ k) e.split ∙ sym (append_assoc b e.before (e.at ∷ e.rest));
+  left = e.left;
+  fresh = e.fresh;
+  spells = λ s fresh. subst (λ k. (p k >> Q.spelt e.by) ≡ Some s) (sym (append_assoc b e.before (e.at ∷ (e.more ++ s))))
+      (bound_some (p (b ++ (e.before ++ (e.at ∷ (e.more ++ s))))) (Q.spelt e.by) (e.before ++ (e.at ∷ (e.more ++ s))) (Some s)
+      (spells (e.before ++ (e.at ∷ (e.more ++ s))) (inl (alike e.before e.at e.rest (e.more ++ s) ∙ sym (ap next e.split))))
+      (e.spells s fresh));
+  never = λ s y q is.
+      let tail : List LineToken = e.before ++ (e.at ∷ s) in
+      let go : (f & g) (b ++ tail) ≡ Ok (y, q) = subst (λ k. (f & g) k ≡ Ok (y, q)) (append_assoc b e.before (e.at ∷ s)) is in
+      let w = bind_ok (f (b ++ tail)) (λ x. g x.1 >>= λ y. Ok ((x.0, y.0), y.1)) (y, q) go in
+      let read : f (b ++ tail) ≡ Ok (x, tail) = reads tail (alike e.before e.at e.rest s ∙ sym (ap next e.split)) in
+      let same : ◌≡◌ {A = Result (A × List LineToken) GrammarFault} (Ok w.0) (Ok (x, tail)) = sym w.1 ∙ read in
+      let parts = ok_parts w.0.0 x w.0.1 tail same in
+      let v = bind_ok (g w.0.1) (λ y. Ok ((w.0.0, y.0), y.1)) (y, q) w.2 in
+      e.never s v.0.0 v.0.1 (subst (λ k. g k ≡ Ok v.0) parts.0 v.1);
+}
+
+-- the same text sunk by another derivation and another reader
+pub same_sunk : {D E A B : Type 0} (P : Part D A) (Q : Part E B) (f : Reader A) (g : Reader B) (ts : List LineToken) (n : ℕ) (to : D → E) → ((d : D) (k r : List LineToken) → P.spelt d k ≡ Some r → Q.spelt (to d) k ≡ Some r) → ((k : List LineToken) (y : B) (q : List LineToken) → g k ≡ Ok (y, q) → (x : A) × (r : List LineToken) × (f k ≡ Ok (x, r))) → Sunk P f ts n → Sunk Q g ts n
+same_sunk P Q f g ts n to spells back d = record {
+  before = d.before;
+  at = d.at;
+  rest = d.rest;
+  more = d.more;
+  by = to d.by;
+  split = d.split;
+  left = d.left;
+  fresh = d.fresh;
+  spells = λ s fresh. spells d.by (d.before ++ (d.at ∷ (d.more ++ s))) s (d.spells s fresh);
+  never = λ s y q h. let w = back (d.before ++ (d.at ∷ s)) y q h in d.never s w.0 w.1 w.2;
+}
+
+-- the place of what was read, by its spelling and by its reader
+pub one_cut : {D A : Type 0} (fs ks : List ℕ) (null : Bool) (n : ℕ) (P : Part D A) (f g : Reader A) → Reads fs null ks n P f g → (ts : List LineToken) (x : A) (r : List LineToken) → f ts ≡ Ok (x, r)
+    → (d : D) × (b : List LineToken) × (ts ≡ b ++ r) × ((s : List LineToken) → Near s r → P.spelt d (b ++ s) ≡ Some s) × ((s : List LineToken) → next s ≡ next r → f (b ++ s) ≡ Ok (x, s))
+one_cut fs ks null n P f g a ts x r h =
+    let d = a.whole ts x r h in
+    let v = a.free d.0 d.3 ts r d.1 in
+    let k = a.self.reads ts x r h in
+    let same = same_split k.0 r v.0 r (sym k.1 ∙ v.1) refl in
+    (d.0, v.0, v.1, v.2, λ s near. subst (λ b. f (b ++ s) ≡ Ok (x, s)) same.0 (k.2 s near))
+
+seq_sunk : {D E A B : Type 0} (fs ks fs' ks' : List ℕ) (null null' : Bool) (n : ℕ) (P : Part D A) (Q : Part E B) (f f' : Reader A) (g g' : Reader B)
+    → Reads fs null ks n P f f' → Reads fs' null' ks' n Q g g' → (ts : List LineToken) (m : ℕ) → (f & g) ts ≡ Err (too_deep m) → Sunk (seq P Q) (f & g) ts m
+seq_sunk fs ks fs' ks' null null' n P Q f f' g g' a b ts m h = elim (bind_err (f ts) (λ x. g x.1 >>= λ y. Ok ((x.0, y.0), y.1)) (too_deep m) h) [
+  | inl w ↦ sunk_first P Q.spelt g f (seq P Q).value (seq P Q).depth ts m (a.sunk ts m w) b.some
+  | inr one ↦ elim (bind_err (g one.0.1) (λ y. Ok ((one.0.0, y.0), y.1)) (too_deep m) one.2) [
+    | inl w ↦
+        let c = one_cut fs ks null n P f f' a ts one.0.0 one.0.1 one.1 in
+        same_sunk _ (seq P Q) (f & g) (f & g) ts m (λ e. (c.0, e)) (λ e k r h. h) (λ k y q h. (y, q, h)) (sunk_later (P.spelt c.0) Q f g one.0.0 ts one.0.1 m c.1 c.2 c.3 c.4 (b.sunk one.0.1 m w))
+    | inr w ↦ absurd cc
+  ]
+]
+
 seq_begun : {D E A B : Type 0} (fs ks fs' ks' : List ℕ) (null null' : Bool) (n : ℕ) (P : Part D A) (Q : Part E B) (f f' : Reader A) (g g' : Reader B)
     → Reads fs null ks n P f f' → Reads fs' null' ks' n Q g g' → (ts : List LineToken) (m : ℕ) → (f & g) ts ≡ Err (unexpected m) → Begun (seq P Q) ts m
 seq_begun fs ks fs' ks' null null' n P Q f f' g g' a b ts m h = elim (bind_err (f ts) (λ x. g x.1 >>= λ y. Ok ((x.0, y.0), y.1)) (unexpected m) h) [
@@ -170,5 +256,7 @@ seq_reads fs ks fs' ks' null null' n P Q f f' g g' apart a b = record {
       seq_starts null null' fs fs' ts m.0 r (a.starts d.0 ts m.0 (omega (arith, few)) m.1) (b.starts d.1 m.0 r (omega (arith, few)) m.2);
   free = λ d few. then_free (P.spelt d.0) (Q.spelt d.1) (a.free d.0 (omega (arith, few))) (b.free d.1 (omega (arith, few)));
   some = default_both P.spelt Q.spelt a.some b.some;
+  self = then_stable f f (λ x ts. g ts >>= λ y. Ok ((x, y.0), y.1)) (λ x ts. g ts >>= λ y. Ok ((x, y.0), y.1)) a.self (λ x. then_stable g g (λ y ts. Ok ((x, y), ts)) (λ y ts. Ok ((x, y), ts)) b.self (λ y. ok_stable (x, y)));
+  sunk = seq_sunk fs ks fs' ks' null null' n P Q f f' g g' a b;
   stable = then_stable f f' (λ x ts. g ts >>= λ y. Ok ((x, y.0), y.1)) (λ x ts. g' ts >>= λ y. Ok ((x, y.0), y.1)) a.stable (λ x. then_stable g g' (λ y ts. Ok ((x, y), ts)) (λ y ts. Ok ((x, y), ts)) b.stable (λ y. ok_stable (x, y)));
 }

@@ -1,4 +1,5 @@
 -- Statements, blocks and ifs, and what stands inside them.
+use Rattle.module_semantics.specs.Readers.{unexpected}
 use Rattle.std.proofs.Common.{◌≡◌, ℕ, zero, suc, ◌+◌, ◌≤◌, max, List, [], ◌∷◌, ◌++◌, map, true, false, ◌⊎◌, inl, inr, Some, refl, sym, ap, ◌∙◌, subst, arith, codes}
 use Rattle.module_semantics.specs.Token.{Token, name, punct, LineToken}
 use Rattle.module_semantics.specs.Kinds.{DATA, DOT, EQUALS, IF, ELSE, THROW, IMPORT, OPEN, CLOSE, OPEN_BRACE, CLOSE_BRACE, within, kind, word_kind, found_word}
@@ -17,10 +18,10 @@ use Rattle.module_semantics.proofs.Leaves.{one_is}
 use Rattle.module_semantics.proofs.Sequences.{seq, seq_reads}
 use Rattle.module_semantics.proofs.Choices.{As, as_reads, alt, choice_reads, seen, mapped_reads, nothing_part, given_reads, after, after_reads, before, before_reads}
 use Rattle.module_semantics.proofs.Lists.{list_part, many_reads}
-use Rattle.module_semantics.proofs.Ends.{end_part, end_reads, Refuses, taken_refuses, then_refuses, mapped_refuses, deep_refuses, deep_reads}
-use Rattle.module_semantics.proofs.Marks.{mark_part, if_mark, else_mark, open_mark, close_mark, open_brace_mark, close_brace_mark}
+use Rattle.module_semantics.proofs.Ends.{end_part, end_reads, Refuses, taken_refuses, then_refuses, mapped_refuses, deep_refuses, deep_reads, Starter}
+use Rattle.module_semantics.proofs.Marks.{mark_part, if_mark, else_mark, open_mark, close_mark, open_brace_mark, close_brace_mark, on_line, mark_spells}
 use Rattle.module_semantics.proofs.Expressions.{ExprReads, expr_part, expr_follow, expr_reads, zero_token, expr_default, same_after}
-use Rattle.module_semantics.proofs.Laters.{Later, expr_later}
+use Rattle.module_semantics.proofs.Laters.{Later, expr_later, Bottom, expr_bottom}
 use Rattle.module_semantics.proofs.Thrown.{throw_part, throw_reads}
 use Rattle.module_semantics.proofs.Acts.{first_changes, one_weaker, placed, NameWay, name_act_part, name_act_reads, act_of, act_spells, act_value, act_same_depth, ActWay, act_way, ImportWay, import_part, import_reads}
 
@@ -53,7 +54,8 @@ stmts_part = record { spelt = stmts_spelt; value = stmts_raw; depth = stmts_dept
 -- what is known of the readers of what stands inside
 pub record InnerReads (n : ℕ) (i i' : Inner) : Type 0 where
   pub expr : ExprReads n i.expr i'.expr
-  pub later : Later expr_firsts i.expr
+  pub later : Later unexpected expr_firsts i.expr
+  pub bottom : Bottom i.expr
   pub block : Reads (OPEN_BRACE ∷ []) false [] n block_part i.block i'.block
   pub else_if : Reads (IF ∷ []) false (ELSE ∷ []) n else_if_part i.else_if i'.else_if
 
@@ -207,7 +209,7 @@ stmt_as n = record { to = to_stmt; spells = stmt_spells; from = stmt_from; value
 pub stmt_reads : (n : ℕ) (i i' : Inner) → InnerReads n i i' → Reads stmt_firsts false stmt_follow n stmt_part (stmt i) (stmt i')
 unfolding stmt disjoint subset within
 stmt_reads n i i' a =
-    as_reads _ _ (stmt_firsts) (stmt_follow) _ n n stmt_parts stmt_part _ _ refl refl (stmt_as n) (choice_reads (IF ∷ []) _ _ _ _ _ n _ _ _ _ _ _ refl refl (if_reads n i i' a) (choice_reads (THROW ∷ []) _ _ _ _ _ n _ _ _ _ _ _ refl refl (before_reads _ _ _ _ _ _ n _ _ _ _ _ _ refl refl (mapped_reads _ _ _ n _ _ _ (raw.throw) (throw_reads n i.expr i'.expr a.expr a.later)) (end_reads n)) (choice_reads (IMPORT ∷ []) _ _ _ _ _ n _ _ _ _ _ _ refl refl (before_reads _ _ _ _ _ _ n _ _ _ _ _ _ refl refl (import_reads n i.expr i'.expr a.expr) (end_reads n)) (before_reads _ _ _ _ _ _ n _ _ _ _ _ _ refl refl (name_act_reads n i.expr i'.expr a.expr) (end_reads n)))))
+    as_reads _ _ (stmt_firsts) (stmt_follow) _ n n stmt_parts stmt_part _ _ refl refl (stmt_as n) (choice_reads (IF ∷ []) _ _ _ _ _ n _ _ _ _ _ _ refl refl (if_reads n i i' a) (choice_reads (THROW ∷ []) _ _ _ _ _ n _ _ _ _ _ _ refl refl (before_reads _ _ _ _ _ _ n _ _ _ _ _ _ refl refl (mapped_reads _ _ _ n _ _ _ (raw.throw) (throw_reads n i.expr i'.expr a.expr a.later a.bottom)) (end_reads n)) (choice_reads (IMPORT ∷ []) _ _ _ _ _ n _ _ _ _ _ _ refl refl (before_reads _ _ _ _ _ _ n _ _ _ _ _ _ refl refl (import_reads n i.expr i'.expr a.expr) (end_reads n)) (before_reads _ _ _ _ _ _ n _ _ _ _ _ _ refl refl (name_act_reads n i.expr i'.expr a.expr) (end_reads n)))))
 
 -- statements, as a list of their own
 abbrev all_stmts : List StmtD → StmtsD
@@ -271,51 +273,53 @@ else_if_reads n i i' a =
     (record { to = λ d. d; spells = λ d ts r h. h; from = λ d ts r h. (d, refl, h); value = λ d. refl; deeper = λ d h. omega (arith, h); lower = λ d h. omega (arith, h) })
     (if_reads n i i' a)
 
--- a mark that begins a line
-abbrev on_line : Token → LineToken
-on_line t = record { token = t; at = 0; later = true }
-
-mark_spells : (k : ℕ) (t : Token) (s : List LineToken) → within (k ∷ []) (kind t) ≡ true → spell.mark k (on_line t ∷ s) ≡ Some s
-mark_spells k t s h = one_is (k ∷ []) spell.any_token (on_line t) s h refl
-
-braces_spell : (s : List LineToken) → block_spelt (grammar.block grammar.StmtsD.none) (on_line (punct 0) ∷ (on_line (punct 1) ∷ s)) ≡ Some s
+braces_spell : (t : LineToken) (s : List LineToken) → within (OPEN_BRACE ∷ []) (kind t.token) ≡ true → block_spelt (grammar.block grammar.StmtsD.none) (t ∷ (on_line (punct 1) ∷ s)) ≡ Some s
 unfolding within
-braces_spell s =
-    bound_some (spell.mark OPEN_BRACE (on_line (punct 0) ∷ (on_line (punct 1) ∷ s))) (grammar.nothing ▸ spell.mark CLOSE_BRACE) (on_line (punct 1) ∷ s) (Some s) (mark_spells OPEN_BRACE (punct 0) (on_line (punct 1) ∷ s) refl)
-    (mark_spells CLOSE_BRACE (punct 1) s refl)
+braces_spell t s is = bound_some (spell.mark OPEN_BRACE (t ∷ (on_line (punct 1) ∷ s))) (grammar.nothing ▸ spell.mark CLOSE_BRACE) (on_line (punct 1) ∷ s) (Some s) (mark_spells OPEN_BRACE t (on_line (punct 1) ∷ s) is) (mark_spells CLOSE_BRACE (on_line (punct 1)) s refl)
+
+block_starter : Starter (OPEN_BRACE ∷ []) block_spelt
+unfolding within
+block_starter t is = (grammar.block grammar.StmtsD.none, on_line (punct 1) ∷ [], (refl, refl), λ s fresh. braces_spell t s is)
 
 block_default : Default block_spelt
 unfolding within
-block_default = record { by = grammar.block grammar.StmtsD.none; text = on_line (punct 0) ∷ (on_line (punct 1) ∷ []); fresh = (refl, refl); spells = λ s fresh. braces_spell s }
+block_default = record { by = grammar.block grammar.StmtsD.none; text = on_line (punct 0) ∷ (on_line (punct 1) ∷ []); fresh = (refl, refl); spells = λ s fresh. braces_spell (on_line (punct 0)) s refl }
 
-if_spell : (s : List LineToken) → if_spelt (grammar.if_then expr_default.by (grammar.block grammar.StmtsD.none) grammar.no_else) (on_line (name (codes "if")) ∷ (on_line (punct 2) ∷ (zero_token ∷ (on_line (punct 3) ∷ (on_line (punct 0) ∷ (on_line (punct 1) ∷ s)))))) ≡ Some s
-unfolding within word_kind found_word
-if_spell s =
+if_spell : (t : LineToken) (s : List LineToken) → within (IF ∷ []) (kind t.token) ≡ true → if_spelt (grammar.if_then expr_default.by (grammar.block grammar.StmtsD.none) grammar.no_else) (t ∷ (on_line (punct 2) ∷ (zero_token ∷ (on_line (punct 3) ∷ (on_line (punct 0) ∷ (on_line (punct 1) ∷ s)))))) ≡ Some s
+unfolding within
+if_spell t s is =
     let after_expr : List LineToken = on_line (punct 3) ∷ (on_line (punct 0) ∷ (on_line (punct 1) ∷ s)) in
     let from_expr : List LineToken = zero_token ∷ after_expr in
     let rest = block_spelt (grammar.block grammar.StmtsD.none) ▸ grammar.nothing in
-    bound_some (spell.mark IF (on_line (name (codes "if")) ∷ (on_line (punct 2) ∷ from_expr))) (spell.mark OPEN ▸ expr_spelt expr_default.by ▸ spell.mark CLOSE ▸ rest) (on_line (punct 2) ∷ from_expr) (Some s) (mark_spells IF (name (codes "if")) (on_line (punct 2) ∷ from_expr) refl)
-    (bound_some (spell.mark OPEN (on_line (punct 2) ∷ from_expr)) (expr_spelt expr_default.by ▸ spell.mark CLOSE ▸ rest) from_expr (Some s) (mark_spells OPEN (punct 2) from_expr refl)
+    bound_some (spell.mark IF (t ∷ (on_line (punct 2) ∷ from_expr))) (spell.mark OPEN ▸ expr_spelt expr_default.by ▸ spell.mark CLOSE ▸ rest) (on_line (punct 2) ∷ from_expr) (Some s) (mark_spells IF t (on_line (punct 2) ∷ from_expr) is)
+    (bound_some (spell.mark OPEN (on_line (punct 2) ∷ from_expr)) (expr_spelt expr_default.by ▸ spell.mark CLOSE ▸ rest) from_expr (Some s) (mark_spells OPEN (on_line (punct 2)) from_expr refl)
     (bound_some (expr_spelt expr_default.by from_expr) (spell.mark CLOSE ▸ rest) after_expr (Some s) (expr_default.spells after_expr (refl, refl))
-    (bound_some (spell.mark CLOSE after_expr) rest (on_line (punct 0) ∷ (on_line (punct 1) ∷ s)) (Some s) (mark_spells CLOSE (punct 3) (on_line (punct 0) ∷ (on_line (punct 1) ∷ s)) refl)
-    (bound_some (block_spelt (grammar.block grammar.StmtsD.none) (on_line (punct 0) ∷ (on_line (punct 1) ∷ s))) grammar.nothing s (Some s) (braces_spell s) refl))))
+    (bound_some (spell.mark CLOSE after_expr) rest (on_line (punct 0) ∷ (on_line (punct 1) ∷ s)) (Some s) (mark_spells CLOSE (on_line (punct 3)) (on_line (punct 0) ∷ (on_line (punct 1) ∷ s)) refl)
+    (bound_some (block_spelt (grammar.block grammar.StmtsD.none) (on_line (punct 0) ∷ (on_line (punct 1) ∷ s))) grammar.nothing s (Some s) (braces_spell (on_line (punct 0)) s refl) refl))))
+
+abbrev if_tail : List LineToken
+if_tail = on_line (punct 2) ∷ (zero_token ∷ (on_line (punct 3) ∷ (on_line (punct 0) ∷ (on_line (punct 1) ∷ []))))
+
+if_starter : Starter (IF ∷ []) if_spelt
+unfolding within
+if_starter t is = (grammar.if_then expr_default.by (grammar.block grammar.StmtsD.none) grammar.no_else, if_tail, (refl, refl), λ s fresh. if_spell t s is)
 
 if_default : Default if_spelt
 unfolding within word_kind found_word
-if_default = record {
-  by = grammar.if_then expr_default.by (grammar.block grammar.StmtsD.none) grammar.no_else;
-  text = on_line (name (codes "if")) ∷ (on_line (punct 2) ∷ (zero_token ∷ (on_line (punct 3) ∷ (on_line (punct 0) ∷ (on_line (punct 1) ∷ [])))));
-  fresh = (refl, refl);
-  spells = λ s fresh. if_spell s;
-}
+if_default = record { by = grammar.if_then expr_default.by (grammar.block grammar.StmtsD.none) grammar.no_else; text = on_line (name (codes "if")) ∷ if_tail; fresh = (refl, refl); spells = λ s fresh. if_spell (on_line (name (codes "if"))) s refl }
 
 block_deep : (d : BlockD) → 1 ≤ block_depth d
 block_deep (grammar.block s) = omega arith
 
-inner_later : (n : ℕ) → Later expr_firsts (inner n).expr
+inner_later : (n : ℕ) → Later unexpected expr_firsts (inner n).expr
 unfolding inner
 inner_later zero = expr_later zero
 inner_later (suc n) = expr_later (suc n)
+
+inner_bottom : (n : ℕ) → Bottom (inner n).expr
+unfolding inner
+inner_bottom zero = expr_bottom zero
+inner_bottom (suc n) = expr_bottom (suc n)
 
 block_refuses : (n : ℕ) → Refuses (OPEN_BRACE ∷ []) (inner n).block
 unfolding inner braces
@@ -340,8 +344,9 @@ unfolding inner
 inner_zero more = record {
   expr = inner_exprs more zero more (omega arith);
   later = inner_later zero;
-  block = deep_reads (OPEN_BRACE ∷ []) block_part (inner more).block block_deep block_default (block_refuses more) [];
-  else_if = deep_reads (IF ∷ []) else_if_part (inner more).else_if (λ d. omega arith) if_default (else_if_refuses more) (ELSE ∷ []);
+  bottom = inner_bottom zero;
+  block = deep_reads (OPEN_BRACE ∷ []) block_part (inner more).block block_deep block_default block_starter (block_refuses more) [];
+  else_if = deep_reads (IF ∷ []) else_if_part (inner more).else_if (λ d. omega arith) if_default if_starter (else_if_refuses more) (ELSE ∷ []);
 }
 
 inner_suc : (gap less more : ℕ) → suc more ≡ gap + suc less → InnerReads less (inner less) (inner more) → InnerReads (suc less) (inner (suc less)) (inner (suc more))
@@ -349,6 +354,7 @@ unfolding inner
 inner_suc gap less more h a = record {
   expr = inner_exprs gap (suc less) (suc more) h;
   later = inner_later (suc less);
+  bottom = inner_bottom (suc less);
   block = block_reads less (inner less) (inner more) a;
   else_if = else_if_reads less (inner less) (inner more) a;
 }

@@ -1,9 +1,9 @@
 -- Steps of readers and of spellings, taken apart.
-use Rattle.std.proofs.Common.{◌≡◌, ℕ, suc, ◌≤◌, List, [], ◌∷◌, ◌++◌, length, Bool, true, false, cond, ◌⊎◌, inl, inr, Option, Some, None, Result, Ok, Err, refl, ap, arith}
+use Rattle.std.proofs.Common.{◌≡◌, ℕ, suc, ◌≤◌, List, [], ◌∷◌, ◌++◌, length, Bool, true, false, cond, ◌⊎◌, inl, inr, Option, Some, None, Result, Ok, Err, refl, ap, arith, ◌+◌}
 use Rattle.std.proofs.lemmas.List.{length-append}
 use Rattle.module_semantics.specs.Steps.{◌>>=◌}
 use Rattle.module_semantics.specs.Token.{LineToken}
-use Rattle.module_semantics.specs.Readers.{GrammarFault, unexpected}
+use Rattle.module_semantics.specs.Readers.{GrammarFault, unexpected, too_deep}
 use Rattle.module_semantics.specs.Spelling.{Spell, ◌>>◌}
 
 pub ok_parts : {A : Type 0} (x y : A) (ts r : List LineToken) → ◌≡◌ {A = Result (A × List LineToken) GrammarFault} (Ok (x, ts)) (Ok (y, r)) → (ts ≡ r) × (x ≡ y)
@@ -71,3 +71,17 @@ grown a r s h = omega (arith, h, length-append a r, length-append a s)
 
 pub split_length : (ts b r : List LineToken) → ts ≡ b ++ r → length r ≤ length ts
 split_length ts b r h = omega (arith, ap length h, length-append b r)
+
+-- two splits with as many tokens left are one
+pub same_split : (b r b' r' : List LineToken) → b ++ r ≡ b' ++ r' → length r ≡ length r' → (b ≡ b') × (r ≡ r')
+same_split [] r [] r' h len = (refl, h)
+same_split [] r (t ∷ b') r' h len = absurd (omega (arith, len, ap length h, length-append b' r'))
+same_split (t ∷ b) r [] r' h len = absurd (omega (arith, len, ap length h, length-append b r))
+same_split (t ∷ b) r (u ∷ b') r' h len =
+    let first : t ≡ u = cc in
+    let rest : b ++ r ≡ b' ++ r' = cc in
+    let w = same_split b r b' r' rest len in
+    (rw (first, w.0) refl, w.1)
+
+pub too_deep_at : {n m : ℕ} → ◌≡◌ {A = GrammarFault} (too_deep n) (too_deep m) → n ≡ m
+too_deep_at h = cc

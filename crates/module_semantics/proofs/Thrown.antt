@@ -1,10 +1,11 @@
 -- What is thrown: the one choice by two tokens. Both ways take the first of the two, so no fault at it hangs on the second.
-use Rattle.std.proofs.Common.{◌≡◌, ℕ, ◌≤◌, List, [], ◌∷◌, ◌++◌, length, Bool, true, false, cond, ◌&&◌, ◌⊎◌, inl, inr, Some, None, Result, Ok, Err, refl, sym, ap, ◌∙◌, arith}
+use Rattle.module_semantics.specs.Steps.{◌>>=◌}
+use Rattle.std.proofs.Common.{◌≡◌, ℕ, ◌≤◌, List, [], ◌∷◌, ◌++◌, length, Bool, true, false, cond, ◌&&◌, ◌⊎◌, inl, inr, Some, None, Result, Ok, Err, refl, sym, ap, ◌∙◌, arith, suc, zero}
 use Rattle.std.proofs.lemmas.List.{length-append}
 use Rattle.module_semantics.specs.Token.{LineToken}
 use Rattle.module_semantics.specs.Kinds.{NEW, ERROR, OPEN, CLOSE, THROW, SEMICOLON, within, kind}
 use Rattle.module_semantics.specs.Raw.{RawExpr}
-use Rattle.module_semantics.specs.Readers.{GrammarFault, unexpected, Reader, next_in, next_two, mark, ◌▷◌, ◌◁◌}
+use Rattle.module_semantics.specs.Readers.{GrammarFault, unexpected, Reader, next_in, next_two, mark, ◌▷◌, ◌◁◌, too_deep, ◌&◌, mapped}
 use Rattle.module_semantics.specs.Reading as reading
 use Rattle.module_semantics.specs.Reading.{expr_firsts}
 use Rattle.module_semantics.specs.Spelling as spell
@@ -12,17 +13,17 @@ use Rattle.module_semantics.specs.Spelling.{Spell, ◌>>◌, ◌▸◌}
 use Rattle.module_semantics.specs.Grammar as grammar
 use Rattle.module_semantics.specs.Grammar.{ExprD, ThrowD, expr_spelt, expr_raw, expr_depth, throw_spelt, throw_raw, throw_depth, not_error}
 use Rattle.module_semantics.proofs.PiecesLex.{both}
-use Rattle.module_semantics.proofs.Steps.{went, if_true, if_false, bind_some, bound_some, next}
+use Rattle.module_semantics.proofs.Steps.{went, if_true, if_false, bind_some, bound_some, next, bind_ok}
 use Rattle.module_semantics.proofs.KindLists.{disjoint, subset, within_neither, next_more, next_in_looks}
-use Rattle.module_semantics.proofs.Parts.{shorter, Fresh, Near, fresh_more, Free, Stable, Part, Begun, Default, Reads}
+use Rattle.module_semantics.proofs.Parts.{shorter, Fresh, Near, fresh_more, Free, Stable, Part, Begun, Default, Reads, Sunk}
 use Rattle.module_semantics.proofs.Leaves.{one_ok, one_is, one_next, one_free, taken_is}
 use Rattle.module_semantics.proofs.Sequences.{then_free}
-use Rattle.module_semantics.proofs.Choices.{as_reads, after, after_reads, before, before_reads}
+use Rattle.module_semantics.proofs.Choices.{as_reads, after, after_reads, before, before_reads, first_way, second_way}
 use Rattle.module_semantics.proofs.Lists.{turn_takes}
 use Rattle.module_semantics.proofs.Ends.{chose, next_fewer}
 use Rattle.module_semantics.proofs.Marks.{mark_part, open_mark, close_mark, throw_mark}
 use Rattle.module_semantics.proofs.Expressions.{ExprReads, expr_part, expr_follow, expr_default}
-use Rattle.module_semantics.proofs.Laters.{Later}
+use Rattle.module_semantics.proofs.Laters.{Later, Bottom}
 
 -- an expression in parentheses, after `new Error`
 abbrev parens : Reader RawExpr → Reader RawExpr
@@ -226,40 +227,117 @@ form_free n e e' a p (inr d) few ts r h =
     let some : 1 ≤ length v.0 = omega (arith, shorter _ _ n expr_part e e' a d ts r few w.1, ap length v.1, length-append v.0 r) in
     (v.0, v.1, λ s near. if_false (next_two NEW ERROR (v.0 ++ s)) _ _ _ (same_choice v.0 r s near some (sym (ap (next_two NEW ERROR) v.1) ∙ w.0)) (v.2 s near))
 
-at_first : (e : Reader RawExpr) → Later expr_firsts e → (ts : List LineToken) (m : ℕ) (b : Bool) → next_in expr_firsts ts ≡ b → e ts ≡ Err (unexpected m) → length ts ≡ m → next_in (NEW ∷ []) ts ≡ false
+at_first : (e : Reader RawExpr) → Later unexpected expr_firsts e → (ts : List LineToken) (m : ℕ) (b : Bool) → next_in expr_firsts ts ≡ b → e ts ≡ Err (unexpected m) → length ts ≡ m → next_in (NEW ∷ []) ts ≡ false
 at_first e later ts m true is h left = absurd (omega (arith, later ts m is h, left))
 at_first e later ts m false is h left = next_fewer (NEW ∷ []) expr_firsts ts (next_in (NEW ∷ []) ts) refl new_first is
 
 -- before a rest that begins alike, at the place of a fault
-stays : (e : Reader RawExpr) → Later expr_firsts e → (ts : List LineToken) (m : ℕ) → next_two NEW ERROR ts ≡ false → e ts ≡ Err (unexpected m) → (b r s : List LineToken) → ts ≡ b ++ r → length r ≡ m → next s ≡ next r → next_two NEW ERROR (b ++ s) ≡ false
+stays : (e : Reader RawExpr) → Later unexpected expr_firsts e → (ts : List LineToken) (m : ℕ) → next_two NEW ERROR ts ≡ false → e ts ≡ Err (unexpected m) → (b r s : List LineToken) → ts ≡ b ++ r → length r ≡ m → next s ≡ next r → next_two NEW ERROR (b ++ s) ≡ false
 stays e later ts m no_two h [] r s split left same = two_apart s (next_in_looks (NEW ∷ []) s r same ∙ ap (next_in (NEW ∷ [])) (sym split) ∙ at_first e later ts m (next_in expr_firsts ts) refl h (ap length split ∙ left))
 stays e later ts m no_two h (t ∷ b) r s split left same = same_choice (t ∷ b) r s (inl same) (omega arith) (sym (ap (next_two NEW ERROR) split) ∙ no_two)
 
-form_stable : (n : ℕ) (e e' : Reader RawExpr) → ExprReads n e e' → ParensReads n e e' → Later expr_firsts e → Stable (form e) (form e')
-form_stable n e e' a p later = record {
+form_stands : (n : ℕ) (e e' u : Reader RawExpr) → ExprReads n e e' → Stable e u → Stable (parens e) (parens u) → Later unexpected expr_firsts e → Stable (form e) (form u)
+form_stands n e e' u a st pst later = record {
   reads = λ ts x r h. elim (went (next_two NEW ERROR ts) (error_form e ts) (e ts) (Ok (x, r)) h) [
     | inl w ↦
         let two = two_ok ts w.0 in
-        let k = p.stable.reads two.rest x r (error_read e ts (Ok (x, r)) two w.1) in
-        (two.t ∷ (two.u ∷ k.0), two.is ∙ ap (λ v. two.t ∷ (two.u ∷ v)) k.1, λ s same. error_reads e' two.t two.u (k.0 ++ s) (Ok (x, s)) two.new two.error (k.2 s same))
+        let k = pst.reads two.rest x r (error_read e ts (Ok (x, r)) two w.1) in
+        (two.t ∷ (two.u ∷ k.0), two.is ∙ ap (λ v. two.t ∷ (two.u ∷ v)) k.1, λ s same. error_reads u two.t two.u (k.0 ++ s) (Ok (x, s)) two.new two.error (k.2 s same))
     | inr w ↦
-        let k = a.stable.reads ts x r w.1 in
+        let k = st.reads ts x r w.1 in
         let some : 1 ≤ length k.0 = omega (arith, turn_takes _ _ n expr_part e e' a ts x r w.1, ap length k.1, length-append k.0 r) in
         (k.0, k.1, λ s same. if_false (next_two NEW ERROR (k.0 ++ s)) _ _ _ (same_choice k.0 r s (inl same) some (sym (ap (next_two NEW ERROR) k.1) ∙ w.0)) (k.2 s same))
   ];
   faults = λ ts m h. elim (went (next_two NEW ERROR ts) (error_form e ts) (e ts) (Err (unexpected m)) h) [
     | inl w ↦
         let two = two_ok ts w.0 in
-        let k = p.stable.faults two.rest m (error_read e ts (Err (unexpected m)) two w.1) in
-        (two.t ∷ (two.u ∷ k.0), k.1, two.is ∙ ap (λ v. two.t ∷ (two.u ∷ v)) k.2, k.3, λ s same. error_reads e' two.t two.u (k.0 ++ s) (Err (unexpected (length s))) two.new two.error (k.4 s same))
+        let k = pst.faults two.rest m (error_read e ts (Err (unexpected m)) two w.1) in
+        (two.t ∷ (two.u ∷ k.0), k.1, two.is ∙ ap (λ v. two.t ∷ (two.u ∷ v)) k.2, k.3, λ s same. error_reads u two.t two.u (k.0 ++ s) (Err (unexpected (length s))) two.new two.error (k.4 s same))
     | inr w ↦
-        let k = a.stable.faults ts m w.1 in
+        let k = st.faults ts m w.1 in
         (k.0, k.1, k.2, k.3, λ s same. if_false (next_two NEW ERROR (k.0 ++ s)) _ _ _ (stays e later ts m w.0 w.1 k.0 k.1 s k.2 k.3 same) (k.4 s same))
   ];
 }
 
-form_reads : (n : ℕ) (e e' : Reader RawExpr) → ExprReads n e e' → Later expr_firsts e → Reads expr_firsts false expr_follow n form_part (form e) (form e')
-form_reads n e e' a later =
+form_stable : (n : ℕ) (e e' : Reader RawExpr) → ExprReads n e e' → ParensReads n e e' → Later unexpected expr_firsts e → Stable (form e) (form e')
+form_stable n e e' a p later = form_stands n e e' e' a a.stable p.stable later
+
+form_self : (n : ℕ) (e e' : Reader RawExpr) → ExprReads n e e' → ParensReads n e e' → Later unexpected expr_firsts e → Stable (form e) (form e)
+form_self n e e' a p later = form_stands n e e' e a a.self p.self later
+
+error_sunk : (e : Reader RawExpr) (ts : List LineToken) (m : ℕ) (w : Two ts) → Sunk parens_part (parens e) w.rest m → Sunk form_part (form e) ts m
+error_sunk e ts m w d = record {
+  before = w.t ∷ (w.u ∷ d.before);
+  at = d.at;
+  rest = d.rest;
+  more = d.more;
+  by = inl d.by;
+  split = w.is ∙ ap (λ v. w.t ∷ (w.u ∷ v)) d.split;
+  left = d.left;
+  fresh = d.fresh;
+  spells = λ s fresh. error_spells d.by w.t w.u (d.before ++ (d.at ∷ (d.more ++ s))) s w.new w.error (d.spells s fresh);
+  never = λ s x q h.
+      let tail : List LineToken = d.before ++ (d.at ∷ s) in
+      let inner = first_way (next_two NEW ERROR (w.t ∷ (w.u ∷ tail))) _ _ (Ok (x, q)) (two_is w.t w.u tail w.new w.error) h in
+      d.never s x q (error_read e (w.t ∷ (w.u ∷ tail)) (Ok (x, q)) (record { t = w.t; u = w.u; rest = tail; is = refl; new = w.new; error = w.error }) inner);
+}
+
+-- the next two tokens stay the same, where one of them is the token at the place or stands before it
+two_stays : (t : LineToken) (b : List LineToken) (at : LineToken) (r s : List LineToken) → next_two NEW ERROR ((t ∷ b) ++ (at ∷ r)) ≡ false → next_two NEW ERROR ((t ∷ b) ++ (at ∷ s)) ≡ false
+two_stays t [] at r s h = two_far t at s r ∙ h
+two_stays t (u ∷ b) at r s h = two_far t u (b ++ (at ∷ s)) (b ++ (at ∷ r)) ∙ h
+
+error_needs : (e : Reader RawExpr) (ts : List LineToken) (x : RawExpr) (q : List LineToken) → parens e ts ≡ Ok (x, q) → (us : List LineToken) × (y : RawExpr) × (r : List LineToken) × (e us ≡ Ok (y, r))
+error_needs e ts x q h =
+    let a = bind_ok ((mark OPEN & (e ◁ mark CLOSE)) ts) (λ v. Ok (v.0.1, v.1)) (x, q) h in
+    let b = bind_ok (mark OPEN ts) (λ v. (e ◁ mark CLOSE) v.1 >>= λ y. Ok ((v.0, y.0), y.1)) a.0 a.1 in
+    let c = bind_ok ((e ◁ mark CLOSE) b.0.1) (λ y. Ok ((b.0.0, y.0), y.1)) a.0 b.2 in
+    let d = bind_ok ((e & mark CLOSE) b.0.1) (λ v. Ok (v.0.0, v.1)) c.0 c.1 in
+    let f = bind_ok (e b.0.1) (λ v. mark CLOSE v.1 >>= λ y. Ok ((v.0, y.0), y.1)) d.0 d.1 in
+    (b.0.1, f.0.0, f.0.1, f.1)
+
+-- where nothing is ever read by e, nothing is read by the form
+form_never : (e : Reader RawExpr) → ((us : List LineToken) (x : RawExpr) (q : List LineToken) → e us ≡ Ok (x, q) → ⊥) → (ts : List LineToken) (x : RawExpr) (q : List LineToken) → form e ts ≡ Ok (x, q) → ⊥
+form_never e none ts x q h = elim (went (next_two NEW ERROR ts) (error_form e ts) (e ts) (Ok (x, q)) h) [
+  | inl w ↦ let two = two_ok ts w.0 in let v = error_needs e two.rest x q (error_read e ts (Ok (x, q)) two w.1) in none v.0 v.1 v.2 v.3
+  | inr w ↦ none ts x q w.1
+]
+
+plain_sunk : (e : Reader RawExpr) → Bottom e → (ts : List LineToken) (m : ℕ) → next_two NEW ERROR ts ≡ false → e ts ≡ Err (too_deep m) → (b : List LineToken) (at : LineToken) (r more : List LineToken) (d : ExprD) → ts ≡ b ++ (at ∷ r) → suc (length r) ≡ m → Fresh more
+    → ((s : List LineToken) → Fresh s → expr_spelt d (b ++ (at ∷ (more ++ s))) ≡ Some s) → ((s : List LineToken) (x : RawExpr) (q : List LineToken) → e (b ++ (at ∷ s)) ≡ Ok (x, q) → ⊥) → Sunk form_part (form e) ts m
+plain_sunk e bottom ts m no_two h [] at r more d split left fresh spells never = record {
+  before = [];
+  at = at;
+  rest = r;
+  more = more;
+  by = inr d;
+  split = split;
+  left = left;
+  fresh = fresh;
+  spells = λ s fr. if_false (next_two NEW ERROR (at ∷ (more ++ s))) _ _ _ (two_ends at (more ++ s) (fresh_no_error (more ++ s) (fresh_more more s fresh fr))) (spells s fr);
+  never = λ s x q is. form_never e (bottom ts m h (ap length split ∙ left)) (at ∷ s) x q is;
+}
+plain_sunk e bottom ts m no_two h (t ∷ b) at r more d split left fresh spells never = record {
+  before = t ∷ b;
+  at = at;
+  rest = r;
+  more = more;
+  by = inr d;
+  split = split;
+  left = left;
+  fresh = fresh;
+  spells = λ s fr. if_false (next_two NEW ERROR ((t ∷ b) ++ (at ∷ (more ++ s)))) _ _ _ (two_stays t b at r (more ++ s) (sym (ap (next_two NEW ERROR) split) ∙ no_two)) (spells s fr);
+  never = λ s x q is. never s x q (second_way (next_two NEW ERROR ((t ∷ b) ++ (at ∷ s))) _ _ (Ok (x, q)) (two_stays t b at r s (sym (ap (next_two NEW ERROR) split) ∙ no_two)) is);
+}
+
+form_sunk : (n : ℕ) (e e' : Reader RawExpr) → ExprReads n e e' → ParensReads n e e' → Bottom e → (ts : List LineToken) (m : ℕ) → form e ts ≡ Err (too_deep m) → Sunk form_part (form e) ts m
+form_sunk n e e' a p bottom ts m h = elim (went (next_two NEW ERROR ts) (error_form e ts) (e ts) (Err (too_deep m)) h) [
+  | inl w ↦ let two = two_ok ts w.0 in error_sunk e ts m two (p.sunk two.rest m (error_read e ts (Err (too_deep m)) two w.1))
+  | inr w ↦ let d = a.sunk ts m w.1 in plain_sunk e bottom ts m w.0 w.1 d.before d.at d.rest d.more d.by d.split d.left d.fresh d.spells d.never
+]
+
+form_reads : (n : ℕ) (e e' : Reader RawExpr) → ExprReads n e e' → Later unexpected expr_firsts e → Bottom e → Reads expr_firsts false expr_follow n form_part (form e) (form e')
+form_reads n e e' a later bottom =
     let p = parens_reads n e e' a in
     record {
       whole = form_whole n e e' a p;
@@ -269,6 +347,8 @@ form_reads n e e' a later =
       free = form_free n e e' a p;
       some = plain_default;
       stable = form_stable n e e' a p later;
+      self = form_self n e e' a p later;
+      sunk = form_sunk n e e' a p bottom;
     }
 
 abbrev pub throw_part : Part ThrowD RawExpr
@@ -295,9 +375,9 @@ throw_same (inl e) = refl
 throw_same (inr e) = refl
 
 -- `throw` and what is thrown
-pub throw_reads : (n : ℕ) (e e' : Reader RawExpr) → ExprReads n e e' → Later expr_firsts e → Reads (THROW ∷ []) false expr_follow n throw_part (reading.thrown e) (reading.thrown e')
+pub throw_reads : (n : ℕ) (e e' : Reader RawExpr) → ExprReads n e e' → Later unexpected expr_firsts e → Bottom e → Reads (THROW ∷ []) false expr_follow n throw_part (reading.thrown e) (reading.thrown e')
 unfolding reading.thrown disjoint subset within
-throw_reads n e e' a later =
+throw_reads n e e' a later bottom =
     as_reads _ _ (THROW ∷ []) expr_follow _ n n (after (mark_part THROW) form_part) throw_part _ _ refl refl
     (record { to = to_throw; spells = throw_spells; from = throw_from; value = throw_value; deeper = λ d h. omega (arith, h, throw_same d); lower = λ d h. omega (arith, h, throw_same d) })
-    (after_reads _ _ _ _ _ _ n _ _ _ _ _ _ refl refl (throw_mark n) (form_reads n e e' a later))
+    (after_reads _ _ _ _ _ _ n _ _ _ _ _ _ refl refl (throw_mark n) (form_reads n e e' a later bottom))

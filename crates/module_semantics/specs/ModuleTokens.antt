@@ -1,5 +1,5 @@
 -- Which tokens are a module, and the first token at which others leave the grammar.
-use Rattle.std.specs.Prelude.{◌≡◌, ℕ, ◌≤◌, List, [], ◌∷◌, ◌++◌, length, Some}
+use Rattle.std.specs.Prelude.{◌≡◌, ℕ, ◌≤◌, List, [], ◌∷◌, ◌++◌, length, Some, suc, ◌<◌}
 use Rattle.module_semantics.specs.Token.{LineToken}
 use Rattle.module_semantics.specs.Raw.{RawItem}
 use Rattle.module_semantics.specs.Grammar.{ModuleD, module_spelt, module_raw, module_depth}
@@ -34,3 +34,13 @@ pub record FirstUnexpected (ts : List LineToken) (n : ℕ) : Type 0 where
   pub left : length after ≡ n
   pub begins : Continues before
   pub stops : Stops before after
+
+-- n tokens are left at a token up to which the tokens begin a module, but each module that begins so is deeper than this
+pub record TooDeepAt (most : ℕ) (ts : List LineToken) (n : ℕ) : Type 0 where
+  pub before : List LineToken
+  pub at : LineToken
+  pub after : List LineToken
+  pub split : ts ≡ before ++ (at ∷ after)
+  pub left : suc (length after) ≡ n
+  pub begins : Continues (before ++ (at ∷ []))
+  pub deep : (d : ModuleD) (more : List LineToken) → module_spelt d (before ++ (at ∷ more)) ≡ Some [] → most < module_depth d
