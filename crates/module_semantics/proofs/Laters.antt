@@ -11,7 +11,7 @@ use Rattle.module_semantics.specs.Reading as reading
 use Rattle.module_semantics.specs.Reading.{access, accessed, grouped, chosen, expr_firsts, expr_over}
 use Rattle.module_semantics.proofs.Steps.{bind_err, went, split_length}
 use Rattle.module_semantics.proofs.KindLists.{disjoint, subset, next_more, next_either}
-use Rattle.module_semantics.proofs.Parts.{Part, Begun, Reads}
+use Rattle.module_semantics.proofs.Parts.{Part, Reads}
 use Rattle.module_semantics.proofs.Leaves.{taken_ok, taken_err, taken_shallow}
 use Rattle.module_semantics.proofs.Sequences.{seq_reads}
 use Rattle.module_semantics.proofs.Choices.{choice_reads, mapped_reads, given_reads, after_reads, before_reads}

@@ -24,5 +24,6 @@ pub mod Sequences
 pub mod Statements
 pub mod Steps
 pub mod TextExamples
+pub mod TextFaultLaws
 pub mod Texts
 pub mod Thrown

@@ -1,5 +1,5 @@
 -- One part after another.
-use Rattle.std.proofs.Common.{◌≡◌, ℕ, ◌≤◌, max, List, [], ◌++◌, length, Bool, true, false, ◌&&◌, inl, inr, Some, Ok, Err, refl, sym, ap, ◌∙◌, subst, arith, Result, suc, ◌∷◌, cond}
+use Rattle.std.proofs.Common.{◌≡◌, ℕ, ◌≤◌, max, List, [], ◌++◌, length, Bool, true, false, ◌&&◌, inl, inr, Some, Ok, Err, refl, sym, ap, ◌∙◌, subst, arith, Result, ◌∷◌}
 use Rattle.std.proofs.lemmas.List.{append_assoc}
 use Rattle.module_semantics.specs.Steps.{◌>>=◌}
 use Rattle.module_semantics.specs.Token.{LineToken}
@@ -7,7 +7,7 @@ use Rattle.module_semantics.specs.Readers.{unexpected, Reader, next_in, ◌&◌,
 use Rattle.module_semantics.specs.Spelling.{Spell, ◌>>◌, ◌▸◌}
 use Rattle.module_semantics.proofs.Steps.{ok_parts, bind_ok, bind_err, bound, bound_err, bind_some, bound_some, next, next_after, same_split}
 use Rattle.module_semantics.proofs.KindLists.{disjoint, next_apart, next_left, next_right, next_neither}
-use Rattle.module_semantics.proofs.Parts.{Near, near_after, fresh_more, Free, Stable, Part, Begun, Default, Starts, Reads, Sunk, Fresh}
+use Rattle.module_semantics.proofs.Parts.{Near, near_after, fresh_more, Free, Stable, Part, Begun, Default, Starts, Reads, Sunk}
 
 abbrev pub firsts_of : Bool → List ℕ → List ℕ → List ℕ
 firsts_of true a b = a ++ b

@@ -1,7 +1,7 @@
 -- Statements, blocks and ifs, and what stands inside them.
 use Rattle.module_semantics.specs.Readers.{unexpected}
 use Rattle.std.proofs.Common.{◌≡◌, ℕ, zero, suc, ◌+◌, ◌≤◌, max, List, [], ◌∷◌, ◌++◌, map, true, false, ◌⊎◌, inl, inr, Some, refl, sym, ap, ◌∙◌, subst, arith, codes}
-use Rattle.module_semantics.specs.Token.{Token, name, punct, LineToken}
+use Rattle.module_semantics.specs.Token.{name, punct, LineToken}
 use Rattle.module_semantics.specs.Kinds.{DATA, DOT, EQUALS, IF, ELSE, THROW, IMPORT, OPEN, CLOSE, OPEN_BRACE, CLOSE_BRACE, within, kind, word_kind, found_word}
 use Rattle.module_semantics.specs.Raw as raw
 use Rattle.module_semantics.specs.Raw.{RawExpr, RawStmt, RawStmts, no_stmts, one_stmt, stmts_of}
@@ -14,7 +14,6 @@ use Rattle.module_semantics.specs.Grammar.{ExprD, ActD, ThrowD, InvalD, StmtD, S
 use Rattle.module_semantics.proofs.Steps.{bind_some, bound_some, regroup}
 use Rattle.module_semantics.proofs.KindLists.{disjoint, subset}
 use Rattle.module_semantics.proofs.Parts.{Part, Default, Reads}
-use Rattle.module_semantics.proofs.Leaves.{one_is}
 use Rattle.module_semantics.proofs.Sequences.{seq, seq_reads}
 use Rattle.module_semantics.proofs.Choices.{As, as_reads, alt, choice_reads, seen, mapped_reads, nothing_part, given_reads, after, after_reads, before, before_reads}
 use Rattle.module_semantics.proofs.Lists.{list_part, many_reads}

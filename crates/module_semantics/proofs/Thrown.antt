@@ -1,11 +1,11 @@
 -- What is thrown: the one choice by two tokens. Both ways take the first of the two, so no fault at it hangs on the second.
 use Rattle.module_semantics.specs.Steps.{◌>>=◌}
-use Rattle.std.proofs.Common.{◌≡◌, ℕ, ◌≤◌, List, [], ◌∷◌, ◌++◌, length, Bool, true, false, cond, ◌&&◌, ◌⊎◌, inl, inr, Some, None, Result, Ok, Err, refl, sym, ap, ◌∙◌, arith, suc, zero}
+use Rattle.std.proofs.Common.{◌≡◌, ℕ, ◌≤◌, List, [], ◌∷◌, ◌++◌, length, Bool, true, false, cond, ◌&&◌, ◌⊎◌, inl, inr, Some, None, Result, Ok, Err, refl, sym, ap, ◌∙◌, arith, suc}
 use Rattle.std.proofs.lemmas.List.{length-append}
 use Rattle.module_semantics.specs.Token.{LineToken}
 use Rattle.module_semantics.specs.Kinds.{NEW, ERROR, OPEN, CLOSE, THROW, SEMICOLON, within, kind}
 use Rattle.module_semantics.specs.Raw.{RawExpr}
-use Rattle.module_semantics.specs.Readers.{GrammarFault, unexpected, Reader, next_in, next_two, mark, ◌▷◌, ◌◁◌, too_deep, ◌&◌, mapped}
+use Rattle.module_semantics.specs.Readers.{GrammarFault, unexpected, Reader, next_in, next_two, mark, ◌▷◌, ◌◁◌, too_deep, ◌&◌}
 use Rattle.module_semantics.specs.Reading as reading
 use Rattle.module_semantics.specs.Reading.{expr_firsts}
 use Rattle.module_semantics.specs.Spelling as spell

@@ -15,4 +15,5 @@ pub mod Readers
 pub mod Resolving
 pub mod Spelling
 pub mod Steps
+pub mod TextFaults
 pub mod Token

@@ -27,5 +27,4 @@ pub fn the_unexpected_stands_first()
 pub fn the_too_deep_stands_first()
     ensures deep { (most : ℕ) (ts : List LineToken) (n : ℕ) → (reading most ts ≡ Err (too_deep n)) → TooDeepAt most ts n }
     ensures first { (most : ℕ) (ts : List LineToken) (n m : ℕ) → TooDeepAt most ts m → FirstUnexpected ts n → n < m }
-{
-}
+{}

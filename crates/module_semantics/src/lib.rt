@@ -12,7 +12,7 @@ mod text;
 mod tokens;
 
 pub use grammar::{reading_is_the_grammar, the_too_deep_stands_first, the_unexpected_stands_first};
-pub use text::parsing_is_reading;
+pub use text::{faults_stand_first, parsing_is_reading};
 pub use tokens::{
     After, LexFault, LexKind, faults_are_the_rules, lexing_is_the_pieces, none_is_longer,
 };
