@@ -12,6 +12,7 @@ use Rattle.hmr_types.specs.declared.tree.ImportName.{ImportName}
 abbrev pub escaped : ℕ → List ℕ
 escaped b = if b == 92 then codes "\\\\" else if b == 34 then codes "\\\"" else if b == 10 then codes "\\n" else if b == 9 then codes "\\t" else if b == 13 then codes "\\r" else b ∷ []
 
+-- the bytes of a text between its quotes
 abbrev pub all_escaped : List ℕ → List ℕ
 all_escaped [] = []
 all_escaped (b ∷ bs) = escaped b ++ all_escaped bs
@@ -25,16 +26,19 @@ abbrev pub comma_then : List (List ℕ) → List ℕ
 comma_then [] = []
 comma_then (p ∷ ps) = codes ", " ++ (p ++ comma_then ps)
 
+-- pieces with commas between them
 abbrev pub commas : List (List ℕ) → List ℕ
 commas [] = []
 commas (p ∷ ps) = p ++ comma_then ps
 
+-- the level of an operator
 abbrev pub op_level : Op → ℕ
 op_level ops.Null = 1
 op_level ops.Add = 2
 op_level ops.Sub = 2
 op_level ops.Mul = 3
 
+-- an operator with a space at each side
 abbrev pub op_text : Op → List ℕ
 op_text ops.Null = codes " ?? "
 op_text ops.Add = codes " + "
@@ -63,6 +67,7 @@ nth [] i = []
 nth (n ∷ ns) zero = n
 nth (n ∷ ns) (suc i) = nth ns i
 
+-- the dot before a key, safe or not
 abbrev pub dot_text : Bool → List ℕ
 dot_text true = codes "?."
 dot_text false = codes "."
@@ -79,6 +84,7 @@ expr_text ps (neg a) = codes "-" ++ placed 5 (level a) (expr_text ps a)
 expr_text ps (binary op a b) = placed (op_level op) (level a) (expr_text ps a) ++ (op_text op ++ placed (suc (op_level op)) (level b) (expr_text ps b))
 expr_text ps (choose c a b) = placed 1 (level c) (expr_text ps c) ++ (codes " ? " ++ (expr_text ps a ++ (codes " : " ++ expr_text ps b)))
 
+-- the condition of an if
 abbrev pub cond_text : List (List ℕ) → CondTree → List ℕ
 cond_text ps (param place) = nth ps place
 cond_text ps (value e) = expr_text ps e
@@ -88,6 +94,7 @@ abbrev pub indent : ℕ → List ℕ
 indent zero = []
 indent (suc n) = codes "  " ++ indent n
 
+-- what an invalidation tells
 abbrev pub told_text : List (List ℕ) → Option ExprTree → List ℕ
 told_text ps None = []
 told_text ps (Some e) = expr_text ps e
@@ -115,6 +122,7 @@ abbrev mutual
 abbrev pub callback_text : List ℕ → HandlerTree → List ℕ
 callback_text params h = params ++ (codes " => {\n" ++ (stmts_text h.params 1 h.body ++ codes "}"))
 
+-- a callback, with its parameters in parentheses
 abbrev pub handler_text : HandlerTree → List ℕ
 handler_text h = callback_text (codes "(" ++ (commas h.params ++ codes ")")) h
 
@@ -123,24 +131,30 @@ abbrev pub list_params : List (List ℕ) → List ℕ
 list_params [] = codes "()"
 list_params (p ∷ ps) = codes "([" ++ (commas (p ∷ ps) ++ codes "])")
 
+-- a callback of the list form
 abbrev pub list_handler_text : HandlerTree → List ℕ
 list_handler_text h = callback_text (list_params h.params) h
 
+-- a callback or a host closure
 abbrev pub once_text : OnceTree → List ℕ
 once_text (code h) = handler_text h
 once_text (host l) = codes "host(" ++ (quoted l ++ codes ")")
 
+-- one name of an import
 abbrev pub import_name_text : ImportName → List ℕ
 import_name_text i = if bytes_eq i.exported i.local then i.local else i.exported ++ (codes " as " ++ i.local)
 
+-- an import, with or without names
 abbrev pub import_text : List ℕ → List ImportName → List ℕ
 import_text s [] = codes "import " ++ (quoted s ++ codes ";\n")
 import_text s (i ∷ is) = codes "import { " ++ (commas (map import_name_text (i ∷ is)) ++ (codes " } from " ++ (quoted s ++ codes ";\n")))
 
+-- the word before an exported declaration
 abbrev pub export_text : Bool → List ℕ
 export_text true = codes "export "
 export_text false = []
 
+-- the word of a declaration
 abbrev pub declare_text : Bool → List ℕ
 declare_text true = codes "let "
 declare_text false = codes "const "
@@ -149,19 +163,23 @@ declare_text false = codes "const "
 abbrev pub call_text : List ℕ → List ℕ → List ℕ
 call_text word args = codes "import.meta.hot." ++ (word ++ (codes "(" ++ (args ++ codes ");\n")))
 
+-- what `accept` of the module itself takes
 abbrev pub own_text : Option OnceTree → List ℕ
 own_text None = []
 own_text (Some o) = once_text o
 
+-- one specifier, or a list of them
 abbrev pub specs_text : Bool → List (List ℕ) → List ℕ
 specs_text true ss = codes "[" ++ (commas (map quoted ss) ++ codes "]")
 specs_text false ss = commas (map quoted ss)
 
+-- the callback after the specifiers
 abbrev pub deps_handler_text : Bool → Option HandlerTree → List ℕ
 deps_handler_text list None = []
 deps_handler_text true (Some h) = codes ", " ++ list_handler_text h
 deps_handler_text false (Some h) = codes ", " ++ handler_text h
 
+-- an item
 abbrev pub item_text : ItemTree → List ℕ
 item_text (import s names) = import_text s names
 item_text (declare exported mutable n e) = export_text exported ++ (declare_text mutable ++ (n ++ (codes " = " ++ (expr_text [] e ++ codes ";\n"))))

@@ -1,204 +1,20 @@
 -- The grammar of a module text: derivations, with one constructor for each production. A derivation is spelled by tokens,
 -- says something of the module, and has a depth.
-use Rattle.std.specs.Prelude.{ℕ, suc, max, List, [], ◌∷◌, Bool, true, false, if◌then◌else◌, Option, Some, None, map}
+pub use Rattle.module_semantics.specs.ExprGrammar.{ExprD, NullD, NullRestD, SumD, SumRestD, ProdD, ProdRestD, UnaryD, PrimD, plain, choice, null, no_null, nullish, sum, no_sum, plus, minus, prod, no_prod, times, positive, negative, number, text, undefined, name, member, safe_member, bag, brackets, hot_spelt, nothing, not_error, expr_spelt, null_spelt, null_rest_spelt, sum_spelt, sum_rest_spelt, prod_spelt, prod_rest_spelt, unary_spelt, prim_spelt, expr_raw, null_raw, null_rest_raw, sum_raw, sum_rest_raw, prod_raw, prod_rest_raw, unary_raw, prim_raw, expr_depth, null_depth, null_rest_depth, sum_depth, sum_rest_depth, prod_depth, prod_rest_depth, unary_depth, prim_depth}
+use Rattle.std.specs.Prelude.{ℕ, suc, max, List, [], ◌∷◌, Bool, true, false, Option, Some, None, map}
 use Rattle.std.specs.Option.{option_map}
-use Rattle.hmr_types.specs.declared.tree.Op.TheVariants as ops
-use Rattle.module_semantics.specs.Kinds.{IMPORT, EXPORT, CONST, LET, IF, ELSE, THROW, UNDEFINED, CONSOLE, LOG, HOST, NEW, ERROR, FROM, AS, META, HOT, DATA, ACCEPT, DISPOSE, PRUNE, DECLINE, INVALIDATE, OPEN_BRACE, CLOSE_BRACE, OPEN, CLOSE, OPEN_BRACKET, CLOSE_BRACKET, COMMA, DOT, EQUALS, PLUS, MINUS, TIMES, QUESTION, COLON, ARROW, SAFE_DOT, NULLISH, NameAt}
+use Rattle.module_semantics.specs.Kinds.{IMPORT, EXPORT, CONST, LET, IF, ELSE, THROW, CONSOLE, LOG, HOST, NEW, ERROR, FROM, AS, META, HOT, DATA, ACCEPT, DISPOSE, PRUNE, DECLINE, INVALIDATE, OPEN_BRACE, CLOSE_BRACE, OPEN, CLOSE, OPEN_BRACKET, CLOSE_BRACKET, COMMA, DOT, EQUALS, ARROW, NameAt}
 use Rattle.module_semantics.specs.Raw as raw
 use Rattle.module_semantics.specs.Raw.{RawExpr, RawStmt, RawStmts, no_stmts, one_stmt, RawHandler, RawOnce, RawImport, RawItem}
-use Rattle.module_semantics.specs.Readers.{next_two}
 use Rattle.module_semantics.specs.Reading.{but_console, flat, one_or_none, all_of}
-use Rattle.module_semantics.specs.Spelling.{Spell, ◌▸◌, mark, name_of, free_name, key, text_token, number_token, mark_at, end, many, separated, Listed, listed, items_of, maybe}
-
-mutual
-  -- Expr = Null [ "?" Expr ":" Expr ]
-  pub data ExprD : Type 0 where
-    plain : NullD → ExprD
-    choice : NullD → ExprD → ExprD → ExprD
-
-  -- Null = Sum { "??" Sum }
-  pub data NullD : Type 0 where
-    null : SumD → NullRestD → NullD
-
-  pub data NullRestD : Type 0 where
-    no_null : NullRestD
-    nullish : SumD → NullRestD → NullRestD
-
-  -- Sum = Prod { ( "+" | "-" ) Prod }
-  pub data SumD : Type 0 where
-    sum : ProdD → SumRestD → SumD
-
-  pub data SumRestD : Type 0 where
-    no_sum : SumRestD
-    plus : ProdD → SumRestD → SumRestD
-    minus : ProdD → SumRestD → SumRestD
-
-  -- Prod = Unary { "*" Unary }
-  pub data ProdD : Type 0 where
-    prod : UnaryD → ProdRestD → ProdD
-
-  pub data ProdRestD : Type 0 where
-    no_prod : ProdRestD
-    times : UnaryD → ProdRestD → ProdRestD
-
-  -- Unary = [ "-" ] Prim
-  pub data UnaryD : Type 0 where
-    positive : PrimD → UnaryD
-    negative : PrimD → UnaryD
-
-  -- Prim = number | text | "undefined" | name | name "." name | name "?." name | Bag | "(" Expr ")"
-  pub data PrimD : Type 0 where
-    number : ℕ → PrimD
-    text : List ℕ → PrimD
-    undefined : PrimD
-    name : NameAt → PrimD
-    member : NameAt → List ℕ → PrimD
-    safe_member : NameAt → List ℕ → PrimD
-    bag : List ℕ → PrimD
-    brackets : ExprD → PrimD
-
--- after `import`: `.meta.hot.` and more
-abbrev pub hot_spelt : Spell → Spell
-hot_spelt f = mark DOT ▸ mark META ▸ mark DOT ▸ mark HOT ▸ mark DOT ▸ f
-
--- nothing
-abbrev pub nothing : Spell
-nothing ts = Some ts
-
--- the same, but not where `new` stands directly before `Error`
-abbrev pub not_error : Spell → Spell
-not_error f ts = if next_two NEW ERROR ts then None else f ts
-
-abbrev mutual
-  pub expr_spelt : ExprD → Spell
-  expr_spelt (plain s) = null_spelt s
-  expr_spelt (choice s a b) = null_spelt s ▸ mark QUESTION ▸ expr_spelt a ▸ mark COLON ▸ expr_spelt b
-
-  pub null_spelt : NullD → Spell
-  null_spelt (null s r) = sum_spelt s ▸ null_rest_spelt r
-
-  pub null_rest_spelt : NullRestD → Spell
-  null_rest_spelt no_null = nothing
-  null_rest_spelt (nullish s r) = mark NULLISH ▸ sum_spelt s ▸ null_rest_spelt r
-
-  pub sum_spelt : SumD → Spell
-  sum_spelt (sum p r) = prod_spelt p ▸ sum_rest_spelt r
-
-  pub sum_rest_spelt : SumRestD → Spell
-  sum_rest_spelt no_sum = nothing
-  sum_rest_spelt (plus p r) = mark PLUS ▸ prod_spelt p ▸ sum_rest_spelt r
-  sum_rest_spelt (minus p r) = mark MINUS ▸ prod_spelt p ▸ sum_rest_spelt r
-
-  pub prod_spelt : ProdD → Spell
-  prod_spelt (prod u r) = unary_spelt u ▸ prod_rest_spelt r
-
-  pub prod_rest_spelt : ProdRestD → Spell
-  prod_rest_spelt no_prod = nothing
-  prod_rest_spelt (times u r) = mark TIMES ▸ unary_spelt u ▸ prod_rest_spelt r
-
-  pub unary_spelt : UnaryD → Spell
-  unary_spelt (positive p) = prim_spelt p
-  unary_spelt (negative p) = mark MINUS ▸ prim_spelt p
-
-  pub prim_spelt : PrimD → Spell
-  prim_spelt (number n) = number_token n
-  prim_spelt (text s) = text_token s
-  prim_spelt undefined = mark UNDEFINED
-  prim_spelt (name n) = free_name n
-  prim_spelt (member n k) = free_name n ▸ mark DOT ▸ key k
-  prim_spelt (safe_member n k) = free_name n ▸ mark SAFE_DOT ▸ key k
-  prim_spelt (bag k) = mark IMPORT ▸ hot_spelt (mark DATA ▸ mark DOT ▸ key k)
-  prim_spelt (brackets e) = mark OPEN ▸ expr_spelt e ▸ mark CLOSE
-
--- operators group to the left
-abbrev mutual
-  pub expr_raw : ExprD → RawExpr
-  expr_raw (plain s) = null_raw s
-  expr_raw (choice s a b) = raw.choose (null_raw s) (expr_raw a) (expr_raw b)
-
-  pub null_raw : NullD → RawExpr
-  null_raw (null s r) = null_rest_raw (sum_raw s) r
-
-  pub null_rest_raw : RawExpr → NullRestD → RawExpr
-  null_rest_raw left no_null = left
-  null_rest_raw left (nullish s r) = null_rest_raw (raw.binary ops.Null left (sum_raw s)) r
-
-  pub sum_raw : SumD → RawExpr
-  sum_raw (sum p r) = sum_rest_raw (prod_raw p) r
-
-  pub sum_rest_raw : RawExpr → SumRestD → RawExpr
-  sum_rest_raw left no_sum = left
-  sum_rest_raw left (plus p r) = sum_rest_raw (raw.binary ops.Add left (prod_raw p)) r
-  sum_rest_raw left (minus p r) = sum_rest_raw (raw.binary ops.Sub left (prod_raw p)) r
-
-  pub prod_raw : ProdD → RawExpr
-  prod_raw (prod u r) = prod_rest_raw (unary_raw u) r
-
-  pub prod_rest_raw : RawExpr → ProdRestD → RawExpr
-  prod_rest_raw left no_prod = left
-  prod_rest_raw left (times u r) = prod_rest_raw (raw.binary ops.Mul left (unary_raw u)) r
-
-  pub unary_raw : UnaryD → RawExpr
-  unary_raw (positive p) = prim_raw p
-  unary_raw (negative p) = raw.neg (prim_raw p)
-
-  pub prim_raw : PrimD → RawExpr
-  prim_raw (number n) = raw.num n
-  prim_raw (text s) = raw.text s
-  prim_raw undefined = raw.undefined
-  prim_raw (name n) = raw.name n
-  prim_raw (member n k) = raw.member n false k
-  prim_raw (safe_member n k) = raw.member n true k
-  prim_raw (bag k) = raw.bag k
-  prim_raw (brackets e) = expr_raw e
-
--- each expression inside another counts one more
-abbrev mutual
-  pub expr_depth : ExprD → ℕ
-  expr_depth (plain s) = suc (null_depth s)
-  expr_depth (choice s a b) = suc (max (null_depth s) (max (expr_depth a) (expr_depth b)))
-
-  pub null_depth : NullD → ℕ
-  null_depth (null s r) = max (sum_depth s) (null_rest_depth r)
-
-  pub null_rest_depth : NullRestD → ℕ
-  null_rest_depth no_null = 0
-  null_rest_depth (nullish s r) = max (sum_depth s) (null_rest_depth r)
-
-  pub sum_depth : SumD → ℕ
-  sum_depth (sum p r) = max (prod_depth p) (sum_rest_depth r)
-
-  pub sum_rest_depth : SumRestD → ℕ
-  sum_rest_depth no_sum = 0
-  sum_rest_depth (plus p r) = max (prod_depth p) (sum_rest_depth r)
-  sum_rest_depth (minus p r) = max (prod_depth p) (sum_rest_depth r)
-
-  pub prod_depth : ProdD → ℕ
-  prod_depth (prod u r) = max (unary_depth u) (prod_rest_depth r)
-
-  pub prod_rest_depth : ProdRestD → ℕ
-  prod_rest_depth no_prod = 0
-  prod_rest_depth (times u r) = max (unary_depth u) (prod_rest_depth r)
-
-  pub unary_depth : UnaryD → ℕ
-  unary_depth (positive p) = prim_depth p
-  unary_depth (negative p) = prim_depth p
-
-  pub prim_depth : PrimD → ℕ
-  prim_depth (number n) = 0
-  prim_depth (text s) = 0
-  prim_depth undefined = 0
-  prim_depth (name n) = 0
-  prim_depth (member n k) = 0
-  prim_depth (safe_member n k) = 0
-  prim_depth (bag k) = 0
-  prim_depth (brackets e) = expr_depth e
+use Rattle.module_semantics.specs.Spelling.{Spell, ◌▸◌, mark, name_of, free_name, key, text_token, mark_at, end, many, separated, Listed, listed, items_of, maybe}
 
 -- the deepest of a list, and of what may be missing
 abbrev pub deepest : {D : Type 0} → (D → ℕ) → List D → ℕ
 deepest f [] = 0
 deepest f (d ∷ ds) = max (f d) (deepest f ds)
 
+-- how deep what may be missing is
 abbrev pub deep_if : {D : Type 0} → (D → ℕ) → Option D → ℕ
 deep_if f None = 0
 deep_if f (Some d) = f d
@@ -217,12 +33,14 @@ act_spelt (assign n e) = free_name n ▸ mark EQUALS ▸ expr_spelt e
 act_spelt (set n k e) = name_of but_console n ▸ mark DOT ▸ key k ▸ mark EQUALS ▸ expr_spelt e
 act_spelt (set_bag k e) = mark IMPORT ▸ hot_spelt (mark DATA ▸ mark DOT ▸ key k ▸ mark EQUALS ▸ expr_spelt e)
 
+-- what it says
 abbrev pub act_raw : ActD → RawStmt
 act_raw (log es) = raw.log (map expr_raw es)
 act_raw (assign n e) = raw.assign n (expr_raw e)
 act_raw (set n k e) = raw.set n k (expr_raw e)
 act_raw (set_bag k e) = raw.set_bag k (expr_raw e)
 
+-- how deep it is
 abbrev pub act_depth : ActD → ℕ
 act_depth (log es) = deepest expr_depth es
 act_depth (assign n e) = expr_depth e
@@ -239,10 +57,12 @@ abbrev pub throw_spelt : ThrowD → Spell
 throw_spelt (thrown e) = mark THROW ▸ not_error (expr_spelt e)
 throw_spelt (new_error e) = mark THROW ▸ mark NEW ▸ mark ERROR ▸ mark OPEN ▸ expr_spelt e ▸ mark CLOSE
 
+-- what it says
 abbrev pub throw_raw : ThrowD → RawExpr
 throw_raw (thrown e) = expr_raw e
 throw_raw (new_error e) = expr_raw e
 
+-- how deep it is
 abbrev pub throw_depth : ThrowD → ℕ
 throw_depth (thrown e) = expr_depth e
 throw_depth (new_error e) = expr_depth e
@@ -251,12 +71,15 @@ throw_depth (new_error e) = expr_depth e
 pub data InvalD : Type 0 where
   invalidate : ℕ → Option ExprD → InvalD
 
+-- its tokens
 abbrev pub inval_spelt : InvalD → Spell
 inval_spelt (invalidate at e) = mark_at IMPORT at ▸ hot_spelt (mark INVALIDATE ▸ mark OPEN ▸ maybe expr_spelt e ▸ mark CLOSE)
 
+-- what it says
 abbrev pub inval_raw : InvalD → RawStmt
 inval_raw (invalidate at e) = raw.invalidate at (option_map expr_raw e)
 
+-- how deep it is
 abbrev pub inval_depth : InvalD → ℕ
 inval_depth (invalidate at e) = deep_if expr_depth e
 
@@ -358,16 +181,19 @@ pub data BodyD : Type 0 where
   only_act : ActD → BodyD
   only_inval : InvalD → BodyD
 
+-- its tokens
 abbrev pub body_spelt : BodyD → Spell
 body_spelt (braces s) = mark OPEN_BRACE ▸ stmts_spelt s ▸ mark CLOSE_BRACE
 body_spelt (only_act d) = act_spelt d
 body_spelt (only_inval d) = inval_spelt d
 
+-- what it says
 abbrev pub body_raw : BodyD → RawStmts
 body_raw (braces s) = stmts_raw s
 body_raw (only_act d) = one_stmt (act_raw d) no_stmts
 body_raw (only_inval d) = one_stmt (inval_raw d) no_stmts
 
+-- how deep it is
 abbrev pub body_depth : BodyD → ℕ
 body_depth (braces s) = stmts_depth s
 body_depth (only_act d) = act_depth d
@@ -378,10 +204,12 @@ pub data ParamD : Type 0 where
   in_parens : Option NameAt → ParamD
   bare : NameAt → ParamD
 
+-- its tokens
 abbrev pub param_spelt : ParamD → Spell
 param_spelt (in_parens n) = mark OPEN ▸ maybe free_name n ▸ mark CLOSE
 param_spelt (bare n) = free_name n
 
+-- what it says
 abbrev pub param_raw : ParamD → List NameAt
 param_raw (in_parens n) = one_or_none n
 param_raw (bare n) = n ∷ []
@@ -390,12 +218,15 @@ param_raw (bare n) = n ∷ []
 pub data CallbackD : Type 0 where
   callback : ParamD → BodyD → CallbackD
 
+-- its tokens
 abbrev pub callback_spelt : CallbackD → Spell
 callback_spelt (callback p b) = param_spelt p ▸ mark ARROW ▸ body_spelt b
 
+-- what it says
 abbrev pub callback_raw : CallbackD → RawHandler
 callback_raw (callback p b) = record { params = param_raw p; body = body_raw b }
 
+-- how deep it is
 abbrev pub callback_depth : CallbackD → ℕ
 callback_depth (callback p b) = body_depth b
 
@@ -403,15 +234,19 @@ callback_depth (callback p b) = body_depth b
 pub data ListCallbackD : Type 0 where
   list_callback : Option (List NameAt) → BodyD → ListCallbackD
 
+-- its tokens
 abbrev pub names_spelt : List NameAt → Spell
 names_spelt ns = mark OPEN_BRACKET ▸ separated free_name ns ▸ mark CLOSE_BRACKET
 
+-- its tokens
 abbrev pub list_callback_spelt : ListCallbackD → Spell
 list_callback_spelt (list_callback ns b) = mark OPEN ▸ maybe names_spelt ns ▸ mark CLOSE ▸ mark ARROW ▸ body_spelt b
 
+-- what it says
 abbrev pub list_callback_raw : ListCallbackD → RawHandler
 list_callback_raw (list_callback ns b) = record { params = all_of ns; body = body_raw b }
 
+-- how deep it is
 abbrev pub list_callback_depth : ListCallbackD → ℕ
 list_callback_depth (list_callback ns b) = body_depth b
 
@@ -420,14 +255,17 @@ pub data OwnD : Type 0 where
   code : CallbackD → OwnD
   host : List ℕ → OwnD
 
+-- its tokens
 abbrev pub own_spelt : OwnD → Spell
 own_spelt (code c) = callback_spelt c
 own_spelt (host l) = mark HOST ▸ mark OPEN ▸ text_token l ▸ mark CLOSE
 
+-- what it says
 abbrev pub own_raw : OwnD → RawOnce
 own_raw (code c) = raw.code (callback_raw c)
 own_raw (host l) = raw.host l
 
+-- how deep it is
 abbrev pub own_depth : OwnD → ℕ
 own_depth (code c) = callback_depth c
 own_depth (host l) = 0
@@ -439,21 +277,25 @@ pub data AcceptD : Type 0 where
   dep : List ℕ → Option CallbackD → AcceptD
   deps : Listed (List ℕ) → Option ListCallbackD → AcceptD
 
+-- a comma, and then a part
 abbrev pub after_comma : {D : Type 0} → (D → Spell) → D → Spell
 after_comma f d = mark COMMA ▸ f d
 
+-- its tokens
 abbrev pub accept_spelt : AcceptD → Spell
 accept_spelt accept_all = nothing
 accept_spelt (own o) = own_spelt o
 accept_spelt (dep s c) = text_token s ▸ maybe (after_comma callback_spelt) c
 accept_spelt (deps ss c) = mark OPEN_BRACKET ▸ listed text_token ss ▸ mark CLOSE_BRACKET ▸ maybe (after_comma list_callback_spelt) c
 
+-- what it says
 abbrev pub accept_raw : AcceptD → RawItem
 accept_raw accept_all = raw.own None
 accept_raw (own o) = raw.own (Some (own_raw o))
 accept_raw (dep s c) = raw.deps false (s ∷ []) (option_map callback_raw c)
 accept_raw (deps ss c) = raw.deps true (items_of ss) (option_map list_callback_raw c)
 
+-- how deep it is
 abbrev pub accept_depth : AcceptD → ℕ
 accept_depth accept_all = 0
 accept_depth (own o) = own_depth o
@@ -467,18 +309,21 @@ pub data HotCallD : Type 0 where
   prune : OwnD → HotCallD
   decline : HotCallD
 
+-- its tokens
 abbrev pub hot_call_spelt : HotCallD → Spell
 hot_call_spelt (accept a) = mark ACCEPT ▸ mark OPEN ▸ accept_spelt a ▸ mark CLOSE
 hot_call_spelt (dispose o) = mark DISPOSE ▸ mark OPEN ▸ own_spelt o ▸ mark CLOSE
 hot_call_spelt (prune o) = mark PRUNE ▸ mark OPEN ▸ own_spelt o ▸ mark CLOSE
 hot_call_spelt decline = mark DECLINE ▸ mark OPEN ▸ mark CLOSE
 
+-- what it says
 abbrev pub hot_call_raw : HotCallD → RawItem
 hot_call_raw (accept a) = accept_raw a
 hot_call_raw (dispose o) = raw.dispose (own_raw o)
 hot_call_raw (prune o) = raw.prune (own_raw o)
 hot_call_raw decline = raw.decline
 
+-- how deep it is
 abbrev pub hot_call_depth : HotCallD → ℕ
 hot_call_depth (accept a) = accept_depth a
 hot_call_depth (dispose o) = own_depth o
@@ -491,16 +336,19 @@ pub data TopD : Type 0 where
   throw : ThrowD → TopD
   call : HotCallD → TopD
 
+-- its tokens
 abbrev pub top_spelt : TopD → Spell
 top_spelt (act d) = act_spelt d ▸ end
 top_spelt (throw d) = throw_spelt d ▸ end
 top_spelt (call d) = mark IMPORT ▸ hot_spelt (hot_call_spelt d) ▸ end
 
+-- what it says
 abbrev pub top_raw : TopD → RawItem
 top_raw (act d) = raw.act (act_raw d)
 top_raw (throw d) = raw.act (raw.throw (throw_raw d))
 top_raw (call d) = hot_call_raw d
 
+-- how deep it is
 abbrev pub top_depth : TopD → ℕ
 top_depth (act d) = act_depth d
 top_depth (throw d) = throw_depth d
@@ -511,14 +359,17 @@ pub data DeclD : Type 0 where
   constant : NameAt → ExprD → DeclD
   variable : NameAt → ExprD → DeclD
 
+-- its tokens
 abbrev pub decl_spelt : DeclD → Spell
 decl_spelt (constant n e) = mark CONST ▸ free_name n ▸ mark EQUALS ▸ expr_spelt e ▸ end
 decl_spelt (variable n e) = mark LET ▸ free_name n ▸ mark EQUALS ▸ expr_spelt e ▸ end
 
+-- what it says
 abbrev pub decl_raw : Bool → DeclD → RawItem
 decl_raw exported (constant n e) = raw.declare exported false n (expr_raw e)
 decl_raw exported (variable n e) = raw.declare exported true n (expr_raw e)
 
+-- how deep it is
 abbrev pub decl_depth : DeclD → ℕ
 decl_depth (constant n e) = expr_depth e
 decl_depth (variable n e) = expr_depth e
@@ -528,10 +379,12 @@ pub data SpecD : Type 0 where
   same : NameAt → SpecD
   renamed : List ℕ → NameAt → SpecD
 
+-- its tokens
 abbrev pub spec_spelt : SpecD → Spell
 spec_spelt (same n) = free_name n
 spec_spelt (renamed k n) = key k ▸ mark AS ▸ free_name n
 
+-- what it says
 abbrev pub spec_raw : SpecD → RawImport
 spec_raw (same n) = record { exported = n.name; local = n }
 spec_raw (renamed k n) = record { exported = k; local = n }
@@ -545,10 +398,12 @@ pub data ItemD : Type 0 where
   top : TopD → ItemD
   guard : List TopD → ItemD
 
+-- its tokens
 abbrev pub guard_spelt : List TopD → Spell
 guard_spelt ds =
     mark IF ▸ mark OPEN ▸ mark IMPORT ▸ mark DOT ▸ mark META ▸ mark DOT ▸ mark HOT ▸ mark CLOSE ▸ mark OPEN_BRACE ▸ many top_spelt ds ▸ mark CLOSE_BRACE
 
+-- its tokens
 abbrev pub item_spelt : ItemD → Spell
 item_spelt (import_text s) = mark IMPORT ▸ text_token s ▸ end
 item_spelt (import_names ns s) = mark IMPORT ▸ mark OPEN_BRACE ▸ listed spec_spelt ns ▸ mark CLOSE_BRACE ▸ mark FROM ▸ text_token s ▸ end
@@ -566,6 +421,7 @@ item_raw (declared d) = decl_raw false d ∷ []
 item_raw (top d) = top_raw d ∷ []
 item_raw (guard ds) = map top_raw ds
 
+-- how deep it is
 abbrev pub item_depth : ItemD → ℕ
 item_depth (import_text s) = 0
 item_depth (import_names ns s) = 0
@@ -578,11 +434,14 @@ item_depth (guard ds) = deepest top_depth ds
 abbrev pub ModuleD : Type 0
 ModuleD = List ItemD
 
+-- its tokens
 abbrev pub module_spelt : ModuleD → Spell
 module_spelt ds = many item_spelt ds
 
+-- what it says
 abbrev pub module_raw : ModuleD → List RawItem
 module_raw ds = flat (map item_raw ds)
 
+-- how deep it is
 abbrev pub module_depth : ModuleD → ℕ
 module_depth ds = deepest item_depth ds

@@ -202,8 +202,10 @@ pub record NameAt : Type 0 where
   pub name : List ℕ
   pub at : ℕ
 
+-- the name that a token is, where it stands
 abbrev pub name_at : LineToken → NameAt
 name_at t = record { name = bytes_of t.token; at = t.at }
 
+-- the same name at the same place
 abbrev pub same_name : NameAt → NameAt → Bool
 same_name n m = bytes_eq n.name m.name && n.at == m.at

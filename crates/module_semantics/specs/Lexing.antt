@@ -11,6 +11,7 @@ use Rattle.module_semantics.specs.declared.tokens.LexKind.{LexKind}
 use Rattle.module_semantics.specs.declared.tokens.LexKind.TheVariants.{BadByte, OpenString, OpenComment, BadEscape, NumberTooLarge, TooManyTokens, NoMemory}
 use Rattle.module_semantics.specs.declared.tokens.LexFault.{LexFault}
 
+-- a fault by its kind and its place
 abbrev pub lex_fault : LexKind → ℕ → LexFault
 lex_fault kind at = record { at = at; kind = kind }
 
@@ -79,10 +80,12 @@ single b = marked b marks
 unfoldable pub double : ℕ → ℕ → Option ℕ
 double b c = if b == 61 && c == 62 then Some 15 else if b == 63 && c == 46 then Some 16 else if b == 63 && c == 63 then Some 17 else None
 
+-- a punctuation of one byte, or none
 abbrev pub single_at : ℕ → Option ℕ → Front
 single_at at (Some p) = Ok (Some (punct p), 1)
 single_at at None = Err (lex_fault BadByte at)
 
+-- a punctuation of two bytes, or another
 abbrev pub double_at : Option ℕ → Front → Front
 double_at (Some p) other = Ok (Some (punct p), 2)
 double_at None other = other

@@ -51,21 +51,26 @@ abbrev pub place_at : List ℕ → List LineToken → ℕ
 place_at text [] = length text
 place_at text (t ∷ ts) = t.at
 
+-- the place at which n of the tokens are left
 abbrev pub place_left : List ℕ → List LineToken → ℕ → ℕ
 place_left text ts n = place_at text (drop (length ts - n) ts)
 
+-- a fault of the grammar with its line and column
 abbrev pub grammar_fault : List ℕ → List LineToken → GrammarFault → TextFault
 grammar_fault text ts (unexpected n) = fault_at text (place_left text ts n) words.Unexpected
 grammar_fault text ts (too_deep n) = fault_at text (place_left text ts n) words.TooDeep
 
+-- the tree, where the rules on names hold
 abbrev pub named : List ℕ → List RawItem → Option Broken → Result ModuleTree TextFault
 named text items None = Ok (module_tree items)
 named text items (Some b) = Err (fault_at text b.at b.word)
 
+-- the tree, where the tokens have the grammar
 abbrev pub read_items : List ℕ → List LineToken → Result (List RawItem) GrammarFault → Result ModuleTree TextFault
 read_items text ts (Ok items) = named text items (first_broken items)
 read_items text ts (Err f) = Err (grammar_fault text ts f)
 
+-- the tree, where the text is tokens
 abbrev pub read_tokens : List ℕ → Result (List Lexeme) LexFault → Result ModuleTree TextFault
 read_tokens text (Ok ts) = read_items text (line_tokens text ts) (reading DEPTH (line_tokens text ts))
 read_tokens text (Err f) = Err (fault_at text f.at (lex_word f.kind))
@@ -74,6 +79,7 @@ read_tokens text (Err f) = Err (fault_at text f.at (lex_word f.kind))
 unfoldable pub parsing : List ℕ → Result ModuleTree TextFault
 parsing text = if is_utf8 text then read_tokens text (lexing text) else Err (fault_at text (utf8_valid_len text) words.NotUtf8)
 
+-- the fault, where there is one
 abbrev pub fault_of : Result ModuleTree TextFault → Option TextFault
 fault_of (Ok m) = None
 fault_of (Err f) = Some f

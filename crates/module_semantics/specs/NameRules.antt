@@ -20,6 +20,7 @@ pub data Within : Type 0 where
   in_once : List (List ℕ) → Within
   in_accept : List (List ℕ) → Within
 
+-- the name is one of the list
 unfoldable pub has_name : List ℕ → List (List ℕ) → Bool
 has_name n [] = false
 has_name n (m ∷ ms) = bytes_eq n m || has_name n ms
@@ -36,11 +37,13 @@ is_bag outside n = false
 is_bag (in_once ps) n = has_name n ps
 is_bag (in_accept ps) n = false
 
+-- it stands in an accept callback
 abbrev pub accepts : Within → Bool
 accepts outside = false
 accepts (in_once ps) = false
 accepts (in_accept ps) = true
 
+-- a broken rule at a place, where the test says so
 abbrev pub broken_if : Bool → FaultWord → ℕ → List Broken
 broken_if test word at = if test then record { at = at; word = word } ∷ [] else []
 
@@ -69,6 +72,7 @@ unfoldable pub repeated : List (List ℕ) → List NameAt → List Broken
 repeated before [] = []
 repeated before (n ∷ ns) = broken_if (has_name n.name before) DuplicateName n.at ++ repeated (n.name ∷ before) ns
 
+-- what is broken in an expression
 unfoldable pub expr_broken : Within → RawExpr → List Broken
 expr_broken w (raw.num n) = []
 expr_broken w (raw.text s) = []
@@ -80,10 +84,12 @@ expr_broken w (raw.neg a) = expr_broken w a
 expr_broken w (raw.binary op a b) = expr_broken w a ++ expr_broken w b
 expr_broken w (raw.choose c a b) = expr_broken w c ++ (expr_broken w a ++ expr_broken w b)
 
+-- in several, in order
 abbrev pub exprs_broken : Within → List RawExpr → List Broken
 exprs_broken w [] = []
 exprs_broken w (e ∷ es) = expr_broken w e ++ exprs_broken w es
 
+-- in one that may be missing
 abbrev pub maybe_broken : Within → Option RawExpr → List Broken
 maybe_broken w None = []
 maybe_broken w (Some e) = expr_broken w e
@@ -115,6 +121,7 @@ abbrev mutual
   stmts_broken lets w no_stmts = []
   stmts_broken lets w (one_stmt s r) = stmt_broken lets w s ++ stmts_broken lets w r
 
+-- the names without their places
 abbrev pub names_of : List NameAt → List (List ℕ)
 names_of ns = map (λ n. n.name) ns
 
@@ -122,10 +129,12 @@ names_of ns = map (λ n. n.name) ns
 abbrev pub handler_broken : List (List ℕ) → (List (List ℕ) → Within) → RawHandler → List Broken
 handler_broken lets within h = repeated [] h.params ++ stmts_broken lets (within (names_of h.params)) h.body
 
+-- what is broken in a callback
 abbrev pub once_broken : List (List ℕ) → (List (List ℕ) → Within) → RawOnce → List Broken
 once_broken lets within (raw.code h) = handler_broken lets within h
 once_broken lets within (raw.host l) = []
 
+-- what is broken in an item
 abbrev pub item_broken : List (List ℕ) → RawItem → List Broken
 item_broken lets (raw.import s names) = []
 item_broken lets (raw.declare exported mutable n e) = expr_broken outside e
@@ -149,6 +158,7 @@ bound_by (raw.dispose o) = []
 bound_by (raw.prune o) = []
 bound_by raw.decline = []
 
+-- the names that an item declares by `let`
 abbrev pub lets_by : RawItem → List (List ℕ)
 lets_by (raw.import s names) = []
 lets_by (raw.declare exported mutable n e) = if mutable then n.name ∷ [] else []
@@ -167,6 +177,7 @@ lets_of items = flat (map lets_by items)
 unfoldable pub all_broken : List RawItem → List Broken
 all_broken items = repeated [] (flat (map bound_by items)) ++ flat (map (item_broken (lets_of items)) items)
 
+-- the one at the lesser place
 abbrev pub lesser : Broken → Option Broken → Broken
 lesser b None = b
 lesser b (Some c) = if nat_le b.at c.at then b else c

@@ -4,6 +4,7 @@ use Rattle.std.specs.Prelude.{ℕ, List, [], ◌∷◌, Bool, Option}
 use Rattle.hmr_types.specs.declared.tree.Op.{Op}
 use Rattle.module_semantics.specs.Kinds.{NameAt}
 
+-- an expression; a member has the name before the dot, whether the dot is safe, and the key
 pub data RawExpr : Type 0 where
   num : ℕ → RawExpr
   text : List ℕ → RawExpr
@@ -30,18 +31,22 @@ mutual
     no_stmts : RawStmts
     one_stmt : RawStmt → RawStmts → RawStmts
 
+-- a callback
 pub record RawHandler : Type 0 where
   pub params : List NameAt
   pub body : RawStmts
 
+-- a callback, or the label of a host closure
 pub data RawOnce : Type 0 where
   code : RawHandler → RawOnce
   host : List ℕ → RawOnce
 
+-- an imported name, and its local name
 pub record RawImport : Type 0 where
   pub exported : List ℕ
   pub local : NameAt
 
+-- an item; the items of a guard stand in its place
 pub data RawItem : Type 0 where
   import : List ℕ → List RawImport → RawItem
   declare : Bool → Bool → NameAt → RawExpr → RawItem

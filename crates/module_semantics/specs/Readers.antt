@@ -18,6 +18,7 @@ unfoldable pub next_in : List ℕ → List LineToken → Bool
 next_in ks [] = false
 next_in ks (t ∷ ts) = within ks (kind t.token)
 
+-- an unexpected token
 abbrev pub failed : {A : Type 0} → Reader A
 failed ts = Err (unexpected (length ts))
 
@@ -72,6 +73,7 @@ listed_from ks f zero ts = Ok ([], ts)
 listed_from ks f (suc n) ts =
     if next_in ks ts then (f ts >>= λ x. if next_in (COMMA ∷ []) x.1 then (mark COMMA x.1 >>= λ c. listed_from ks f n c.1 >>= λ y. Ok (x.0 ∷ y.0, y.1)) else Ok (x.0 ∷ [], x.1)) else Ok ([], ts)
 
+-- as many as stand there, with commas
 abbrev pub listed : {A : Type 0} → List ℕ → Reader A → Reader (List A)
 listed ks f ts = listed_from ks f (length ts) ts
 

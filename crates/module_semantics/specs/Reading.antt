@@ -17,9 +17,11 @@ free_name = taken free_names name_at
 abbrev pub key : Reader (List ℕ)
 key = taken all_names (λ t. bytes_of t.token)
 
+-- a text, by the bytes that it stands for
 abbrev pub text_token : Reader (List ℕ)
 text_token = taken (TEXT ∷ []) (λ t. bytes_of t.token)
 
+-- a number, by its value
 abbrev pub number_token : Reader ℕ
 number_token = taken (NUMBER ∷ []) (λ t. value_of t.token)
 
@@ -35,6 +37,7 @@ expr_firsts = NUMBER ∷ TEXT ∷ UNDEFINED ∷ IMPORT ∷ OPEN ∷ MINUS ∷ fr
 unfoldable pub access : Reader (Option (Bool × List ℕ))
 access = choice (DOT ∷ []) (mapped (λ k. Some (false, k)) (mark DOT ▷ key)) (choice (SAFE_DOT ∷ []) (mapped (λ k. Some (true, k)) (mark SAFE_DOT ▷ key)) (given None))
 
+-- a name that is read, or a key of it
 abbrev pub accessed : NameAt × Option (Bool × List ℕ) → RawExpr
 accessed (n, None) = name n
 accessed (n, Some a) = member n a.0 a.1
@@ -49,6 +52,7 @@ prim e =
     (choice (OPEN ∷ []) (mark OPEN ▷ e ◁ mark CLOSE)
     (mapped accessed (free_name & access))))))
 
+-- perhaps a minus
 unfoldable pub unary : Reader RawExpr → Reader RawExpr
 unary e = choice (MINUS ∷ []) (mapped neg (mark MINUS ▷ prim e)) (prim e)
 
@@ -61,19 +65,24 @@ grouped a (b ∷ bs) = grouped (binary b.0 a b.1) bs
 abbrev pub operation : ℕ → Op → Reader RawExpr → Reader (Op × RawExpr)
 operation k op f = mapped (λ b. (op, b)) (mark k ▷ f)
 
+-- one or more, with `*` between
 unfoldable pub prod : Reader RawExpr → Reader RawExpr
 prod e = mapped (λ v. grouped v.0 v.1) (unary e & many (TIMES ∷ []) (operation TIMES ops.Mul (unary e)))
 
+-- one or more, with `+` or `-` between
 unfoldable pub sum : Reader RawExpr → Reader RawExpr
 sum e = mapped (λ v. grouped v.0 v.1) (prod e & many (PLUS ∷ MINUS ∷ []) (choice (PLUS ∷ []) (operation PLUS ops.Add (prod e)) (operation MINUS ops.Sub (prod e))))
 
+-- one or more, with `??` between
 unfoldable pub null : Reader RawExpr → Reader RawExpr
 null e = mapped (λ v. grouped v.0 v.1) (sum e & many (NULLISH ∷ []) (operation NULLISH ops.Null (sum e)))
 
+-- a condition alone, or with its two choices
 abbrev pub chosen : RawExpr × Option (RawExpr × RawExpr) → RawExpr
 chosen (c, None) = c
 chosen (c, Some v) = choose c v.0 v.1
 
+-- an expression, where e reads the expressions inside
 unfoldable pub expr_over : Reader RawExpr → Reader RawExpr
 expr_over e = mapped chosen (null e & choice (QUESTION ∷ []) (mapped Some (mark QUESTION ▷ (e ◁ mark COLON) & e)) (given None))
 
@@ -82,6 +91,7 @@ unfoldable pub expr : ℕ → Reader RawExpr
 expr zero = deep expr_firsts
 expr (suc n) = expr_over (expr n)
 
+-- what was told after a value, of that value
 abbrev pub applied : {A B : Type 0} → A × (A → B) → B
 applied v = v.1 v.0
 
@@ -89,6 +99,7 @@ applied v = v.1 v.0
 abbrev pub but_console : List ℕ
 but_console = OTHER ∷ LOG ∷ HOST ∷ NEW ∷ ERROR ∷ FROM ∷ AS ∷ META ∷ HOT ∷ DATA ∷ ACCEPT ∷ DISPOSE ∷ PRUNE ∷ DECLINE ∷ INVALIDATE ∷ []
 
+-- after a name: a value for it
 abbrev pub assigned : Reader RawExpr → Reader (NameAt → RawStmt)
 assigned e = mapped (λ x n. assign n x) (mark EQUALS ▷ e)
 
@@ -98,9 +109,11 @@ console_act e =
     mapped applied
     (taken (CONSOLE ∷ []) name_at & choice (DOT ∷ []) (mapped (λ es n. log es) (mark DOT ▷ mark LOG ▷ mark OPEN ▷ separated expr_firsts e ◁ mark CLOSE)) (assigned e))
 
+-- with another name: an assignment to it or to a key of it
 unfoldable pub other_act : Reader RawExpr → Reader RawStmt
 other_act e = mapped applied (taken but_console name_at & choice (DOT ∷ []) (mapped (λ v n. set n v.0 v.1) (mark DOT ▷ key & mark EQUALS ▷ e)) (assigned e))
 
+-- a statement that begins with a name
 unfoldable pub name_act : Reader RawExpr → Reader RawStmt
 name_act e = choice (CONSOLE ∷ []) (console_act e) (other_act e)
 
@@ -120,6 +133,7 @@ told e = mark INVALIDATE ▷ mark OPEN ▷ choice expr_firsts (mapped Some e) (g
 abbrev pub bag_stmt : Reader RawExpr → Reader (ℕ → RawStmt)
 bag_stmt e = mapped (λ s at. s) (bag_act e)
 
+-- an invalidation, by the place of its `import`
 abbrev pub told_stmt : Reader RawExpr → Reader (ℕ → RawStmt)
 told_stmt e = mapped (λ x at. invalidate at x) (told e)
 
@@ -133,18 +147,23 @@ pub record Inner : Type 0 where
   pub block : Reader RawStmts
   pub else_if : Reader RawStmt
 
+-- a body of one statement
 abbrev pub only : RawStmt → RawStmts
 only s = one_stmt s no_stmts
 
+-- what follows `else`, where it stands there
 unfoldable pub else_part : Inner → Reader RawStmts
 else_part i = choice (ELSE ∷ []) (mark ELSE ▷ choice (OPEN_BRACE ∷ []) i.block (mapped only i.else_if)) (given no_stmts)
 
+-- an if
 unfoldable pub if_stmt : Inner → Reader RawStmt
 if_stmt i = mapped (λ v. branch v.0 v.1.0 v.1.1) (mark IF ▷ mark OPEN ▷ (i.expr ◁ mark CLOSE) & i.block & else_part i)
 
+-- what a statement of a callback begins with
 abbrev pub stmt_firsts : List ℕ
 stmt_firsts = IF ∷ THROW ∷ IMPORT ∷ free_names
 
+-- a statement of a callback
 unfoldable pub stmt : Inner → Reader RawStmt
 stmt i =
     choice (IF ∷ []) (if_stmt i)
@@ -169,20 +188,25 @@ inner (suc n) = around (expr (suc n)) (inner n)
 unfoldable pub body : Inner → Reader RawStmts
 body i = choice (OPEN_BRACE ∷ []) (braces i) (mapped only (choice (IMPORT ∷ []) (import_stmt i.expr) (name_act i.expr)))
 
+-- a list of one
 abbrev pub alone : {A : Type 0} → A → List A
 alone x = x ∷ []
 
+-- a list of one or none
 abbrev pub one_or_none : {A : Type 0} → Option A → List A
 one_or_none None = []
 one_or_none (Some x) = x ∷ []
 
+-- the list, where there is one
 abbrev pub all_of : {A : Type 0} → Option (List A) → List A
 all_of None = []
 all_of (Some xs) = xs
 
+-- perhaps a parameter, in parentheses
 unfoldable pub in_parens : Reader (List NameAt)
 in_parens = mark OPEN ▷ mapped one_or_none (choice free_names (mapped Some free_name) (given None)) ◁ mark CLOSE
 
+-- a callback of its parameters and its body
 abbrev pub handler : List NameAt × RawStmts → RawHandler
 handler v = record { params = v.0; body = v.1 }
 
@@ -190,20 +214,25 @@ handler v = record { params = v.0; body = v.1 }
 abbrev pub callback_by : List ℕ → Reader RawStmts → Reader RawHandler
 callback_by ks b = mapped handler (choice (OPEN ∷ []) in_parens (mapped alone (taken ks name_at)) & mark ARROW ▷ b)
 
+-- a callback of one dependency or of the module itself
 unfoldable pub callback : Reader RawStmts → Reader RawHandler
 callback b = callback_by free_names b
 
+-- a callback of a list of dependencies
 unfoldable pub list_callback : Reader RawStmts → Reader RawHandler
 list_callback b =
     mapped handler
     ((mark OPEN ▷ mapped all_of (choice (OPEN_BRACKET ∷ []) (mapped Some (mark OPEN_BRACKET ▷ separated free_names free_name ◁ mark CLOSE_BRACKET)) (given None)) ◁ mark CLOSE) & mark ARROW ▷ b)
 
+-- names but `host`
 abbrev pub but_host : List ℕ
 but_host = OTHER ∷ CONSOLE ∷ LOG ∷ NEW ∷ ERROR ∷ FROM ∷ AS ∷ META ∷ HOT ∷ DATA ∷ ACCEPT ∷ DISPOSE ∷ PRUNE ∷ DECLINE ∷ INVALIDATE ∷ []
 
+-- after `host`: the label of a host closure
 abbrev pub host_label : Reader (NameAt → RawOnce)
 host_label = mapped (λ l n. host l) (mark OPEN ▷ text_token ◁ mark CLOSE)
 
+-- after `host` as a parameter: the body of a callback
 abbrev pub host_code : Reader RawStmts → Reader (NameAt → RawOnce)
 host_code b = mapped (λ s n. code (handler (alone n, s))) (mark ARROW ▷ b)
 
@@ -211,9 +240,11 @@ host_code b = mapped (λ s n. code (handler (alone n, s))) (mark ARROW ▷ b)
 unfoldable pub host_own : Reader RawStmts → Reader RawOnce
 host_own b = mapped applied (taken (HOST ∷ []) name_at & choice (OPEN ∷ []) host_label (host_code b))
 
+-- what a callback or a host closure begins with
 abbrev pub own_firsts : List ℕ
 own_firsts = HOST ∷ OPEN ∷ but_host
 
+-- a callback or a host closure
 unfoldable pub once : Reader RawStmts → Reader RawOnce
 once b = choice (HOST ∷ []) (host_own b) (mapped code (callback_by but_host b))
 
@@ -221,6 +252,7 @@ once b = choice (HOST ∷ []) (host_own b) (mapped code (callback_by but_host b)
 abbrev pub after_comma : Reader RawHandler → Reader (Option RawHandler)
 after_comma f = choice (COMMA ∷ []) (mapped Some (mark COMMA ▷ f)) (given None)
 
+-- what `accept` takes
 unfoldable pub accepted : Reader RawStmts → Reader RawItem
 accepted b =
     choice (TEXT ∷ []) (mapped (λ v. deps false (alone v.0) v.1) (text_token & after_comma (callback b)))
@@ -228,6 +260,7 @@ accepted b =
     (mapped (λ v. deps true v.0 v.1) ((mark OPEN_BRACKET ▷ listed (TEXT ∷ []) text_token ◁ mark CLOSE_BRACKET) & after_comma (list_callback b)))
     (choice own_firsts (mapped (λ o. own (Some o)) (once b)) (given (own None))))
 
+-- a call of `import.meta.hot`
 unfoldable pub hot_call : Reader RawStmts → Reader RawItem
 hot_call b =
     choice (ACCEPT ∷ []) (mark ACCEPT ▷ mark OPEN ▷ accepted b ◁ mark CLOSE)
@@ -239,24 +272,30 @@ hot_call b =
 unfoldable pub hot_top : Inner → Reader RawItem
 hot_top i = hot (choice (DATA ∷ []) (mapped act (bag_act i.expr)) (hot_call (body i))) ◁ end
 
+-- what a statement of a guard begins with
 abbrev pub top_firsts : List ℕ
 top_firsts = IMPORT ∷ THROW ∷ free_names
 
+-- a statement at the top that begins with a name or `throw`
 unfoldable pub plain_top : Inner → Reader RawItem
 plain_top i = choice (THROW ∷ []) (mapped (λ x. act (throw x)) (thrown i.expr) ◁ end) (mapped act (name_act i.expr) ◁ end)
 
+-- a statement or a call at the top
 unfoldable pub top : Inner → Reader RawItem
 top i = choice (IMPORT ∷ []) (mark IMPORT ▷ hot_top i) (plain_top i)
 
+-- `if (import.meta.hot)` and the statements that it guards
 unfoldable pub guard : Inner → Reader (List RawItem)
 guard i =
     mark IF ▷ mark OPEN ▷ mark IMPORT ▷ mark DOT ▷ mark META ▷ mark DOT ▷ mark HOT ▷ mark CLOSE ▷ mark OPEN_BRACE ▷ many top_firsts (top i) ◁ mark CLOSE_BRACE
 
+-- a declaration, exported or not
 unfoldable pub declaration : Reader RawExpr → Reader (Bool → RawItem)
 declaration e =
     choice (CONST ∷ []) (mapped (λ v exported. declare exported false v.0 v.1) (mark CONST ▷ free_name & mark EQUALS ▷ e ◁ end))
     (mapped (λ v exported. declare exported true v.0 v.1) (mark LET ▷ free_name & mark EQUALS ▷ e ◁ end))
 
+-- a name that is imported under its own name or another
 abbrev pub imported : NameAt × Option NameAt → RawImport
 imported (n, None) = record { exported = n.name; local = n }
 imported (n, Some l) = record { exported = n.name; local = l }
@@ -274,6 +313,7 @@ import_item i =
     (choice (OPEN_BRACE ∷ []) (mapped (λ v. import v.1 v.0) ((mark OPEN_BRACE ▷ listed all_names import_name ◁ mark CLOSE_BRACE) & mark FROM ▷ text_token ◁ end))
     (hot_top i))
 
+-- what an item begins with
 abbrev pub item_firsts : List ℕ
 item_firsts = IMPORT ∷ EXPORT ∷ CONST ∷ LET ∷ IF ∷ THROW ∷ free_names
 
@@ -286,6 +326,7 @@ item i =
     (choice (IF ∷ []) (guard i)
     (mapped alone (plain_top i)))))
 
+-- the lists, one after another
 abbrev pub flat : {A : Type 0} → List (List A) → List A
 flat [] = []
 flat (x ∷ xs) = x ++ flat xs

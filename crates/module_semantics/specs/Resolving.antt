@@ -23,6 +23,7 @@ member_tree outside n safe k = tree.member 0 safe k
 member_tree (in_once ps) n safe k = tree.bag k
 member_tree (in_accept ps) n safe k = tree.member (place_of n.name ps) safe k
 
+-- an expression
 abbrev pub expr_tree : Within → RawExpr → ExprTree
 expr_tree w (raw.num n) = tree.num n
 expr_tree w (raw.text s) = tree.text s
@@ -40,6 +41,7 @@ name_cond outside n = tree.value (tree.name n)
 name_cond (in_once ps) n = tree.value (tree.name n)
 name_cond (in_accept ps) n = if has_name n ps then tree.param (place_of n ps) else tree.value (tree.name n)
 
+-- the condition of an if
 abbrev pub cond_tree : Within → RawExpr → CondTree
 cond_tree w (raw.name n) = name_cond w n.name
 cond_tree w (raw.num n) = tree.value (tree.num n)
@@ -73,17 +75,21 @@ handler_tree h = record { params = names_of h.params; body = stmts_tree (in_acce
 abbrev pub once_handler_tree : RawHandler → HandlerTree
 once_handler_tree h = record { params = []; body = stmts_tree (in_once (names_of h.params)) h.body }
 
+-- what `accept` of the module itself takes
 abbrev pub accept_tree : RawOnce → OnceTree
 accept_tree (raw.code h) = tree.code (handler_tree h)
 accept_tree (raw.host l) = tree.host l
 
+-- what `dispose` and `prune` take
 abbrev pub once_tree : RawOnce → OnceTree
 once_tree (raw.code h) = tree.code (once_handler_tree h)
 once_tree (raw.host l) = tree.host l
 
+-- an imported name
 abbrev pub import_name : RawImport → ImportName
 import_name i = record { exported = i.exported; local = i.local.name }
 
+-- an item
 abbrev pub item_tree : RawItem → ItemTree
 item_tree (raw.import s names) = tree.import s (map import_name names)
 item_tree (raw.declare exported mutable n e) = tree.declare exported mutable n.name (expr_tree outside e)

@@ -5,6 +5,7 @@ use Rattle.module_semantics.specs.Token.{LineToken}
 use Rattle.module_semantics.specs.Kinds.{kind, within, COMMA, SEMICOLON, NUMBER, TEXT, free_names, all_names, bytes_of, value_of, NameAt, name_at, same_name}
 use Rattle.module_semantics.specs.Readers.{next_in, ends}
 
+-- what is left of tokens after a part, where they begin with it
 abbrev pub Spell : Type 0
 Spell = List LineToken → Option (List LineToken)
 
@@ -24,6 +25,7 @@ unfoldable pub one : List ℕ → (LineToken → Bool) → Spell
 one ks test [] = None
 one ks test (t ∷ ts) = if within ks (kind t.token) && test t then Some ts else None
 
+-- no test
 abbrev pub any_token : LineToken → Bool
 any_token t = true
 
@@ -43,9 +45,11 @@ free_name n = name_of free_names n
 abbrev pub key : List ℕ → Spell
 key k = one all_names (λ t. bytes_eq k (bytes_of t.token))
 
+-- a text, by the bytes that it stands for
 abbrev pub text_token : List ℕ → Spell
 text_token s = one (TEXT ∷ []) (λ t. bytes_eq s (bytes_of t.token))
 
+-- a number, by its value
 abbrev pub number_token : ℕ → Spell
 number_token n = one (NUMBER ∷ []) (λ t. n == value_of t.token)
 
@@ -73,11 +77,13 @@ pub data Listed (D : Type 0) : Type 0 where
   last : D → Listed D
   more : D → Listed D → Listed D
 
+-- as many as stand there, with commas
 unfoldable pub listed : {D : Type 0} → (D → Spell) → Listed D → Spell
 listed f none ts = Some ts
 listed f (last d) ts = f d ts
 listed f (more d ds) ts = f d ts >> (mark COMMA ▸ listed f ds)
 
+-- the parts alone
 abbrev pub items_of : {D : Type 0} → Listed D → List D
 items_of none = []
 items_of (last d) = d ∷ []

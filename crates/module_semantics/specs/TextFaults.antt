@@ -56,5 +56,6 @@ pub record BreaksNames (text : List ℕ) (f : TextFault) : Type 0 where
   pub first : first_broken items ≡ Some broken
   pub is : f ≡ fault_at text broken.at broken.word
 
+-- the first fault of a text
 abbrev pub IsFault : List ℕ → TextFault → Type 0
 IsFault text f = IsNoText text f ⊎ HasNoTokens text f ⊎ LeavesGrammar text f ⊎ GoesTooDeep text f ⊎ BreaksNames text f
