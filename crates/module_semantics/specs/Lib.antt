@@ -1,0 +1,5 @@
+pub mod Values
+pub mod Scope
+pub mod Evaluation
+pub mod Bodies
+pub mod Modules
