@@ -3,3 +3,5 @@ pub mod Scope
 pub mod Evaluation
 pub mod Bodies
 pub mod Modules
+pub mod Progress
+pub mod Examples

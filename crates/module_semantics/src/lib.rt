@@ -7,5 +7,11 @@
 #![tactic(auto)]
 
 mod evaluation;
+mod evaluation_examples;
+mod evaluation_laws;
 
 pub use evaluation::{Env, ModParam, Registered};
+pub use evaluation_examples::{numbers_are_whole_and_in_range, texts_are_joined};
+pub use evaluation_laws::{
+    a_fault_ends_all, bags_stay_small, variables_are_the_declared_names, what_was_made_stays,
+};
