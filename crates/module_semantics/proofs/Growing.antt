@@ -97,12 +97,12 @@ body_small (s, fault) h = h
 pub body_bag : (code : HandlerTree) (env : List (List ℕ × Slot)) (mods : List ModParam) (bag : List (List ℕ × Value)) → IsSmall bag → IsSmall (body_run code env mods bag).bag
 body_bag code env mods bag few =
     body_small (run_all (record { imports = []; mods = mods }) code.body (opening env bag))
-      (statements_keep (λ n. Unit {0}) (λ s. IsSmall s.bag) small (record { imports = []; mods = mods }) code.body (opening env bag) few)
+    (statements_keep (λ n. Unit {0}) (λ s. IsSmall s.bag) small (record { imports = []; mods = mods }) code.body (opening env bag) few)
 
 pub host_bag : (label : List ℕ) (number : ℕ) (bag : List (List ℕ × Value)) → IsSmall bag → IsSmall (host_ran label number bag).bag
 host_bag label number bag few =
     body_small (host_progress label number bag)
-      (kept_small (codes "host") (record (opening [] bag) { lines = host_line label number ∷ [] }) (Num (pos number)) (has_room (codes "host") bag) refl few)
+    (kept_small (codes "host") (record (opening [] bag) { lines = host_line label number ∷ [] }) (Num (pos number)) (has_room (codes "host") bag) refl few)
 
 module_small : (p : Progress) → IsSmall p.0.bag → IsSmall (evaluated_of p).bag
 module_small (s, fault) h = h
@@ -110,7 +110,7 @@ module_small (s, fault) h = h
 pub module_bag : (m : ModuleTree) (imports : List (List ℕ × Slot)) (bag : List (List ℕ × Value)) → IsSmall bag → IsSmall (module_run m imports bag).bag
 module_bag m imports bag few =
     module_small (items_run (record { imports = imports; mods = [] }) m (opening (unset (declared_names m)) bag))
-      (items_keep (λ n. Unit {0}) (λ s. IsSmall s.bag) small (record { imports = imports; mods = [] }) m (opening (unset (declared_names m)) bag) (each_unit (declared_names m)) few)
+    (items_keep (λ n. Unit {0}) (λ s. IsSmall s.bag) small (record { imports = imports; mods = [] }) m (opening (unset (declared_names m)) bag) (each_unit (declared_names m)) few)
 
 -- the variables
 assigned_names : (ns : List (List ℕ)) (n : List ℕ) (s : State) (v : Value) (at : Option Slot) → entry_at n s.vars ≡ at → names_of s.vars ≡ ns → names_of (assign_slot n s v at).0.vars ≡ ns
@@ -158,5 +158,5 @@ module_names (s, fault) ns h = h
 pub module_vars : (m : ModuleTree) (imports : List (List ℕ × Slot)) (bag : List (List ℕ × Value)) → names_of (module_run m imports bag).vars ≡ declared_names m
 module_vars m imports bag =
     module_names (items_run (record { imports = imports; mods = [] }) m (opening (unset (declared_names m)) bag)) (declared_names m)
-      (items_keep (λ n. has_name n (declared_names m) ≡ true) (λ s. names_of s.vars ≡ declared_names m) (named (declared_names m))
-        (record { imports = imports; mods = [] }) m (opening (unset (declared_names m)) bag) (each_there [] (declared_names m)) (unset_names (declared_names m)))
+    (items_keep (λ n. has_name n (declared_names m) ≡ true) (λ s. names_of s.vars ≡ declared_names m) (named (declared_names m))
+    (record { imports = imports; mods = [] }) m (opening (unset (declared_names m)) bag) (each_there [] (declared_names m)) (unset_names (declared_names m)))

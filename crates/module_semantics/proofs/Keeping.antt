@@ -60,7 +60,7 @@ module _ (declares : List ℕ → Type 0) (fact : State → Type 0) (k : IsKept 
     run_keeps c (tree.invalidate e) s h = invalidate_keeps c s e h
     run_keeps c (tree.branch cond first second) s h =
         result_keeps s (holds (scope_of c s) cond) (λ b. if b then run_all c first s else run_all c second s) h
-          (λ b. choice_keeps b (run_all c first s) (run_all c second s) (all_keeps c first s h) (all_keeps c second s h))
+        (λ b. choice_keeps b (run_all c first s) (run_all c second s) (all_keeps c first s h) (all_keeps c second s h))
 
     all_keeps : (c : Context) (ts : StmtTrees) (s : State) → fact s → fact (run_all c ts s).0
     all_keeps c tree.no_stmts s h = h
@@ -91,7 +91,7 @@ module _ (declares : List ℕ → Type 0) (fact : State → Type 0) (k : IsKept 
   items_keep c [] s all h = h
   items_keep c (i ∷ is) s all h =
       next_keeps (item_run c i s) (λ t. items_run c is t) (item_keeps c i s (each_front declares (declared_by i) (declared_names is) all) h)
-        (λ t j. items_keep c is t (each_back declares (declared_by i) (declared_names is) all) j)
+      (λ t j. items_keep c is t (each_back declares (declared_by i) (declared_names is) all) j)
 
 -- what comes after, in turn
 pub next_next : (p : Progress) (f g : State → Progress) → next (next p f) g ≡ next p (λ t. next (f t) g)

@@ -12,47 +12,31 @@ ghost use Rattle.module_semantics.specs.Progress.{Extends, IsSmall, names_of};
 /// What stands later runs on what the earlier left, and not at all after a fault; so what came before
 /// a fault stays.
 pub fn a_fault_ends_all()
-    ensures statements {
-        (c : Context) (xs ys : List StmtTree) (s : State)
-        → run_all c (stmts (xs ++ ys)) s ≡ next (run_all c (stmts xs) s) (λ t. run_all c (stmts ys) t)
-    }
-    ensures items {
-        (c : Context) (xs ys : ModuleTree) (s : State)
-        → items_run c (xs ++ ys) s ≡ next (items_run c xs s) (λ t. items_run c ys t)
-    }
-{
-}
+    ensures statements { (c : Context) (xs ys : List StmtTree) (s : State)
+        → run_all c (stmts (xs ++ ys)) s ≡ next (run_all c (stmts xs) s) (λ t. run_all c (stmts ys) t) }
+    ensures items { (c : Context) (xs ys : ModuleTree) (s : State)
+        → items_run c (xs ++ ys) s ≡ next (items_run c xs s) (λ t. items_run c ys t) }
+{}
 
 /// Nothing that was made is taken back, with or without a fault: lines, changes, invalidations and
 /// registrations grow at their end, and each variable and each key keeps its place.
 pub fn what_was_made_stays()
     ensures statements { (c : Context) (ts : StmtTrees) (s : State) → Extends s (run_all c ts s).0 }
     ensures items { (c : Context) (m : ModuleTree) (s : State) → Extends s (items_run c m s).0 }
-{
-}
+{}
 
 /// The variables of a module are its declared names, in order, whether or not a fault came.
 pub fn variables_are_the_declared_names()
-    ensures {
-        (m : ModuleTree) (imports : List (List ℕ × Slot)) (bag : List (List ℕ × Value))
-        → names_of (module_run m imports bag).vars ≡ declared_names m
-    }
-{
-}
+    ensures { (m : ModuleTree) (imports : List (List ℕ × Slot)) (bag : List (List ℕ × Value))
+        → names_of (module_run m imports bag).vars ≡ declared_names m }
+{}
 
 /// A bag of at most 64 keys is left with at most 64.
 pub fn bags_stay_small()
-    ensures modules {
-        (m : ModuleTree) (imports : List (List ℕ × Slot)) (bag : List (List ℕ × Value))
-        → IsSmall bag → IsSmall (module_run m imports bag).bag
-    }
-    ensures bodies {
-        (code : HandlerTree) (env : List (List ℕ × Slot)) (mods : List ModParam)
-        (bag : List (List ℕ × Value)) → IsSmall bag → IsSmall (body_run code env mods bag).bag
-    }
-    ensures hosts {
-        (label : List ℕ) (number : ℕ) (bag : List (List ℕ × Value))
-        → IsSmall bag → IsSmall (host_ran label number bag).bag
-    }
-{
-}
+    ensures modules { (m : ModuleTree) (imports : List (List ℕ × Slot)) (bag : List (List ℕ × Value))
+        → IsSmall bag → IsSmall (module_run m imports bag).bag }
+    ensures bodies { (code : HandlerTree) (env : List (List ℕ × Slot)) (mods : List ModParam)
+        (bag : List (List ℕ × Value)) → IsSmall bag → IsSmall (body_run code env mods bag).bag }
+    ensures hosts { (label : List ℕ) (number : ℕ) (bag : List (List ℕ × Value))
+        → IsSmall bag → IsSmall (host_ran label number bag).bag }
+{}

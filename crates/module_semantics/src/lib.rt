@@ -11,7 +11,11 @@ mod evaluation_examples;
 mod evaluation_laws;
 
 pub use evaluation::{Env, ModParam, Registered};
-pub use evaluation_examples::{numbers_are_whole_and_in_range, texts_are_joined};
+pub use evaluation_examples::{
+    faults_of_bodies, faults_of_modules, handlers_register_in_order, imports_stand_still,
+    keys_keep_their_order, lines, members_and_keys, numbers_are_whole_and_in_range,
+    only_what_is_wanted_is_evaluated, texts_are_joined,
+};
 pub use evaluation_laws::{
     a_fault_ends_all, bags_stay_small, variables_are_the_declared_names, what_was_made_stays,
 };
