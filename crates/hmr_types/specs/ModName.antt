@@ -1,6 +1,6 @@
 -- What the name of a module is: a slash, and segments with a slash between each two.
-use Rattle.std.specs.Prelude.{ℕ, List, [], ◌∷◌, length, Bool, false, not, ◌&&◌, ◌||◌, ◌==◌, nat_le, if◌then◌else◌}
-use Rattle.std.specs.List.{list_all}
+use Rattle.std.specs.Prelude.{ℕ, List, [], ◌∷◌, length, Bool, true, false, not, ◌&&◌, ◌||◌, ◌==◌, nat_le}
+use Rattle.std.specs.List.{list_all, slice_split}
 
 -- the slash
 abbrev pub slash : ℕ
@@ -10,6 +10,10 @@ slash = 47
 abbrev pub dot : ℕ
 dot = 46
 
+-- the parts of a text between its slashes, one more than it has slashes
+abbrev pub parts : List ℕ → List (List ℕ)
+parts = slice_split (λ b. b == slash)
+
 abbrev pub between : ℕ → ℕ → ℕ → Bool
 between low high b = nat_le low b && nat_le b high
 
@@ -17,27 +21,16 @@ between low high b = nat_le low b && nat_le b high
 unfoldable pub is_segment_byte : ℕ → Bool
 is_segment_byte b = between 65 90 b || between 97 122 b || between 48 57 b || (b == 95) || (b == 46) || (b == 45)
 
--- `.` or `..`
+-- nothing, `.` or `..`
 abbrev pub is_dots : List ℕ → Bool
-is_dots [] = false
+is_dots [] = true
 is_dots (a ∷ []) = a == dot
 is_dots (a ∷ (b ∷ [])) = (a == dot) && (b == dot)
 is_dots (a ∷ (b ∷ (c ∷ more))) = false
 
 -- one byte or more of a segment, other than `.` and `..`
 abbrev pub is_segment : List ℕ → Bool
-is_segment [] = false
-is_segment (b ∷ bs) = list_all is_segment_byte (b ∷ bs) && not (is_dots (b ∷ bs))
-
--- the byte before the first of the parts
-abbrev pub in_first : ℕ → List (List ℕ) → List (List ℕ)
-in_first b [] = (b ∷ []) ∷ []
-in_first b (part ∷ more) = (b ∷ part) ∷ more
-
--- the parts of a text between its slashes, one more than it has slashes
-abbrev pub parts : List ℕ → List (List ℕ)
-parts [] = [] ∷ []
-parts (b ∷ bs) = if b == slash then [] ∷ parts bs else in_first b (parts bs)
+is_segment s = list_all is_segment_byte s && not (is_dots s)
 
 -- at most 255 bytes: a slash, and then parts that are segments
 abbrev pub is_name : List ℕ → Bool

@@ -2,7 +2,7 @@
 use crate::{ModName, Name, Sequence};
 
 /// What static analysis tells of a module.
-#[derive(Drop)]
+#[derive(Clone, Debug, Drop, Eq, PartialEq)]
 pub struct Analysis {
     /// The names of the modules that it imports, in the order of their first occurrence.
     pub imports: Sequence<ModName>,
@@ -48,7 +48,7 @@ pub struct TextFault {
 }
 
 /// The result of transforming a module text.
-#[derive(Drop)]
+#[derive(Clone, Debug, Drop, Eq, PartialEq)]
 pub enum Outcome {
     /// The text is a module, with this analysis.
     Good(Analysis),

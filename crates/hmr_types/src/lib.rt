@@ -17,7 +17,7 @@ mod value;
 mod words;
 
 pub use analysis::{Analysis, FaultWord, Outcome, TextFault};
-pub use mod_name::ModName;
+pub use mod_name::{ModName, NameFault, is_name};
 pub use out_line::OutLine;
 pub use sequence::Sequence;
 pub use text::{Name, Text};

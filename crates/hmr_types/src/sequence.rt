@@ -1,12 +1,14 @@
 // A vector which contracts see as the list of its elements. A bare `Vec` in a compared type would
 // show its capacity and its pointer to contracts; this type shows the list alone.
+ghost use Rattle.std.specs.Cmp.Lexicographic.{lists_equiv, lists_per, pointwise};
+ghost use Rattle.std.specs.List.{AllZip};
 ghost use Rattle.std.specs.Prelude.{◌≡◌, []};
 
-use std::alloc::Global;
+use std::alloc::{AllocError, Global};
 use std::marker::Model;
 
 /// A vector which contracts see as the list of its elements.
-#[derive(Drop)]
+#[derive(Debug, Drop)]
 pub struct Sequence<T> {
     items: Vec<T>,
 }
@@ -49,4 +51,27 @@ impl<T> Sequence<T> {
     {
         &self.items
     }
+}
+
+impl<T: Clone> Clone for Sequence<T> {
+    ghost is_clone = { AllZip T.is_clone };
+
+    fn clone(&self) -> Result<Self, AllocError> {
+        let items = self.items.clone()?;
+        Ok(Sequence { items })
+    }
+}
+
+impl<T: PartialEq> PartialEq for Sequence<T> {
+    ghost eq = { pointwise T.eq };
+
+    ghost laws = { lists_per T.laws };
+
+    fn eq(&self, other: &Self) -> bool {
+        self.items == other.items
+    }
+}
+
+impl<T: Eq> Eq for Sequence<T> {
+    ghost laws = { lists_equiv T.Eq.laws };
 }

@@ -2,7 +2,7 @@
 use crate::{Name, Text};
 
 /// A value of the module language. A number is whole, within plus or minus 9007199254740991.
-#[derive(Drop)]
+#[derive(Clone, Debug, Drop, Eq, PartialEq)]
 pub enum Value {
     Num(i64),
     Str(Text),
@@ -10,14 +10,14 @@ pub enum Value {
 }
 
 /// What a variable holds: nothing until its declaration was evaluated, then a value.
-#[derive(Drop)]
+#[derive(Clone, Debug, Drop, Eq, PartialEq)]
 pub enum Slot {
     Unset,
     Val(Value),
 }
 
 /// Why an evaluation or a handler's body ended early.
-#[derive(Drop)]
+#[derive(Clone, Debug, Drop, Eq, PartialEq)]
 pub enum EvalFault {
     /// A variable or an import of this name was read or assigned before it had a value.
     Uninitialised(Name),
