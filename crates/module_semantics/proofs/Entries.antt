@@ -1,12 +1,16 @@
 -- What a new value at a name leaves of the entries.
-use Rattle.std.proofs.Common.{◌≡◌, ◌≤◌, ◌<◌, ◌+◌, ℕ, suc, Bool, true, false, if◌then◌else◌, List, [], ◌∷◌, ◌++◌, length, map, refl, ap, sym, ◌∙◌, arith, append_assoc, Some, None, Option}
+use Rattle.std.proofs.Common.{◌≡◌, ◌≤◌, ◌<◌, ◌+◌, ℕ, suc, Bool, true, false, if◌then◌else◌, List, [], ◌∷◌, ◌++◌, length, refl, ap, sym, ◌∙◌, arith, append_assoc, Some, None}
 use Rattle.std.specs.Prelude.{bytes_eq, is_some, ◌||◌, nat_lt}
 use Rattle.std.specs.Cmp.Lexicographic.{same_text}
-use Rattle.std.specs.List.{list_any}
-use Rattle.std.proofs.lemmas.List.{append-nil, length-map}
+use Rattle.std.specs.Prelude.{not, nat_le, slice_set, cond, position}
+use Rattle.std.specs.List.{position_or_len}
+use Rattle.std.proofs.lemmas.Bool.{true≢false, not-true, and_parts, and_from, le-leb, ltb-true, ltb-false}
+use Rattle.std.proofs.lemmas.List.Recursion.{is_position_or_len}
+use Rattle.std.proofs.lemmas.Cmp.{nat_list_eq_equiv}
+use Rattle.std.proofs.lemmas.List.{append-nil, length-map, length-append, map-append}
 use Rattle.std.proofs.lemmas.Bool.Decides.{nat_tests}
-use Rattle.module_semantics.specs.Scope.{entry_at, with_entry}
-use Rattle.module_semantics.specs.Progress.{Continues, names_of}
+use Rattle.module_semantics.specs.Entries.{entry_at, with_entry, names_of, has_name, are_different, is_bag, has_room}
+use Rattle.module_semantics.specs.Progress.{Continues}
 
 -- a list goes on from itself
 pub continues_itself : {A : Type 0} (xs : List A) → Continues xs xs
@@ -32,10 +36,6 @@ unfolding with_entry
 names_continue name v [] = (name ∷ [], refl)
 names_continue name v (e ∷ es) = names_step name v e es (bytes_eq e.0 name) refl (names_continue name v es)
 
--- whether a name is one of the names
-abbrev pub has_name : List ℕ → List (List ℕ) → Bool
-has_name name ns = list_any (λ n. bytes_eq n name) ns
-
 stay_step : {V : Type 0} (name : List ℕ) (v : V) (e : List ℕ × V) (es : List (List ℕ × V)) (b : Bool) → bytes_eq e.0 name ≡ b
     → (has_name name (names_of es) ≡ true → names_of (with_entry name v es) ≡ names_of es)
     → (b || has_name name (names_of es)) ≡ true → names_of (if b then (name, v) ∷ es else e ∷ with_entry name v es) ≡ names_of (e ∷ es)
@@ -49,36 +49,129 @@ names_stay name v [] h = cc
 names_stay name v (e ∷ es) h = stay_step name v e es (bytes_eq e.0 name) refl (names_stay name v es) h
 
 found_step : {V : Type 0} (name : List ℕ) (e : List ℕ × V) (es : List (List ℕ × V)) (b : Bool)
-    → (is_some (entry_at name es) ≡ true → has_name name (names_of es) ≡ true)
-    → is_some (if b then Some e.1 else entry_at name es) ≡ true → (b || has_name name (names_of es)) ≡ true
-found_step name e es true more h = refl
-found_step name e es false more h = more h
+    → is_some (entry_at name es) ≡ has_name name (names_of es)
+    → is_some (if b then Some e.1 else entry_at name es) ≡ (b || has_name name (names_of es))
+found_step name e es true more = refl
+found_step name e es false more = more
 
--- a name at which something is found is there
-pub found_there : {V : Type 0} (name : List ℕ) (es : List (List ℕ × V)) → is_some (entry_at name es) ≡ true → has_name name (names_of es) ≡ true
+-- something is found exactly where the name is there
+pub found_is : {V : Type 0} (name : List ℕ) (es : List (List ℕ × V)) → is_some (entry_at name es) ≡ has_name name (names_of es)
 unfolding entry_at
-found_there name [] h = h
-found_there name (e ∷ es) h = found_step name e es (bytes_eq e.0 name) (found_there name es) h
+found_is name [] = refl
+found_is name (e ∷ es) = found_step name e es (bytes_eq e.0 name) (found_is name es)
 
-one_step : {V : Type 0} (name : List ℕ) (v : V) (e : List ℕ × V) (es : List (List ℕ × V)) (b : Bool) → length (with_entry name v es) ≤ suc (length es)
-    → length (if b then (name, v) ∷ es else e ∷ with_entry name v es) ≤ suc (suc (length es))
-one_step name v e es true more = omega arith
-one_step name v e es false more = omega arith
+append_step : {V : Type 0} (name : List ℕ) (v : V) (e : List ℕ × V) (es : List (List ℕ × V)) (b : Bool)
+    → (has_name name (names_of es) ≡ false → with_entry name v es ≡ es ++ (name, v) ∷ [])
+    → (b || has_name name (names_of es)) ≡ false → (if b then (name, v) ∷ es else e ∷ with_entry name v es) ≡ e ∷ (es ++ (name, v) ∷ [])
+append_step name v e es true more h = cc
+append_step name v e es false more h = ap (λ l. e ∷ l) (more h)
 
--- at most one entry is added
-pub one_more : {V : Type 0} (name : List ℕ) (v : V) (es : List (List ℕ × V)) → length (with_entry name v es) ≤ suc (length es)
+-- a new name stands last
+pub new_stands_last : {V : Type 0} (name : List ℕ) (v : V) (es : List (List ℕ × V)) → has_name name (names_of es) ≡ false → with_entry name v es ≡ es ++ (name, v) ∷ []
 unfolding with_entry
-one_more name v [] = omega arith
-one_more name v (e ∷ es) = one_step name v e es (bytes_eq e.0 name) (one_more name v es)
+new_stands_last name v [] h = refl
+new_stands_last name v (e ∷ es) h = append_step name v e es (bytes_eq e.0 name) (new_stands_last name v es) h
 
-room_step : {V : Type 0} (name : List ℕ) (v : V) (es : List (List ℕ × V)) (most : ℕ) (b : Bool) → is_some (entry_at name es) ≡ b
-    → (b || nat_lt (length es) most) ≡ true → length es ≤ most → length (with_entry name v es) ≤ most
-room_step name v es most true is room few =
-    let there : names_of (with_entry name v es) ≡ names_of es = names_stay name v es (found_there name es is) in
-    let same : length (with_entry name v es) ≡ length es = sym (length-map (with_entry name v es) (λ e. e.0)) ∙ ap length there ∙ length-map es (λ e. e.0) in
-    omega arith
-room_step name v es most false is room few = grind (arith, nat_tests, one_more name v es)
+or_parts : (a b : Bool) → (a || b) ≡ false → (a ≡ false) × (b ≡ false)
+or_parts true b h = absurd (true≢false h)
+or_parts false b h = (refl, h)
 
--- where there is room the entries stay as few
-pub stays_small : {V : Type 0} (name : List ℕ) (v : V) (es : List (List ℕ × V)) (most : ℕ) → (is_some (entry_at name es) || nat_lt (length es) most) ≡ true → length es ≤ most → length (with_entry name v es) ≤ most
-stays_small name v es most room few = room_step name v es most (is_some (entry_at name es)) refl room few
+or_from : (a b : Bool) → a ≡ false → b ≡ false → (a || b) ≡ false
+or_from true b h i = h
+or_from false b h i = i
+
+-- a name that differs from each stays apart from them and one more
+apart_push : (m n : List ℕ) (ns : List (List ℕ)) → has_name m ns ≡ false → bytes_eq n m ≡ false → has_name m (ns ++ n ∷ []) ≡ false
+apart_push m n [] h other = or_from (bytes_eq n m) false other refl
+apart_push m n (k ∷ ns) h other =
+    let parts = or_parts (bytes_eq k m) (has_name m ns) h in
+    or_from (bytes_eq k m) (has_name m (ns ++ n ∷ [])) parts.0 (apart_push m n ns parts.1 other)
+
+-- different names and one more
+pub different_push : (ns : List (List ℕ)) (n : List ℕ) → are_different ns ≡ true → has_name n ns ≡ false → are_different (ns ++ n ∷ []) ≡ true
+different_push [] n all new = refl
+different_push (m ∷ ns) n all new =
+    let both = and_parts (not (has_name m ns)) (are_different ns) all in
+    let parts = or_parts (bytes_eq m n) (has_name n ns) new in
+    let other : bytes_eq n m ≡ false = nat_list_eq_equiv.symm n m ∙ parts.0 in
+    and_from (not (has_name m (ns ++ n ∷ []))) (are_different (ns ++ n ∷ []))
+    (ap not (apart_push m n ns (not-true (has_name m ns) both.0) other)) (different_push ns n both.1 parts.1)
+
+old_bag : {V : Type 0} (key : List ℕ) (v : V) (es : List (List ℕ × V)) → has_name key (names_of es) ≡ true → is_bag es ≡ true → is_bag (with_entry key v es) ≡ true
+old_bag key v es there bag =
+    let names : names_of (with_entry key v es) ≡ names_of es = names_stay key v es there in
+    let same : length (with_entry key v es) ≡ length es = sym (length-map (with_entry key v es) (λ e. e.0)) ∙ ap length names ∙ length-map es (λ e. e.0) in
+    let both = and_parts (nat_le (length es) 64) (are_different (names_of es)) bag in
+    and_from (nat_le (length (with_entry key v es)) 64) (are_different (names_of (with_entry key v es))) (ap (λ n. nat_le n 64) same ∙ both.0) (ap are_different names ∙ both.1)
+
+new_bag : {V : Type 0} (key : List ℕ) (v : V) (es : List (List ℕ × V)) → has_name key (names_of es) ≡ false → nat_lt (length es) 64 ≡ true → is_bag es ≡ true → is_bag (with_entry key v es) ≡ true
+new_bag key v es new room bag =
+    let last : with_entry key v es ≡ es ++ (key, v) ∷ [] = new_stands_last key v es new in
+    let both = and_parts (nat_le (length es) 64) (are_different (names_of es)) bag in
+    let long : length (with_entry key v es) ≤ 64 = grind (arith, nat_tests, ap length last, length-append es ((key, v) ∷ [])) in
+    let names : names_of (with_entry key v es) ≡ names_of es ++ key ∷ [] = ap names_of last ∙ map-append (λ e. e.0) es ((key, v) ∷ []) in
+    and_from (nat_le (length (with_entry key v es)) 64) (are_different (names_of (with_entry key v es))) (le-leb (length (with_entry key v es)) 64 long)
+    (ap are_different names ∙ different_push (names_of es) key both.1 new)
+
+bag_step : {V : Type 0} (key : List ℕ) (v : V) (es : List (List ℕ × V)) (b : Bool) → has_name key (names_of es) ≡ b
+    → (b || nat_lt (length es) 64) ≡ true → is_bag es ≡ true → is_bag (with_entry key v es) ≡ true
+bag_step key v es true is room bag = old_bag key v es is bag
+bag_step key v es false is room bag = new_bag key v es is room bag
+
+-- a bag with room stays one
+pub bag_stays : {V : Type 0} (key : List ℕ) (v : V) (es : List (List ℕ × V)) → has_room key es ≡ true → is_bag es ≡ true → is_bag (with_entry key v es) ≡ true
+bag_stays key v es room bag = bag_step key v es (has_name key (names_of es)) refl (ap (λ b. b || nat_lt (length es) 64) (sym (found_is key es)) ∙ room) bag
+
+-- the first place of a key, or the length
+abbrev place : {V : Type 0} → List ℕ → List (List ℕ × V) → ℕ
+place key [] = 0
+place key (e ∷ es) = cond (bytes_eq e.0 key) 0 (1 + place key es)
+
+place_is : {V : Type 0} (key : List ℕ) (es : List (List ℕ × V)) → place key es ≡ position_or_len (λ e. bytes_eq e.0 key) es
+place_is key es = is_position_or_len (place key) (λ e. bytes_eq e.0 key) refl (λ e es. refl) es
+
+place_step : {V : Type 0} (key : List ℕ) (v : V) (e : List ℕ × V) (es : List (List ℕ × V)) (b : Bool)
+    → (place key es < length es → with_entry key v es ≡ slice_set es (place key es) (key, v))
+    → cond b 0 (1 + place key es) < suc (length es)
+    → (if b then (key, v) ∷ es else e ∷ with_entry key v es) ≡ slice_set (e ∷ es) (cond b 0 (1 + place key es)) (key, v)
+place_step key v e es true more h = refl
+place_step key v e es false more h =
+    let next : 1 + place key es ≡ suc (place key es) = omega arith in
+    rw next (ap (λ l. e ∷ l) (more (omega arith)))
+
+in_place : {V : Type 0} (key : List ℕ) (v : V) (es : List (List ℕ × V)) → place key es < length es → with_entry key v es ≡ slice_set es (place key es) (key, v)
+unfolding with_entry
+in_place key v [] h = absurd (omega arith)
+in_place key v (e ∷ es) h = place_step key v e es (bytes_eq e.0 key) (in_place key v es) h
+
+new_step : {V : Type 0} (key : List ℕ) (es : List (List ℕ × V)) (b : Bool)
+    → (length es ≤ place key es → has_name key (names_of es) ≡ false)
+    → suc (length es) ≤ cond b 0 (1 + place key es) → (b || has_name key (names_of es)) ≡ false
+new_step key es true more h = absurd (omega arith)
+new_step key es false more h = more (omega arith)
+
+no_place : {V : Type 0} (key : List ℕ) (es : List (List ℕ × V)) → length es ≤ place key es → has_name key (names_of es) ≡ false
+no_place key [] h = refl
+no_place key (e ∷ es) h = new_step key es (bytes_eq e.0 key) (no_place key es) h
+
+found_at : (n m at : ℕ) (b : Bool) → nat_lt n m ≡ b → cond b (Some n) None ≡ Some at → (n < m) × (n ≡ at)
+found_at n m at true lt is = (ltb-true n m lt, cc)
+found_at n m at false lt is = absurd (cc)
+
+not_found : (n m : ℕ) (b : Bool) → nat_lt n m ≡ b → cond b (Some n) None ≡ None → m ≤ n
+not_found n m true lt is = absurd (cc)
+not_found n m false lt is = ltb-false n m lt
+
+-- a key that is there keeps its place
+pub known_keeps_place : {V : Type 0} (key : List ℕ) (v : V) (es : List (List ℕ × V)) (at : ℕ) → position (λ e. bytes_eq e.0 key) es ≡ Some at → with_entry key v es ≡ slice_set es at (key, v)
+known_keeps_place key v es at is =
+    let found = found_at (position_or_len (λ e. bytes_eq e.0 key) es) (length es) at _ refl is in
+    let same : place key es ≡ at = place_is key es ∙ found.1 in
+    let below : place key es < length es = omega (arith, place_is key es, found.0) in
+    in_place key v es below ∙ ap (λ n. slice_set es n (key, v)) same
+
+-- a key that has no place is new
+pub unknown_is_new : {V : Type 0} (key : List ℕ) (es : List (List ℕ × V)) → position (λ e. bytes_eq e.0 key) es ≡ None → has_name key (names_of es) ≡ false
+unknown_is_new key es is =
+    let long : length es ≤ position_or_len (λ e. bytes_eq e.0 key) es = not_found (position_or_len (λ e. bytes_eq e.0 key) es) (length es) _ refl is in
+    no_place key es (omega (arith, place_is key es, long))

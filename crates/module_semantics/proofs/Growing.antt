@@ -1,19 +1,19 @@
 -- What an evaluation has made grows, its names are those that are declared, and its bag stays small.
-use Rattle.std.proofs.Common.{◌≡◌, ◌≤◌, ℕ, Bool, true, false, if◌then◌else◌, List, [], ◌∷◌, ◌++◌, length, map, Option, Some, None, refl, ap, sym, ◌∙◌, subst, append_assoc}
+use Rattle.std.proofs.Common.{◌≡◌, ℕ, Bool, true, false, if◌then◌else◌, List, [], ◌∷◌, ◌++◌, Option, Some, None, refl, ap, sym, ◌∙◌, subst, append_assoc}
 use Rattle.std.specs.Prelude.{bytes_eq, is_some, ◌||◌, codes, pos}
 use Rattle.std.specs.Cmp.Lexicographic.{bytes_decides}
-use Rattle.hmr_types.specs.Syntax.{HandlerTree, ItemTree, ModuleTree, StmtTrees}
+use Rattle.hmr_types.specs.Syntax.{HandlerTree, ModuleTree, StmtTrees}
 use Rattle.hmr_types.specs.declared.value.Value.{Value}
 use Rattle.hmr_types.specs.declared.value.Value.TheVariants.{Num}
 use Rattle.hmr_types.specs.declared.value.Slot.{Slot}
 use Rattle.hmr_types.specs.declared.value.EvalFault.TheVariants.{BagFull}
 use Rattle.hmr_types.specs.declared.value.Slot.TheVariants.{Unset, Val}
 use Rattle.module_semantics.specs.declared.evaluation.ModParam.{ModParam}
-use Rattle.module_semantics.specs.Scope.{entry_at, with_entry}
-use Rattle.module_semantics.specs.Bodies.{State, Context, Progress, assign, assign_slot, keep, has_room, run_all, ran_of, opening, body_run, host_ran, host_progress, host_line}
+use Rattle.module_semantics.specs.Entries.{entry_at, with_entry, names_of, has_name, has_room, is_bag}
+use Rattle.module_semantics.specs.Bodies.{State, Context, Progress, assign_slot, run_all, ran_of, opening, body_run, host_ran, host_progress, host_line}
 use Rattle.module_semantics.specs.Modules.{unset, declared_names, items_run, module_run, evaluated_of}
-use Rattle.module_semantics.specs.Progress.{Extends, Continues, names_of, IsSmall}
-use Rattle.module_semantics.proofs.Entries.{continues_itself, continues_more, continues_both, names_continue, names_stay, has_name, found_there, stays_small}
+use Rattle.module_semantics.specs.Progress.{Extends}
+use Rattle.module_semantics.proofs.Entries.{continues_itself, continues_more, continues_both, names_continue, names_stay, found_is, bag_stays}
 use Rattle.module_semantics.proofs.Keeping.{IsKept, Each, statements_keep, items_keep}
 
 pub extends_itself : (s : State) → Extends s s
@@ -71,17 +71,17 @@ pub items_extend : (c : Context) (m : ModuleTree) (s : State) → Extends s (ite
 items_extend c m s = items_keep (λ n. Unit {0}) (Extends s) (grows s) c m s (each_unit (declared_names m)) (extends_itself s)
 
 -- the bag
-kept_small : (k : List ℕ) (s : State) (v : Value) (room : Bool) → has_room k s.bag ≡ room → IsSmall s.bag
-    → IsSmall (if◌then◌else◌ {A = Progress} room (record s { bag = with_entry k v s.bag }, None) (s, Some BagFull)).0.bag
-kept_small k s v true room few = stays_small k v s.bag 64 room few
+kept_small : (k : List ℕ) (s : State) (v : Value) (room : Bool) → has_room k s.bag ≡ room → is_bag s.bag ≡ true
+    → is_bag (if◌then◌else◌ {A = Progress} room (record s { bag = with_entry k v s.bag }, None) (s, Some BagFull)).0.bag ≡ true
+kept_small k s v true room few = bag_stays k v s.bag room few
 kept_small k s v false room few = few
 
-assigned_bag : (n : List ℕ) (s : State) (v : Value) (at : Option Slot) → IsSmall s.bag → IsSmall (assign_slot n s v at).0.bag
+assigned_bag : (n : List ℕ) (s : State) (v : Value) (at : Option Slot) → is_bag s.bag ≡ true → is_bag (assign_slot n s v at).0.bag ≡ true
 assigned_bag n s v (Some (Val old)) h = h
 assigned_bag n s v (Some Unset) h = h
 assigned_bag n s v None h = h
 
-small : IsKept (λ n. Unit {0}) (λ s. IsSmall s.bag)
+small : IsKept (λ n. Unit {0}) (λ s. is_bag s.bag ≡ true)
 small = record {
   line = λ s vs h. h;
   assigned = λ n s v h. assigned_bag n s v (entry_at n s.vars) h;
@@ -91,30 +91,30 @@ small = record {
   registered = λ kind deps what s h. h;
 }
 
-body_small : (p : Progress) → IsSmall p.0.bag → IsSmall (ran_of p).bag
+body_small : (p : Progress) → is_bag p.0.bag ≡ true → is_bag (ran_of p).bag ≡ true
 body_small (s, fault) h = h
 
-pub body_bag : (code : HandlerTree) (env : List (List ℕ × Slot)) (mods : List ModParam) (bag : List (List ℕ × Value)) → IsSmall bag → IsSmall (body_run code env mods bag).bag
+pub body_bag : (code : HandlerTree) (env : List (List ℕ × Slot)) (mods : List ModParam) (bag : List (List ℕ × Value)) → is_bag bag ≡ true → is_bag (body_run code env mods bag).bag ≡ true
 body_bag code env mods bag few =
     body_small (run_all (record { imports = []; mods = mods }) code.body (opening env bag))
-    (statements_keep (λ n. Unit {0}) (λ s. IsSmall s.bag) small (record { imports = []; mods = mods }) code.body (opening env bag) few)
+    (statements_keep (λ n. Unit {0}) (λ s. is_bag s.bag ≡ true) small (record { imports = []; mods = mods }) code.body (opening env bag) few)
 
-pub host_bag : (label : List ℕ) (number : ℕ) (bag : List (List ℕ × Value)) → IsSmall bag → IsSmall (host_ran label number bag).bag
+pub host_bag : (label : List ℕ) (number : ℕ) (bag : List (List ℕ × Value)) → is_bag bag ≡ true → is_bag (host_ran label number bag).bag ≡ true
 host_bag label number bag few =
     body_small (host_progress label number bag)
     (kept_small (codes "host") (record (opening [] bag) { lines = host_line label number ∷ [] }) (Num (pos number)) (has_room (codes "host") bag) refl few)
 
-module_small : (p : Progress) → IsSmall p.0.bag → IsSmall (evaluated_of p).bag
+module_small : (p : Progress) → is_bag p.0.bag ≡ true → is_bag (evaluated_of p).bag ≡ true
 module_small (s, fault) h = h
 
-pub module_bag : (m : ModuleTree) (imports : List (List ℕ × Slot)) (bag : List (List ℕ × Value)) → IsSmall bag → IsSmall (module_run m imports bag).bag
+pub module_bag : (m : ModuleTree) (imports : List (List ℕ × Slot)) (bag : List (List ℕ × Value)) → is_bag bag ≡ true → is_bag (module_run m imports bag).bag ≡ true
 module_bag m imports bag few =
     module_small (items_run (record { imports = imports; mods = [] }) m (opening (unset (declared_names m)) bag))
-    (items_keep (λ n. Unit {0}) (λ s. IsSmall s.bag) small (record { imports = imports; mods = [] }) m (opening (unset (declared_names m)) bag) (each_unit (declared_names m)) few)
+    (items_keep (λ n. Unit {0}) (λ s. is_bag s.bag ≡ true) small (record { imports = imports; mods = [] }) m (opening (unset (declared_names m)) bag) (each_unit (declared_names m)) few)
 
 -- the variables
 assigned_names : (ns : List (List ℕ)) (n : List ℕ) (s : State) (v : Value) (at : Option Slot) → entry_at n s.vars ≡ at → names_of s.vars ≡ ns → names_of (assign_slot n s v at).0.vars ≡ ns
-assigned_names ns n s v (Some (Val old)) found h = names_stay n (Val v) s.vars (found_there n s.vars (ap is_some found)) ∙ h
+assigned_names ns n s v (Some (Val old)) found h = names_stay n (Val v) s.vars (sym (found_is n s.vars) ∙ ap is_some found) ∙ h
 assigned_names ns n s v (Some Unset) found h = h
 assigned_names ns n s v None found h = h
 

@@ -1,5 +1,5 @@
 -- What each single step of an evaluation keeps, all of it keeps.
-use Rattle.std.proofs.Common.{◌≡◌, ℕ, Bool, true, false, if◌then◌else◌, List, [], ◌∷◌, ◌++◌, Result, Ok, Err, Option, Some, None, refl, ap, sym, ◌∙◌}
+use Rattle.std.proofs.Common.{◌≡◌, ℕ, Bool, true, false, if◌then◌else◌, List, [], ◌∷◌, ◌++◌, Result, Ok, Err, Option, Some, None, refl, sym, ◌∙◌}
 use Rattle.hmr_types.specs.Syntax as tree
 use Rattle.hmr_types.specs.Syntax.{ExprTree, StmtTree, StmtTrees, HandlerTree, OnceTree, ItemTree, ModuleTree}
 use Rattle.hmr_types.specs.Tree.{stmts}

@@ -1,6 +1,5 @@
 -- What statements do, and what a handler's body leaves.
-use Rattle.std.specs.Prelude.{ℕ, pos, Bool, true, false, nat_lt, if◌then◌else◌, List, [], ◌∷◌, ◌++◌, length, codes, decimal, Option, Some, None, Result, Ok, Err, slice_get, is_some, ◌||◌}
-use Rattle.hmr_types.specs.declared.limits.TheConstants.{BAG_KEYS}
+use Rattle.std.specs.Prelude.{ℕ, pos, Bool, true, false, if◌then◌else◌, List, [], ◌∷◌, ◌++◌, codes, decimal, Option, Some, None, Result, Ok, Err, slice_get}
 use Rattle.hmr_types.specs.Syntax as tree
 use Rattle.hmr_types.specs.Syntax.{ExprTree, CondTree, StmtTree, StmtTrees, HandlerTree, OnceTree}
 use Rattle.hmr_types.specs.Tree.{once_of}
@@ -15,7 +14,8 @@ use Rattle.module_semantics.specs.declared.evaluation.ModParam.{ModParam}
 use Rattle.module_semantics.specs.declared.evaluation.ModParam.TheVariants as params
 use Rattle.module_semantics.specs.declared.evaluation.Registered.{Registered}
 use Rattle.module_semantics.specs.Values.{written, truth, ◌>>=◌}
-use Rattle.module_semantics.specs.Scope.{Scope, entry_at, with_entry}
+use Rattle.module_semantics.specs.Scope.{Scope}
+use Rattle.module_semantics.specs.Entries.{entry_at, with_entry, has_room}
 use Rattle.module_semantics.specs.Evaluation.{value_of, values_of}
 
 -- a handler that was registered, as plain data
@@ -81,10 +81,7 @@ assign_slot n s v None = (s, Some (Uninitialised n))
 abbrev pub assign : List ℕ → State → Value → Progress
 assign n s v = assign_slot n s v (entry_at n s.vars)
 
--- whether a bag takes a value at a key: it has the key, or holds fewer than 64
-abbrev pub has_room : List ℕ → List (List ℕ × Value) → Bool
-has_room key bag = is_some (entry_at key bag) || nat_lt (length bag) BAG_KEYS
-
+-- a new key needs room
 abbrev pub keep : List ℕ → State → Value → Progress
 keep key s v = if has_room key s.bag then (record s { bag = with_entry key v s.bag }, None) else (s, Some BagFull)
 

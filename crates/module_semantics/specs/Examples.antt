@@ -1,5 +1,5 @@
 -- Small trees, to be evaluated.
-use Rattle.std.specs.Prelude.{ℕ, zero, suc, pos, Bool, true, false, List, [], ◌∷◌, ◌++◌, replicate, codes, Option, Some, None, Result}
+use Rattle.std.specs.Prelude.{ℕ, zero, suc, pos, true, List, [], ◌∷◌, ◌++◌, replicate, codes, Some, None, Result}
 use Rattle.hmr_types.specs.Syntax as tree
 use Rattle.hmr_types.specs.Syntax.{ExprTree, StmtTree, StmtTrees, ItemTree, ModuleTree, HandlerTree}
 use Rattle.hmr_types.specs.Tree.{stmts}
@@ -9,8 +9,6 @@ use Rattle.hmr_types.specs.declared.value.Slot.{Slot}
 use Rattle.hmr_types.specs.declared.value.Slot.TheVariants.{Unset, Val}
 use Rattle.hmr_types.specs.declared.words.Kind.TheVariants.{Dispose}
 use Rattle.hmr_types.specs.declared.value.EvalFault.{EvalFault}
-use Rattle.hmr_types.specs.declared.tree.Op.TheVariants.{Add, Sub, Mul, Null}
-use Rattle.hmr_types.specs.declared.tree.ImportName.{ImportName}
 use Rattle.module_semantics.specs.declared.evaluation.ModParam.{ModParam}
 use Rattle.module_semantics.specs.declared.evaluation.ModParam.TheVariants as params
 use Rattle.module_semantics.specs.Scope.{Scope}

@@ -1,4 +1,5 @@
 pub mod Values
+pub mod Entries
 pub mod Scope
 pub mod Evaluation
 pub mod Bodies

@@ -8,7 +8,7 @@ use Rattle.hmr_types.specs.declared.value.Slot.TheVariants.{Unset, Val}
 use Rattle.hmr_types.specs.declared.value.EvalFault.{EvalFault}
 use Rattle.hmr_types.specs.declared.words.Kind.{Kind}
 use Rattle.hmr_types.specs.declared.words.Kind.TheVariants.{Dispose, Prune, Own, Dep}
-use Rattle.module_semantics.specs.Scope.{with_entry}
+use Rattle.module_semantics.specs.Entries.{with_entry}
 use Rattle.module_semantics.specs.Evaluation.{value_of}
 use Rattle.module_semantics.specs.Bodies.{Registration, State, Context, Progress, next, with_result, scope_of, run, opening}
 

@@ -1,23 +1,14 @@
 -- What a name, a key of the bag and an export stand for.
-use Rattle.std.specs.Prelude.{ℕ, Bool, if◌then◌else◌, List, [], ◌∷◌, Option, Some, None, Result, Ok, Err, slice_get, bytes_eq}
+use Rattle.std.specs.Prelude.{ℕ, Bool, if◌then◌else◌, List, Option, Some, None, Result, Ok, Err, slice_get}
 use Rattle.hmr_types.specs.declared.value.Value.{Value}
 use Rattle.hmr_types.specs.declared.value.Value.TheVariants as values
 use Rattle.hmr_types.specs.declared.value.Slot.{Slot}
 use Rattle.hmr_types.specs.declared.value.Slot.TheVariants.{Unset, Val}
 use Rattle.hmr_types.specs.declared.value.EvalFault.{EvalFault}
 use Rattle.hmr_types.specs.declared.value.EvalFault.TheVariants.{Uninitialised, UndefinedRead}
+use Rattle.module_semantics.specs.Entries.{entry_at}
 use Rattle.module_semantics.specs.declared.evaluation.ModParam.{ModParam}
 use Rattle.module_semantics.specs.declared.evaluation.ModParam.TheVariants as params
-
--- what the first entry of a name holds
-unfoldable pub entry_at : {V : Type 0} → List ℕ → List (List ℕ × V) → Option V
-entry_at name [] = None
-entry_at name (e ∷ es) = if bytes_eq e.0 name then Some e.1 else entry_at name es
-
--- the entries, with this at a name: a name that is there keeps its place, a new one stands last
-unfoldable pub with_entry : {V : Type 0} → List ℕ → V → List (List ℕ × V) → List (List ℕ × V)
-with_entry name v [] = (name, v) ∷ []
-with_entry name v (e ∷ es) = if bytes_eq e.0 name then (name, v) ∷ es else e ∷ with_entry name v es
 
 -- what an expression reads: variables, the modules given as parameters, and the bag
 pub record Scope : Type 0 where

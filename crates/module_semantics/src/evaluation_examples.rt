@@ -39,7 +39,7 @@ pub fn texts_are_joined()
 {}
 
 /// What is evaluated of `??` and of a choice, and what counts as false.
-#[tactic(auto, unfolding(crate::specs::Values::number, crate::specs::Values::text, crate::specs::Scope::entry_at))]
+#[tactic(auto, unfolding(crate::specs::Values::number, crate::specs::Values::text, crate::specs::Entries::entry_at))]
 pub fn only_what_is_wanted_is_evaluated()
     ensures right_of_undefined { alone (tree.binary Op.Null tree.undefined (tree.num 5)) ≡ Ok (Value.Num (pos 5)) }
     ensures left_where_it_is_there { alone (tree.binary Op.Null (tree.num 0) (tree.neg (tree.text []))) ≡ Ok (Value.Num (pos 0)) }
@@ -58,7 +58,7 @@ pub fn only_what_is_wanted_is_evaluated()
 
 /// A key that the bag lacks is `undefined`; of a module given as a parameter an export that it lacks
 /// is, and one that has no value yet is a fault of that name.
-#[tactic(auto, unfolding(crate::specs::Scope::entry_at, crate::specs::Values::number))]
+#[tactic(auto, unfolding(crate::specs::Entries::entry_at, crate::specs::Values::number))]
 pub fn members_and_keys()
     ensures lacking_key { alone (tree.bag (codes "k")) ≡ Ok Value.Undef }
     ensures member { value_of (with_module ((codes "n", Slot.Val (Value.Num (pos 3))) ∷ [])) (tree.member 0 false (codes "n"))
@@ -80,7 +80,7 @@ pub fn lines()
 {}
 
 /// A body's fault leaves what stands before it, and nothing runs after it.
-#[tactic(auto, unfolding(crate::specs::Values::number, crate::specs::Values::text, crate::specs::Scope::entry_at, crate::specs::Scope::with_entry))]
+#[tactic(auto, unfolding(crate::specs::Values::number, crate::specs::Values::text, crate::specs::Entries::entry_at, crate::specs::Entries::with_entry))]
 pub fn faults_of_bodies()
     ensures thrown { body_alone (before ∷ tree.throw (tree.text (codes "no")) ∷ after ∷ []) []
         ≡ stopped (EvalFault.Thrown (codes "no")) }
@@ -98,7 +98,7 @@ pub fn faults_of_bodies()
 
 /// A module's fault leaves what stands before it: its variables, lines, registrations and bag. What
 /// is declared after it stays unset.
-#[tactic(auto, unfolding(crate::specs::Values::number, crate::specs::Values::text, crate::specs::Scope::entry_at, crate::specs::Scope::with_entry))]
+#[tactic(auto, unfolding(crate::specs::Values::number, crate::specs::Values::text, crate::specs::Entries::entry_at, crate::specs::Entries::with_entry))]
 pub fn faults_of_modules()
     ensures thrown { module_alone (module_with (tree.act (tree.throw tree.undefined)))
         ≡ module_stopped (EvalFault.Thrown (codes "undefined")) }
@@ -118,7 +118,7 @@ pub fn faults_of_modules()
 
 /// An import is read as it stood when the evaluation began: a module that imports itself finds its own
 /// exports unset, and a body that assigns one finds the old value.
-#[tactic(auto, unfolding(crate::specs::Values::number, crate::specs::Scope::entry_at, crate::specs::Scope::with_entry))]
+#[tactic(auto, unfolding(crate::specs::Values::number, crate::specs::Entries::entry_at, crate::specs::Entries::with_entry))]
 pub fn imports_stand_still()
     ensures own_export_is_unset { (module_run
         (export_let (codes "a") (tree.num 1) ∷ export_let (codes "b") (tree.name (codes "mine")) ∷ [])
@@ -163,7 +163,7 @@ pub fn handlers_register_in_order()
 
 /// A key that is set again keeps its place, and a new one stands last. A full bag still takes a value
 /// at a key that it has.
-#[tactic(auto, unfolding(crate::specs::Values::number, crate::specs::Scope::entry_at, crate::specs::Scope::with_entry))]
+#[tactic(auto, unfolding(crate::specs::Values::number, crate::specs::Entries::entry_at, crate::specs::Entries::with_entry))]
 pub fn keys_keep_their_order()
     ensures order { (body_alone
         (tree.bag_set (codes "b") (tree.num 1) ∷ tree.bag_set (codes "a") (tree.num 2)

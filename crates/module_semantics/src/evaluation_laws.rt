@@ -1,5 +1,5 @@
 // Laws of evaluation: each clause holds of the definitions, for every tree, state and bag.
-ghost use Rattle.std.specs.Prelude.{◌≡◌, ◌++◌, ℕ, List};
+ghost use Rattle.std.specs.Prelude.{◌≡◌, ◌++◌, ℕ, List, true};
 ghost use Rattle.hmr_types.specs.Syntax.{StmtTree, StmtTrees, HandlerTree, ModuleTree};
 ghost use Rattle.hmr_types.specs.Tree.{stmts};
 ghost use Rattle.hmr_types.specs.declared.value.Value.{Value};
@@ -7,7 +7,8 @@ ghost use Rattle.hmr_types.specs.declared.value.Slot.{Slot};
 ghost use Rattle.module_semantics.specs.declared.evaluation.ModParam.{ModParam};
 ghost use Rattle.module_semantics.specs.Bodies.{State, Context, next, run_all, body_run, host_ran};
 ghost use Rattle.module_semantics.specs.Modules.{items_run, module_run, declared_names};
-ghost use Rattle.module_semantics.specs.Progress.{Extends, IsSmall, names_of};
+ghost use Rattle.module_semantics.specs.Progress.{Extends};
+ghost use Rattle.module_semantics.specs.Entries.{is_bag, names_of};
 
 /// What stands later runs on what the earlier left, and not at all after a fault; so what came before
 /// a fault stays.
@@ -31,12 +32,12 @@ pub fn variables_are_the_declared_names()
         → names_of (module_run m imports bag).vars ≡ declared_names m }
 {}
 
-/// A bag of at most 64 keys is left with at most 64.
-pub fn bags_stay_small()
+/// A bag of at most 64 different keys is left as one.
+pub fn bags_stay_bags()
     ensures modules { (m : ModuleTree) (imports : List (List ℕ × Slot)) (bag : List (List ℕ × Value))
-        → IsSmall bag → IsSmall (module_run m imports bag).bag }
+        → is_bag bag ≡ true → is_bag (module_run m imports bag).bag ≡ true }
     ensures bodies { (code : HandlerTree) (env : List (List ℕ × Slot)) (mods : List ModParam)
-        (bag : List (List ℕ × Value)) → IsSmall bag → IsSmall (body_run code env mods bag).bag }
+        (bag : List (List ℕ × Value)) → is_bag bag ≡ true → is_bag (body_run code env mods bag).bag ≡ true }
     ensures hosts { (label : List ℕ) (number : ℕ) (bag : List (List ℕ × Value))
-        → IsSmall bag → IsSmall (host_ran label number bag).bag }
+        → is_bag bag ≡ true → is_bag (host_ran label number bag).bag ≡ true }
 {}

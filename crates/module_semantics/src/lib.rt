@@ -17,5 +17,5 @@ pub use evaluation_examples::{
     only_what_is_wanted_is_evaluated, texts_are_joined,
 };
 pub use evaluation_laws::{
-    a_fault_ends_all, bags_stay_small, variables_are_the_declared_names, what_was_made_stays,
+    a_fault_ends_all, bags_stay_bags, variables_are_the_declared_names, what_was_made_stays,
 };

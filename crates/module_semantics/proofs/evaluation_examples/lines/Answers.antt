@@ -1,7 +1,7 @@
 use Rattle.std.proofs.Common.{refl}
 use Rattle.std.specs.Fmt.{digits}
 use Rattle.module_semantics.specs.Values.{number, text}
-use Rattle.module_semantics.specs.Scope.{entry_at}
+use Rattle.module_semantics.specs.Entries.{entry_at}
 use Rattle.module_semantics.proofs.evaluation_examples.lines.Goals as goal
 
 pub returns-clause-joined : goal.returns-clause-joined

@@ -1,5 +1,5 @@
 use Rattle.module_semantics.proofs.Growing.{module_bag, body_bag, host_bag}
-use Rattle.module_semantics.proofs.evaluation_laws.bags_stay_small.Goals as goal
+use Rattle.module_semantics.proofs.evaluation_laws.bags_stay_bags.Goals as goal
 
 pub returns-clause-modules : goal.returns-clause-modules
 returns-clause-modules c = module_bag
