@@ -1,11 +1,9 @@
 -- What a new value at a name leaves of the entries.
-use Rattle.std.proofs.Common.{◌≡◌, ◌≤◌, ◌<◌, ◌+◌, ℕ, suc, Bool, true, false, if◌then◌else◌, List, [], ◌∷◌, ◌++◌, length, refl, ap, sym, ◌∙◌, arith, append_assoc, Some, None}
+use Rattle.std.proofs.Common.{◌≡◌, ◌≤◌, ℕ, Bool, true, false, if◌then◌else◌, List, [], ◌∷◌, ◌++◌, length, refl, ap, sym, ◌∙◌, arith, append_assoc, Some}
 use Rattle.std.specs.Prelude.{bytes_eq, is_some, ◌||◌, nat_lt}
 use Rattle.std.specs.Cmp.Lexicographic.{same_text}
-use Rattle.std.specs.Prelude.{not, nat_le, slice_set, cond, position}
-use Rattle.std.specs.List.{position_or_len}
-use Rattle.std.proofs.lemmas.Bool.{true≢false, not-true, and_parts, and_from, le-leb, ltb-true, ltb-false}
-use Rattle.std.proofs.lemmas.List.Recursion.{is_position_or_len}
+use Rattle.std.specs.Prelude.{not, nat_le}
+use Rattle.std.proofs.lemmas.Bool.{true≢false, not-true, and_parts, and_from, le-leb}
 use Rattle.std.proofs.lemmas.Cmp.{nat_list_eq_equiv}
 use Rattle.std.proofs.lemmas.List.{append-nil, length-map, length-append, map-append}
 use Rattle.std.proofs.lemmas.Bool.Decides.{nat_tests}
@@ -121,57 +119,3 @@ bag_step key v es false is room bag = new_bag key v es is room bag
 -- a bag with room stays one
 pub bag_stays : {V : Type 0} (key : List ℕ) (v : V) (es : List (List ℕ × V)) → has_room key es ≡ true → is_bag es ≡ true → is_bag (with_entry key v es) ≡ true
 bag_stays key v es room bag = bag_step key v es (has_name key (names_of es)) refl (ap (λ b. b || nat_lt (length es) 64) (sym (found_is key es)) ∙ room) bag
-
--- the first place of a key, or the length
-abbrev place : {V : Type 0} → List ℕ → List (List ℕ × V) → ℕ
-place key [] = 0
-place key (e ∷ es) = cond (bytes_eq e.0 key) 0 (1 + place key es)
-
-place_is : {V : Type 0} (key : List ℕ) (es : List (List ℕ × V)) → place key es ≡ position_or_len (λ e. bytes_eq e.0 key) es
-place_is key es = is_position_or_len (place key) (λ e. bytes_eq e.0 key) refl (λ e es. refl) es
-
-place_step : {V : Type 0} (key : List ℕ) (v : V) (e : List ℕ × V) (es : List (List ℕ × V)) (b : Bool)
-    → (place key es < length es → with_entry key v es ≡ slice_set es (place key es) (key, v))
-    → cond b 0 (1 + place key es) < suc (length es)
-    → (if b then (key, v) ∷ es else e ∷ with_entry key v es) ≡ slice_set (e ∷ es) (cond b 0 (1 + place key es)) (key, v)
-place_step key v e es true more h = refl
-place_step key v e es false more h =
-    let next : 1 + place key es ≡ suc (place key es) = omega arith in
-    rw next (ap (λ l. e ∷ l) (more (omega arith)))
-
-in_place : {V : Type 0} (key : List ℕ) (v : V) (es : List (List ℕ × V)) → place key es < length es → with_entry key v es ≡ slice_set es (place key es) (key, v)
-unfolding with_entry
-in_place key v [] h = absurd (omega arith)
-in_place key v (e ∷ es) h = place_step key v e es (bytes_eq e.0 key) (in_place key v es) h
-
-new_step : {V : Type 0} (key : List ℕ) (es : List (List ℕ × V)) (b : Bool)
-    → (length es ≤ place key es → has_name key (names_of es) ≡ false)
-    → suc (length es) ≤ cond b 0 (1 + place key es) → (b || has_name key (names_of es)) ≡ false
-new_step key es true more h = absurd (omega arith)
-new_step key es false more h = more (omega arith)
-
-no_place : {V : Type 0} (key : List ℕ) (es : List (List ℕ × V)) → length es ≤ place key es → has_name key (names_of es) ≡ false
-no_place key [] h = refl
-no_place key (e ∷ es) h = new_step key es (bytes_eq e.0 key) (no_place key es) h
-
-found_at : (n m at : ℕ) (b : Bool) → nat_lt n m ≡ b → cond b (Some n) None ≡ Some at → (n < m) × (n ≡ at)
-found_at n m at true lt is = (ltb-true n m lt, cc)
-found_at n m at false lt is = absurd (cc)
-
-not_found : (n m : ℕ) (b : Bool) → nat_lt n m ≡ b → cond b (Some n) None ≡ None → m ≤ n
-not_found n m true lt is = absurd (cc)
-not_found n m false lt is = ltb-false n m lt
-
--- a key that is there keeps its place
-pub known_keeps_place : {V : Type 0} (key : List ℕ) (v : V) (es : List (List ℕ × V)) (at : ℕ) → position (λ e. bytes_eq e.0 key) es ≡ Some at → with_entry key v es ≡ slice_set es at (key, v)
-known_keeps_place key v es at is =
-    let found = found_at (position_or_len (λ e. bytes_eq e.0 key) es) (length es) at _ refl is in
-    let same : place key es ≡ at = place_is key es ∙ found.1 in
-    let below : place key es < length es = omega (arith, place_is key es, found.0) in
-    in_place key v es below ∙ ap (λ n. slice_set es n (key, v)) same
-
--- a key that has no place is new
-pub unknown_is_new : {V : Type 0} (key : List ℕ) (es : List (List ℕ × V)) → position (λ e. bytes_eq e.0 key) es ≡ None → has_name key (names_of es) ≡ false
-unknown_is_new key es is =
-    let long : length es ≤ position_or_len (λ e. bytes_eq e.0 key) es = not_found (position_or_len (λ e. bytes_eq e.0 key) es) (length es) _ refl is in
-    no_place key es (omega (arith, place_is key es, long))

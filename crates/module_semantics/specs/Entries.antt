@@ -2,6 +2,7 @@
 use Rattle.std.specs.Prelude.{ℕ, Bool, true, not, ◌&&◌, ◌||◌, if◌then◌else◌, nat_le, nat_lt, List, [], ◌∷◌, length, map, Option, Some, None, is_some, bytes_eq}
 use Rattle.std.specs.List.{list_any}
 use Rattle.hmr_types.specs.declared.limits.TheConstants.{BAG_KEYS}
+use Rattle.hmr_types.specs.declared.value.Value.{Value}
 
 -- what the first entry of a name holds
 unfoldable pub entry_at : {V : Type 0} → List ℕ → List (List ℕ × V) → Option V
@@ -33,3 +34,7 @@ is_bag es = nat_le (length es) BAG_KEYS && are_different (names_of es)
 -- whether a bag takes a value at a key: it has the key, or holds fewer than 64
 abbrev pub has_room : {V : Type 0} → List ℕ → List (List ℕ × V) → Bool
 has_room key bag = is_some (entry_at key bag) || nat_lt (length bag) BAG_KEYS
+
+-- keys with their values
+abbrev pub Kept : Type 0
+Kept = List (List ℕ × Value)
