@@ -9,8 +9,12 @@ use Rattle.std.specs.List.{list_all, onto_first}
 use Rattle.std.specs.Str.{IsAscii, IsUtf8}
 use Rattle.hmr_types.specs.ModName.{is_name, is_segment, is_segment_byte, parts, slash}
 
-abbrev has_segment_bytes : List ℕ → Bool
+-- each byte of the text is a segment's
+abbrev pub has_segment_bytes : List ℕ → Bool
 has_segment_bytes = list_all is_segment_byte
+
+pub segment_bytes : (part : List ℕ) → is_segment part ≡ true → has_segment_bytes part ≡ true
+segment_bytes part h = (and_parts _ (has_segment_bytes part) h).1
 
 segment_byte_ascii : (b : ℕ) → is_segment_byte b ≡ true → b < 128
 unfolding is_segment_byte
@@ -20,10 +24,10 @@ weaker : (ps : List (List ℕ)) → list_all is_segment ps ≡ true → list_all
 weaker [] h = refl
 weaker (p ∷ ps) h =
     let here = and_parts (is_segment p) (list_all is_segment ps) h in
-    let bytes = and_parts (has_segment_bytes p) _ here.0 in
-    rw (bytes.0, weaker ps here.1) refl
+    rw (segment_bytes p here.0, weaker ps here.1) refl
 
-first_byte : (b : ℕ) (ps : List (List ℕ)) → list_all has_segment_bytes (onto_first b ps) ≡ true → (is_segment_byte b ≡ true) × (list_all has_segment_bytes ps ≡ true)
+first_byte : (b : ℕ) (ps : List (List ℕ)) → list_all has_segment_bytes (onto_first b ps) ≡ true
+    → (is_segment_byte b ≡ true) × (list_all has_segment_bytes ps ≡ true)
 first_byte b [] h = ((and_parts _ true (and_parts _ true h).0).0, refl)
 first_byte b (p ∷ ps) h =
     let here = and_parts (has_segment_bytes (b ∷ p)) (list_all has_segment_bytes ps) h in

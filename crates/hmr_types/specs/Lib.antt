@@ -1,3 +1,5 @@
 pub mod ModName
+pub mod Specifier
+pub mod Results
 pub mod Syntax
 pub mod Tree

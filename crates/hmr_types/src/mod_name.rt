@@ -2,14 +2,13 @@
 // the bytes `A-Z a-z 0-9 _ . -` and isn't `.` or `..`; a name has at most 255 bytes.
 ghost use Rattle.std.specs.List.{list_all};
 ghost use Rattle.std.specs.Prelude.{◌≡◌, ◌↔◌, IfOk, IsErrOf, Some, false, true};
-ghost use Rattle.hmr_types.specs.ModName.{is_dots, is_name, is_segment, is_segment_byte, parts};
+ghost use Rattle.hmr_types.specs.ModName.{is_name, is_segment, is_segment_byte, parts};
 
 use crate::Text;
 use crate::limits::NAME_BYTES;
 use std::alloc::{AllocError, Global};
 use std::fmt::{self, Display, Formatter, Write};
 use std::marker::Model;
-use std::str;
 
 /// The name of a module, which contracts see as its bytes. Names are equal where their bytes are,
 /// and their order is that of their bytes.
@@ -66,22 +65,17 @@ fn are_segments(text: &[u8]) -> bool
     text.split(|b| *b == b'/').all(is_segment)
 }
 
-fn is_segment(part: &[u8]) -> bool
+/// Whether bytes are a segment of a name. It takes no memory.
+pub(crate) fn is_segment(part: &[u8]) -> bool
     ensures { result ≡ is_segment part.now }
 {
-    has_segment_bytes(part) && !is_dots(part)
+    !matches!(part, [] | [b'.'] | [b'.', b'.']) && has_segment_bytes(part)
 }
 
 fn has_segment_bytes(part: &[u8]) -> bool
     ensures { result ≡ list_all is_segment_byte part.now }
 {
     part.iter().all(|b| is_segment_byte(*b))
-}
-
-fn is_dots(part: &[u8]) -> bool
-    ensures { result ≡ is_dots part.now }
-{
-    matches!(part, [] | [b'.'] | [b'.', b'.'])
 }
 
 #[tactic(auto, unfolding(crate::specs::ModName::is_segment_byte))]
@@ -101,12 +95,19 @@ impl ModName {
         if !is_name(text) {
             return Err(NameFault::NotAName);
         }
+        Ok(ModName::from_name(Vec::from_slice(alloc, text)?))
+    }
+
+    /// The name of these bytes. It takes no memory.
+    pub(crate) fn from_name(name: Vec<u8>) -> ModName
+        requires { is_name name.items ≡ true }
+        ensures { result ≡ name.items }
+    {
         // A name is ASCII.
-        let text = str::from_utf8(text).unwrap();
-        let text = String::from_str(alloc, text)?;
-        Ok(ModName {
+        let text = String::from_utf8(name).unwrap();
+        ModName {
             text: Text::from_string(text),
-        })
+        }
     }
 
     /// The characters of the name.
