@@ -13,7 +13,8 @@ use Rattle.hmr_types.specs.declared.words.Kind.{Kind}
 use Rattle.module_semantics.specs.declared.evaluation.ModParam.{ModParam}
 use Rattle.module_semantics.specs.declared.evaluation.ModParam.TheVariants as params
 use Rattle.module_semantics.specs.declared.evaluation.Registered.{Registered}
-use Rattle.module_semantics.specs.Values.{written, truth, ◌>>=◌}
+use Rattle.hmr_types.specs.Results.{◌>>=◌}
+use Rattle.module_semantics.specs.Values.{written, truth}
 use Rattle.module_semantics.specs.Scope.{Scope}
 use Rattle.module_semantics.specs.Entries.{entry_at, with_entry, has_room}
 use Rattle.module_semantics.specs.Evaluation.{value_of, values_of}

@@ -5,7 +5,8 @@ use Rattle.hmr_types.specs.Syntax.{ExprTree}
 use Rattle.hmr_types.specs.declared.value.Value.{Value}
 use Rattle.hmr_types.specs.declared.value.Value.TheVariants.{Undef}
 use Rattle.hmr_types.specs.declared.value.EvalFault.{EvalFault}
-use Rattle.module_semantics.specs.Values.{number, text, negated, truth, with_right, ◌>>=◌}
+use Rattle.hmr_types.specs.Results.{◌>>=◌}
+use Rattle.module_semantics.specs.Values.{number, text, negated, truth, with_right}
 use Rattle.module_semantics.specs.Scope.{Scope, read_name, read_bag, read_member}
 
 abbrev pub value_of : Scope → ExprTree → Result Value EvalFault

@@ -1,5 +1,5 @@
 -- Small trees, to be evaluated.
-use Rattle.std.specs.Prelude.{ℕ, zero, suc, pos, true, List, [], ◌∷◌, ◌++◌, replicate, codes, Some, None, Result}
+use Rattle.std.specs.Prelude.{false, ◌+◌, ◌/◌, ◌%◌, ℕ, zero, suc, pos, true, List, [], ◌∷◌, ◌++◌, replicate, codes, Some, None, Result}
 use Rattle.hmr_types.specs.Syntax as tree
 use Rattle.hmr_types.specs.Syntax.{ExprTree, StmtTree, StmtTrees, ItemTree, ModuleTree, HandlerTree}
 use Rattle.hmr_types.specs.Tree.{stmts}
@@ -78,3 +78,14 @@ abbrev pub module_with : ItemTree → ModuleTree
 module_with i =
     export_let (codes "a") (tree.num 1) ∷ tree.act before ∷ tree.dispose (tree.code nothing) ∷ i
     ∷ export_let (codes "b") (tree.num 2) ∷ tree.prune (tree.code nothing) ∷ []
+
+abbrev pub import : List ℕ → ItemTree
+import spec = tree.import spec []
+
+abbrev pub accept : List ℕ → ItemTree
+accept spec = tree.deps false (spec ∷ []) None
+
+-- imports of so many different modules
+abbrev pub imports : ℕ → ModuleTree
+imports zero = []
+imports (suc n) = import (47 ∷ (97 + n / 16) ∷ (97 + n % 16) ∷ []) ∷ imports n

@@ -4,5 +4,6 @@ pub mod Scope
 pub mod Evaluation
 pub mod Bodies
 pub mod Modules
+pub mod Analysis
 pub mod Progress
 pub mod Examples

@@ -1,5 +1,5 @@
 -- What the items of a module do, and what its evaluation gives.
-use Rattle.std.specs.Prelude.{ℕ, List, [], ◌∷◌, ◌++◌, Option, Some, None}
+use Rattle.std.specs.Prelude.{ℕ, List, [], ◌∷◌, ◌++◌, flat_map, Option, Some, None}
 use Rattle.hmr_types.specs.Syntax as tree
 use Rattle.hmr_types.specs.Syntax.{ExprTree, StmtTree, HandlerTree, OnceTree, ItemTree, ModuleTree}
 use Rattle.hmr_types.specs.declared.value.Value.{Value}
@@ -62,8 +62,7 @@ unset (n ∷ ns) = (n, Unset) ∷ unset ns
 
 -- the names that a module declares, in order
 abbrev pub declared_names : ModuleTree → List (List ℕ)
-declared_names [] = []
-declared_names (i ∷ is) = declared_by i ++ declared_names is
+declared_names m = flat_map declared_by m
 
 -- what the evaluation of a module gives: its variables, with all else that was made before a fault
 pub record Evaluated : Type 0 where

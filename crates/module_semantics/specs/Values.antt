@@ -1,6 +1,7 @@
 -- Values, and what the operators make of them.
 use Rattle.std.specs.Prelude.{ℕ, zero, suc, ℤ, pos, negsuc, ◌+ℤ◌, ◌-ℤ◌, ◌*ℤ◌, neg_ℤ, Bool, true, false, nat_le, nat_lt, if◌then◌else◌, List, [], ◌∷◌, ◌++◌, length, codes, Result, Ok, Err}
 use Rattle.std.specs.Fmt.{signed_decimal}
+use Rattle.hmr_types.specs.Results.{◌>>=◌}
 use Rattle.hmr_types.specs.declared.limits.TheConstants.{LARGEST_NUMBER, VALUE_BYTES}
 use Rattle.hmr_types.specs.declared.tree.Op.{Op}
 use Rattle.hmr_types.specs.declared.tree.Op.TheVariants.{Null, Add, Sub, Mul}
@@ -8,12 +9,6 @@ use Rattle.hmr_types.specs.declared.value.Value.{Value}
 use Rattle.hmr_types.specs.declared.value.Value.TheVariants.{Num, Str, Undef}
 use Rattle.hmr_types.specs.declared.value.EvalFault.{EvalFault}
 use Rattle.hmr_types.specs.declared.value.EvalFault.TheVariants.{NotNumber, Range}
-
-infixl 10 ◌>>=◌
--- what follows a value; a fault stays
-abbrev pub ◌>>=◌ : {A B : Type 0} → Result A EvalFault → (A → Result B EvalFault) → Result B EvalFault
-(Ok x) >>= f = f x
-(Err e) >>= f = Err e
 
 -- within plus or minus 9007199254740991
 abbrev pub in_range : ℤ → Bool

@@ -6,10 +6,15 @@
 //! a text is read or a module evaluated, nor of clients.
 #![tactic(auto)]
 
+mod analysis_examples;
 mod evaluation;
 mod evaluation_examples;
 mod evaluation_laws;
+mod scanning;
 
+pub use analysis_examples::{
+    first_specifier_is_the_fault, imports_are_few, names_come_once_in_order,
+};
 pub use evaluation::{Env, ModParam, Registered};
 pub use evaluation_examples::{
     faults_of_bodies, faults_of_modules, handlers_register_in_order, imports_stand_still,
@@ -19,3 +24,4 @@ pub use evaluation_examples::{
 pub use evaluation_laws::{
     a_fault_ends_all, bags_stay_bags, variables_are_the_declared_names, what_was_made_stays,
 };
+pub use scanning::ScanFault;
