@@ -1,3 +1,5 @@
 pub mod Entries
 pub mod Keeping
 pub mod Growing
+pub mod Analyses
+pub mod Refusals

@@ -1,6 +1,6 @@
 -- What static analysis tells of a module, and what a text is transformed into.
-use Rattle.std.specs.Prelude.{ℕ, Bool, true, false, not, nat_lt, if◌then◌else◌, List, [], ◌∷◌, ◌++◌, length, filter, flat_map, Option, Some, None, Result, Ok, Err, bytes_eq}
-use Rattle.std.specs.List.{list_any}
+use Rattle.std.specs.Prelude.{◌≡◌, ◌≤◌, ℕ, Bool, true, false, not, nat_lt, if◌then◌else◌, List, [], ◌∷◌, ◌++◌, length, filter, flat_map, Option, Some, None, Result, Ok, Err, bytes_eq}
+use Rattle.std.specs.List.{list_any, list_all}
 use Rattle.hmr_types.specs.Syntax as tree
 use Rattle.hmr_types.specs.Syntax.{ItemTree, ModuleTree}
 use Rattle.hmr_types.specs.Specifier.{resolve}
@@ -15,7 +15,7 @@ use Rattle.hmr_types.specs.declared.analysis.Outcome.TheVariants.{Good, Bad}
 use Rattle.hmr_types.specs.declared.limits.TheConstants.{IMPORTS}
 use Rattle.module_semantics.specs.declared.scanning.ScanFault.{ScanFault}
 use Rattle.module_semantics.specs.declared.scanning.ScanFault.TheVariants as scan
-use Rattle.module_semantics.specs.Entries.{has_name}
+use Rattle.module_semantics.specs.Entries.{has_name, are_different}
 
 -- the specifier that an item imports by
 abbrev pub imported_by : ItemTree → List (List ℕ)
@@ -155,3 +155,10 @@ outcome_of base (Err fault) = Bad fault
 -- the result of transforming a text of a module of this name, where texts are read so
 abbrev pub transformed : (List ℕ → Result ModuleTree TextFault) → List ℕ → List ℕ → Outcome
 transformed reading base text = outcome_of base (reading text)
+
+-- what holds of each analysis: its imports are different and at most 256, and its accepted names are different and imported
+pub record IsWellMade (a : Analysis) : Type 0 where
+  pub imports : are_different a.imports ≡ true
+  pub few : length a.imports ≤ 256
+  pub accepted : are_different a.accepted ≡ true
+  pub among : list_all (λ n. has_name n a.imports) a.accepted ≡ true

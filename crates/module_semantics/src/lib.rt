@@ -7,6 +7,7 @@
 #![tactic(auto)]
 
 mod analysis_examples;
+mod analysis_laws;
 mod evaluation;
 mod evaluation_examples;
 mod evaluation_laws;
@@ -15,6 +16,7 @@ mod scanning;
 pub use analysis_examples::{
     first_specifier_is_the_fault, imports_are_few, names_come_once_in_order,
 };
+pub use analysis_laws::{analyses_are_well_made, memory_is_never_meant};
 pub use evaluation::{Env, ModParam, Registered};
 pub use evaluation_examples::{
     faults_of_bodies, faults_of_modules, handlers_register_in_order, imports_stand_still,
