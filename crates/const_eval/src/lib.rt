@@ -6,6 +6,9 @@
 #![tactic(auto)]
 
 mod expression;
+mod lines;
 mod scope;
+mod state;
+mod statements;
 mod values;
 

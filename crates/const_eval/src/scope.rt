@@ -11,19 +11,20 @@ use retained_data::{Bag, entry_at};
 use std::alloc::AllocError;
 
 /// What an expression reads.
-pub struct Scope<'a> {
+#[derive(Clone, Copy)]
+pub struct Scope<'c, 's> {
     /// The variables of the module.
-    pub vars: &'a [(Name, Slot)],
+    pub vars: &'s [(Name, Slot)],
     /// What its imports held as the evaluation began, after the variables.
-    pub imports: &'a [(Name, Slot)],
+    pub imports: &'c [(Name, Slot)],
     /// The modules given as parameters.
-    pub mods: &'a [ModParam],
-    pub bag: &'a Bag,
+    pub mods: &'c [ModParam],
+    pub bag: &'s Bag,
 }
 
 /// What a variable or an import of this name holds.
 #[tactic(auto, using(crate::proofs::Lookups::entry_at_both))]
-fn slot_at<'a>(scope: &Scope<'a>, name: &Name) -> Option<&'a Slot>
+fn slot_at<'a>(scope: &Scope<'a, 'a>, name: &Name) -> Option<&'a Slot>
     ensures { option_map (λ s. s.now) result ≡ entry_at name.now (scope_of scope.now).vars }
 {
     match entry_at(scope.vars, name) {
