@@ -5,10 +5,15 @@
 //! of how a text is read.
 #![tactic(auto)]
 
+mod body;
+mod copy;
 mod expression;
 mod lines;
+mod module;
 mod scope;
 mod state;
 mod statements;
 mod values;
 
+pub use body::{Ran, run_body};
+pub use module::{Evaluated, eval_module};

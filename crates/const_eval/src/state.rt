@@ -1,6 +1,6 @@
 // What an evaluation makes as it goes, and how each step adds to it.
 ghost use Rattle.std.specs.Prelude.{◌≡◌, IfOk};
-ghost use Rattle.module_semantics.specs.Bodies.{add_invalidation, add_line, assign, keep, scope_of};
+ghost use Rattle.module_semantics.specs.Bodies.{add_invalidation, add_line, assign, keep, opening, scope_of};
 ghost use Rattle.module_semantics.specs.Modules.{declare};
 ghost use Rattle.const_eval.specs.Reads.{scope_of as scope_meant};
 ghost use Rattle.const_eval.specs.States.{context_of, state_of};
@@ -32,6 +32,20 @@ pub struct Context<'c> {
 
 /// What a step came to: the fault that ended the evaluation, if any.
 pub type Step = Result<Option<EvalFault>, AllocError>;
+
+/// Before anything ran.
+pub fn opening(alloc: Global, vars: Vec<(Name, Slot)>, bag: Bag) -> State
+    ensures { state_of result ≡ opening vars.items bag }
+{
+    State {
+        vars,
+        bag,
+        lines: Vec::new(alloc),
+        changes: Vec::new(alloc),
+        invalidations: Vec::new(alloc),
+        registered: Vec::new(alloc),
+    }
+}
 
 /// What an expression reads here.
 pub fn reads<'c, 's>(context: &Context<'c>, state: &'s State) -> Scope<'c, 's>
