@@ -1,0 +1,3 @@
+mod Ranges
+mod Lookups
+pub mod Rows

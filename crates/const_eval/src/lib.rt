@@ -1,0 +1,21 @@
+//! The one evaluator: the evaluation of a module, and the run of a handler's body.
+//!
+//! It stands on the vocabulary, on the meaning of module texts and on bags. Keeps: every answer is the
+//! definition's, whole, with all that stands before a fault. Knows nothing of clients, of instances or
+//! of how a text is read.
+#![tactic(auto)]
+
+mod body;
+mod copy;
+mod expression;
+mod lines;
+mod module;
+mod scope;
+mod state;
+mod statements;
+#[cfg(test)]
+mod tests;
+mod values;
+
+pub use body::{Ran, run_body};
+pub use module::{Evaluated, eval_module};
