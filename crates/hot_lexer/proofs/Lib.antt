@@ -1,0 +1,5 @@
+pub mod LexTurns
+pub mod Outcomes
+pub mod Places
+pub mod TextTurns
+pub mod Utf8

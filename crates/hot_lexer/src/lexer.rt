@@ -1,0 +1,140 @@
+// The whole text: one piece after another, where what came directly before bars some bytes. Before a
+// piece is read its first byte is tested against that bar; after it was read its token is added, if
+// there is room for one more.
+ghost use Rattle.std.specs.Prelude.{◌≡◌, ◌+◌, ◌^◌, ◌<◌, ◌≤◌, IfOk, IfErr, length, option_map, IsUtf8};
+ghost use Rattle.module_semantics.specs.Lexing as lexing;
+ghost use Rattle.module_semantics.specs.Lexing.{Gives};
+ghost use Rattle.module_semantics.specs.LexFaults.{IsFirstLexFault};
+ghost use Rattle.module_semantics.specs.Pieces.{IsLexing};
+ghost use Rattle.module_semantics.specs.declared.tokens.LexKind.TheVariants.{NoMemory};
+ghost use Rattle.hot_lexer.specs.Order.{AreBetween};
+ghost use Rattle.hot_lexer.specs.Stop.{Reads};
+ghost use Rattle.hot_lexer.specs.Token.{token_of, lexemes_of};
+
+use crate::bytes::is_name_byte;
+use crate::piece::read_piece;
+use crate::stop::{Stop, fault};
+use crate::{LexFault, LexKind, Punct, Token, TokenKind};
+use hmr_types::limits::TOKENS;
+use module_semantics::After;
+use std::alloc::Global;
+
+/// What a piece is to the byte directly after it.
+#[tactic(auto, unfolding(module_semantics::specs::Lexing::after_token))]
+fn after(token: &Option<TokenKind>) -> After
+    ensures { result ≡ lexing.after_token (option_map token_of token.now) }
+{
+    match token {
+        Some(TokenKind::Number(_)) => After::Number,
+        Some(TokenKind::Punct(Punct::Plus)) => After::Plus,
+        Some(TokenKind::Punct(Punct::Minus)) => After::Minus,
+        _ => After::Other,
+    }
+}
+
+/// Whether the byte may not stand directly after a piece.
+#[tactic(auto, unfolding(module_semantics::specs::Lexing::barred))]
+fn is_barred(last: After, b: u8) -> bool
+    ensures { result ≡ lexing.barred last b }
+{
+    match last {
+        After::Other => false,
+        After::Number => is_name_byte(b),
+        After::Plus => b == b'+',
+        After::Minus => b == b'-',
+    }
+}
+
+/// Adds the token of a piece, where it is one.
+#[tactic(auto, unfolding(module_semantics::specs::Lexing::added))]
+fn add(
+    tokens: &mut Vec<Token>,
+    at: usize,
+    kind: Option<TokenKind>,
+    len: usize,
+) -> Result<(), Stop>
+    requires { at + len < 2 ^ 32 }
+    ensures { Reads (λ _. lexemes_of tokens.new.items) result (lexing.added at (lexemes_of tokens.old.items) (option_map token_of kind, len)) }
+{
+    match kind {
+        None => Ok(()),
+        Some(kind) => {
+            if tokens.len() >= TOKENS {
+                return Err(fault(LexKind::TooManyTokens, at));
+            }
+            tokens.push(Token {
+                kind,
+                at: at as u32,
+                len: len as u32,
+            })?;
+            Ok(())
+        }
+    }
+}
+
+/// Reads the piece that begins with `first` and adds its token: the piece's length, and what it is to
+/// the byte after it.
+#[tactic(auto, unfolding(module_semantics::specs::Lexing::step))]
+fn step(
+    alloc: Global,
+    tokens: &mut Vec<Token>,
+    at: usize,
+    last: After,
+    first: u8,
+    rest: &[u8],
+) -> Result<(usize, After), Stop>
+    requires room { at + 1 + length rest.now < 2 ^ 32 }
+    requires utf8 { first < 128 → IsUtf8 rest.now }
+    ensures exact { Reads (λ x. (x.0, (x.1, lexemes_of tokens.new.items))) result (lexing.step at last (lexemes_of tokens.old.items) first rest.now) }
+    ensures within { IfOk result (λ x. x.0 ≤ 1 + length rest.now) }
+{
+    if is_barred(last, first) {
+        return Err(fault(LexKind::BadByte, at));
+    }
+    let (kind, len) = read_piece(alloc, at, first, rest)?;
+    let next = after(&kind);
+    add(tokens, at, kind, len)?;
+    Ok((len, next))
+}
+
+/// The tokens of the bytes of a text.
+#[tactic(auto, unfolding(module_semantics::specs::Lexing::lexing))]
+fn lex_bytes(alloc: Global, text: &[u8]) -> Result<Vec<Token>, Stop>
+    requires short { length text.now < 2 ^ 32 }
+    requires utf8 { IsUtf8 text.now }
+    ensures { Reads (λ ts. lexemes_of ts.items) result (lexing.lexing text.now) }
+{
+    let mut tokens = Vec::new(alloc);
+    let mut at = 0;
+    let mut last = After::Other;
+    for turn in 0..text.len() {
+        if at >= text.len() {
+            return Ok(tokens);
+        }
+        match step(alloc, &mut tokens, at, last, text[at], &text[at + 1..]) {
+            Err(stop) => return Err(stop),
+            Ok((len, next)) => {
+                last = next;
+                at += len;
+            }
+        }
+    }
+    Ok(tokens)
+}
+
+/// The tokens of a text, or its first fault.
+///
+/// `Ok` and each fault but `NoMemory` come exactly where the definition `lexing` gives them. By the
+/// laws of `module_semantics` the text is then spaces, comments and these tokens, each the longest
+/// that fits; or it is so up to the fault's place. `NoMemory` has place 0, and says nothing of the
+/// text. The time is linear in the text, and the memory that of the tokens.
+pub fn lex(alloc: Global, text: &str) -> Result<Vec<Token>, LexFault>
+    requires short { length text.now < 2 ^ 32 }
+    ensures exact { Gives (λ ts. lexemes_of ts.items) result (lexing.lexing text.now) }
+    ensures pieces { IfOk result (λ ts. IsLexing text.now (lexemes_of ts.items)) }
+    ensures fault { IfErr result (λ f. ¬ (f.kind ≡ NoMemory) → IsFirstLexFault text.now f) }
+    ensures order { IfOk result (λ ts. AreBetween 0 (length text.now) (lexemes_of ts.items)) }
+    ensures memory { IfErr result (λ f. f.kind ≡ NoMemory → f.at ≡ 0) }
+{
+    Ok(lex_bytes(alloc, text.as_bytes())?)
+}
