@@ -4,8 +4,8 @@ use Rattle.hmr_types.specs.declared.analysis.Outcome.{Outcome}
 use Rattle.hmr_types.specs.declared.analysis.Outcome.TheVariants.{Good, Bad}
 use Rattle.hmr_types.specs.declared.words.PlanKind.{PlanKind}
 use Rattle.hmr_types.specs.declared.words.PlanKind.TheVariants.{Load, Reload, Update}
-use Rattle.hmr_types.specs.declared.words.AbortOutcome.{AbortOutcome}
-use Rattle.hmr_types.specs.declared.words.AbortOutcome.TheVariants as outcome
+use Rattle.hmr_types.specs.declared.words.AbortWord.{AbortWord}
+use Rattle.hmr_types.specs.declared.words.AbortWord.TheVariants as outcome
 use Rattle.hmr_types.specs.declared.out_line.OutLine.{OutLine}
 use Rattle.hmr_types.specs.declared.out_line.OutLine.TheVariants as line
 use Rattle.core_model.specs.declared.message.ClientMsg.{ClientMsg}
@@ -68,7 +68,7 @@ apply_in None language r = nothing r
 apply_in (Some p) language r = apply language p r
 
 -- a cause, as its line tells it
-abbrev pub outcome_of : Cause → AbortOutcome
+abbrev pub outcome_of : Cause → AbortWord
 outcome_of (missing n) = outcome.Missing n
 outcome_of (broken n) = outcome.Broken n
 outcome_of (unlinked n m x) = outcome.Link n m x

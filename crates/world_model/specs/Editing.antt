@@ -1,8 +1,8 @@
 -- Edits and results in the world, and their lines.
 use Rattle.std.specs.Prelude.{ℕ, ◌==◌, not, ◌&&◌, Bool, List, [], ◌∷◌, filter, Option, Some, None}
-use Rattle.hmr_types.specs.declared.words.EditOutcome.TheVariants as edits_are
-use Rattle.hmr_types.specs.declared.words.RemoveOutcome.TheVariants as removes
-use Rattle.hmr_types.specs.declared.words.SettleOutcome.TheVariants as settles_as
+use Rattle.hmr_types.specs.declared.words.EditWord.TheVariants as edits_are
+use Rattle.hmr_types.specs.declared.words.RemoveWord.TheVariants as removes
+use Rattle.hmr_types.specs.declared.words.SettleWord.TheVariants as settles_as
 use Rattle.hmr_types.specs.declared.out_line.OutLine.{OutLine}
 use Rattle.hmr_types.specs.declared.out_line.OutLine.TheVariants as line
 use Rattle.core_model.specs.Names.{Name, same_name}

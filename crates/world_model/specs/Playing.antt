@@ -2,12 +2,12 @@
 use Rattle.std.specs.Prelude.{ℕ, zero, suc, Bool, true, false, not, List, [], ◌++◌, map, filter, fold, reverse, Option, Some, None, if◌then◌else◌}
 use Rattle.hmr_types.specs.declared.words.ClientState.{ClientState}
 use Rattle.hmr_types.specs.declared.words.ClientState.TheVariants.{Up, Behind}
-use Rattle.hmr_types.specs.declared.words.EditOutcome.{EditOutcome}
-use Rattle.hmr_types.specs.declared.words.EditOutcome.TheVariants as edits_are
-use Rattle.hmr_types.specs.declared.words.RemoveOutcome.{RemoveOutcome}
-use Rattle.hmr_types.specs.declared.words.RemoveOutcome.TheVariants as removes
-use Rattle.hmr_types.specs.declared.words.SettleOutcome.{SettleOutcome}
-use Rattle.hmr_types.specs.declared.words.SettleOutcome.TheVariants as settles_as
+use Rattle.hmr_types.specs.declared.words.EditWord.{EditWord}
+use Rattle.hmr_types.specs.declared.words.EditWord.TheVariants as edits_are
+use Rattle.hmr_types.specs.declared.words.RemoveWord.{RemoveWord}
+use Rattle.hmr_types.specs.declared.words.RemoveWord.TheVariants as removes
+use Rattle.hmr_types.specs.declared.words.SettleWord.{SettleWord}
+use Rattle.hmr_types.specs.declared.words.SettleWord.TheVariants as settles_as
 use Rattle.hmr_types.specs.declared.out_line.OutLine.{OutLine}
 use Rattle.hmr_types.specs.declared.out_line.OutLine.TheVariants as line
 use Rattle.core_model.specs.Names.{Name}
@@ -91,19 +91,19 @@ abbrev pub play : Stage → List Command → List OutLine
 play stage commands = (played stage commands).lines
 
 -- lines of edits, results and openings that went well
-abbrev pub is_good_edit : EditOutcome → Bool
+abbrev pub is_good_edit : EditWord → Bool
 is_good_edit (edits_are.Job v) = true
 is_good_edit edits_are.Same = false
 is_good_edit (edits_are.Refused word) = false
 
 -- whether the removal went well
-abbrev pub is_good_remove : RemoveOutcome → Bool
+abbrev pub is_good_remove : RemoveWord → Bool
 is_good_remove (removes.Removed v) = true
 is_good_remove removes.Same = false
 is_good_remove removes.NumbersSpent = false
 
 -- whether the result was served
-abbrev pub is_good_settle : SettleOutcome → Bool
+abbrev pub is_good_settle : SettleWord → Bool
 is_good_settle settles_as.Served = true
 is_good_settle (settles_as.Refused fault) = false
 is_good_settle settles_as.Late = false

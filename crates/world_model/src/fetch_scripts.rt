@@ -3,8 +3,8 @@
 ghost use Rattle.std.specs.Prelude.{◌≡◌, [], ◌∷◌, codes, pos};
 ghost use Rattle.hmr_types.specs.declared.words.PlanKind.TheVariants.{Load, Reload, Update};
 ghost use Rattle.hmr_types.specs.declared.words.ReloadCause.TheVariants.{Root, Declined};
-ghost use Rattle.hmr_types.specs.declared.words.EditOutcome.TheVariants.{Job};
-ghost use Rattle.hmr_types.specs.declared.words.SettleOutcome.TheVariants.{Served};
+ghost use Rattle.hmr_types.specs.declared.words.EditWord.TheVariants.{Job};
+ghost use Rattle.hmr_types.specs.declared.words.SettleWord.TheVariants.{Served};
 ghost use Rattle.hmr_types.specs.declared.words.ClientState.TheVariants.{Up, Behind};
 ghost use Rattle.hmr_types.specs.declared.words.InstanceStatus.TheVariants.{Done};
 ghost use Rattle.hmr_types.specs.declared.words.InstanceFate.TheVariants as fate;
@@ -14,9 +14,9 @@ ghost use Rattle.hmr_types.specs.declared.words.HandlerEnd.TheVariants.{Held, Sp
 ghost use Rattle.hmr_types.specs.declared.value.Value.TheVariants.{Num};
 ghost use Rattle.hmr_types.specs.declared.value.Slot.TheVariants.{Val};
 ghost use Rattle.hmr_types.specs.declared.out_line.OutLine.TheVariants as line;
-ghost use Rattle.hmr_types.specs.declared.words.EditOutcome.TheVariants as edit;
-ghost use Rattle.hmr_types.specs.declared.words.SettleOutcome.TheVariants as settle;
-ghost use Rattle.hmr_types.specs.declared.words.AbortOutcome.TheVariants as abort;
+ghost use Rattle.hmr_types.specs.declared.words.EditWord.TheVariants as edit;
+ghost use Rattle.hmr_types.specs.declared.words.SettleWord.TheVariants as settle;
+ghost use Rattle.hmr_types.specs.declared.words.AbortWord.TheVariants as abort;
 ghost use Rattle.hmr_types.specs.declared.analysis.FaultWord.TheVariants.{Unexpected};
 ghost use Rattle.world_model.specs.Playing.{play, quiet_play};
 ghost use Rattle.world_model.specs.SmallPages.{m, a, x};

@@ -3,8 +3,8 @@
 ghost use Rattle.std.specs.Prelude.{◌≡◌, [], ◌∷◌, codes, pos};
 ghost use Rattle.hmr_types.specs.declared.words.PlanKind.TheVariants.{Load, Reload, Update};
 ghost use Rattle.hmr_types.specs.declared.words.ReloadCause.TheVariants.{Root, Declined};
-ghost use Rattle.hmr_types.specs.declared.words.EditOutcome.TheVariants.{Job};
-ghost use Rattle.hmr_types.specs.declared.words.SettleOutcome.TheVariants.{Served};
+ghost use Rattle.hmr_types.specs.declared.words.EditWord.TheVariants.{Job};
+ghost use Rattle.hmr_types.specs.declared.words.SettleWord.TheVariants.{Served};
 ghost use Rattle.hmr_types.specs.declared.words.ClientState.TheVariants.{Up, Behind};
 ghost use Rattle.hmr_types.specs.declared.words.InstanceStatus.TheVariants.{Done};
 ghost use Rattle.hmr_types.specs.declared.words.InstanceFate.TheVariants as fate;
