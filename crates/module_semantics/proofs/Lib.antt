@@ -1,6 +1,7 @@
 pub mod Acts
 pub mod Callbacks
 pub mod CanonExamples
+pub mod CanonLevels
 pub mod Choices
 pub mod CommaLists
 pub mod Ends

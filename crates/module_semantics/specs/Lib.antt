@@ -1,6 +1,7 @@
 pub mod Bytes
 pub mod Kinds
 pub mod Canon
+pub mod CanonTokens
 pub mod ExprGrammar
 pub mod Grammar
 pub mod LexFaults
