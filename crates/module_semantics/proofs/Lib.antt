@@ -1,6 +1,8 @@
 pub mod Acts
 pub mod Callbacks
 pub mod CanonExamples
+pub mod CanonLevels
+pub mod CanonOperators
 pub mod Choices
 pub mod CommaLists
 pub mod Ends

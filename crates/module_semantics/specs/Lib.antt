@@ -27,3 +27,4 @@ pub mod Modules
 pub mod Analysis
 pub mod Progress
 pub mod Examples
+pub mod CanonTokens
