@@ -1,6 +1,6 @@
 -- The segments of a name, and that the segments that a specifier leads to spell a name.
-use Rattle.std.proofs.Common.{ℕ, zero, suc, ◌+◌, ◌<◌, ◌≤◌, List, [], ◌∷◌, ◌++◌, length, take, drop, get_or, map, Bool, true, false, cond, ◌≡◌, refl, sym, ap, ◌∙◌, arith, Result, Ok, Err}
-use Rattle.std.specs.Prelude.{◌==◌, nat_le}
+use Rattle.std.proofs.Common.{ℕ, zero, suc, ◌+◌, ◌<◌, ◌≤◌, List, [], ◌∷◌, ◌++◌, length, take, drop, get_or, Bool, true, false, cond, ◌≡◌, refl, sym, ap, ◌∙◌, arith, Ok, Err}
+use Rattle.std.specs.Prelude.{◌==◌}
 use Rattle.std.proofs.lemmas.Bool.{and_parts, and_from, le-leb}
 use Rattle.std.proofs.lemmas.Bool.Decides.{nat_tests}
 use Rattle.std.proofs.lemmas.List.{at_drop_more, at_drop_all, append-nil}
@@ -9,10 +9,10 @@ use Rattle.std.proofs.lemmas.List.Folds.{list_all-append}
 use Rattle.std.proofs.lemmas.List.Splits.{slice_split_none, slice_split_at}
 use Rattle.std.specs.List.{All, list_all}
 use Rattle.hmr_types.specs.declared.specifier.SpecFault.{SpecFault}
-use Rattle.hmr_types.specs.declared.specifier.SpecFault.TheVariants.{Bare, Climbs, Empty, TooLong, BadSegment, NoMemory}
+use Rattle.hmr_types.specs.declared.specifier.SpecFault.TheVariants.{BadSegment, NoMemory}
 use Rattle.hmr_types.specs.ModName.{is_name, is_segment, is_segment_byte, is_text, here, above, parts, slash}
 use Rattle.hmr_types.specs.Results.{◌>>=◌}
-use Rattle.hmr_types.specs.Specifier.{Refuses, Walked, segments, without_last, climb, step, walk, spelled, name_of, led_to}
+use Rattle.hmr_types.specs.Specifier.{Refuses, Walked, segments, climb, step, walk, spelled, name_of, led_to}
 use Rattle.hmr_types.proofs.Names.{has_segment_bytes, segment_bytes}
 
 -- whether each is a segment
@@ -55,7 +55,7 @@ parts-spelled s (t ∷ rest) h =
 pub spelled-is_name : (from : List (List ℕ)) → are_segments from ≡ true → 0 < length (spelled from) → length (spelled from) ≤ 255 → is_name (spelled from) ≡ true
 spelled-is_name [] h some few = absurd (omega arith)
 spelled-is_name (s ∷ more) h some few =
-    and_from _ _ (le-leb (length (s ++ spelled more)) 254 (omega arith)) (ap are_segments (parts-spelled s more h) ∙ h)
+    and_from _ _ (le-leb (length (spelled (s ∷ more))) 255 few) (ap are_segments (parts-spelled s more h) ∙ h)
 
 given : {x y : List (List ℕ)} → let r : Walked = Ok x in r ≡ Ok y → are_segments x ≡ true → are_segments y ≡ true
 given {x} {y} e h = let same : x ≡ y = cc in ap are_segments (sym same) ∙ h
@@ -97,5 +97,5 @@ walk_stops start from text n part NoMemory leads turn e = tt
 walk_stops start from text n part fault leads turn e = stopped start from text n part fault leads turn e
 
 -- with no part left, the whole leads to the segments that stand
-pub walk_ends : (start from ps : List (List ℕ)) (n : ℕ) → walk from (drop n ps) ≡ walk start ps → length ps ≤ n → walk start ps ≡ Ok from
-walk_ends start from ps n leads all = sym leads ∙ at_drop_all (walk from) ps n all
+pub walk_ends : (start from ps : List (List ℕ)) (n : ℕ) → walk from (drop n ps) ≡ walk start ps → n ≡ length ps → walk start ps ≡ Ok from
+walk_ends start from ps n leads all = sym leads ∙ at_drop_all (walk from) ps n (omega arith)

@@ -1,5 +1,6 @@
 pub mod ModName
-pub mod Specifier
 pub mod Results
+pub mod Specifier
 pub mod Syntax
+pub mod Table
 pub mod Tree

@@ -37,4 +37,4 @@ is_segment part = not (is_text [] part) && not (is_text here part) && not (is_te
 -- a slash, and then parts that are segments: at most 255 bytes
 abbrev pub is_name : List ℕ → Bool
 is_name [] = false
-is_name (b ∷ bs) = (b == slash) && nat_le (length bs) 254 && list_all is_segment (parts bs)
+is_name (b ∷ bs) = (b == slash) && nat_le (length (b ∷ bs)) 255 && list_all is_segment (parts bs)

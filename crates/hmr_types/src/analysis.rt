@@ -19,22 +19,39 @@ pub struct Analysis {
 /// What is wrong at a place of a module text.
 #[derive(Clone, Copy, Debug, PartialEq, Eq)]
 pub enum FaultWord {
+    /// A byte begins no token, or stands where none may.
     BadByte,
+    /// A text has no closing quote on its line.
     OpenString,
+    /// A comment isn't closed.
     OpenComment,
+    /// A backslash begins no escape.
     BadEscape,
+    /// A number is over 9007199254740991.
     NumberTooLarge,
+    /// There are more than 32,768 tokens.
     TooManyTokens,
+    /// No module text continues with this token.
     Unexpected,
+    /// Constructs stand in one another more than 64 deep.
     TooDeep,
+    /// A name is declared twice.
     DuplicateName,
+    /// The bytes are no UTF-8.
     NotUtf8,
+    /// What is assigned is no `let` of the module.
     NotAssignable,
+    /// A specifier begins with none of `/`, `./` and `../`.
     SpecifierBare,
+    /// A specifier has a `..` where no segment is left.
     SpecifierClimbs,
+    /// A specifier is empty, or leaves no segment.
     SpecifierEmpty,
+    /// A specifier means a name of more than 255 bytes.
     SpecifierTooLong,
+    /// A part of a specifier is no segment.
     SpecifierBadSegment,
+    /// More than 256 different names are imported.
     TooManyImports,
 }
 
@@ -42,8 +59,11 @@ pub enum FaultWord {
 /// fault of its specifiers and imports.
 #[derive(Clone, Copy, Debug, PartialEq, Eq)]
 pub struct TextFault {
+    /// The line, from 1, or 0.
     pub line: u32,
+    /// The byte of the line, from 1, or 0.
     pub col: u32,
+    /// What is wrong there.
     pub word: FaultWord,
 }
 

@@ -1,18 +1,24 @@
 // What a variable of a module holds, and what ends an evaluation early.
 use crate::{Name, Text};
 
-/// A value of the module language. A number is whole, within plus or minus 9007199254740991.
+/// A value of the module language. A number that an evaluation makes is whole and within plus or minus
+/// 9007199254740991; the type itself doesn't ask it.
 #[derive(Clone, Debug, Drop, Eq, PartialEq)]
 pub enum Value {
+    /// A number.
     Num(i64),
+    /// A text, which has at most 4,096 bytes where an evaluation makes it.
     Str(Text),
+    /// `undefined`.
     Undef,
 }
 
 /// What a variable holds: nothing until its declaration was evaluated, then a value.
 #[derive(Clone, Debug, Drop, Eq, PartialEq)]
 pub enum Slot {
+    /// The declaration wasn't evaluated.
     Unset,
+    /// This value.
     Val(Value),
 }
 

@@ -1,6 +1,5 @@
-use Rattle.std.proofs.Common.{rules, map, length, ◌<◌, ◌≤◌, ◌≡◌, sym, ap, ◌∙◌, arith}
+use Rattle.std.proofs.Common.{rules, map, length, ◌<◌, ◌≤◌, ap, arith}
 use Rattle.std.proofs.lemmas.Bool.Decides.{nat_tests}
-use Rattle.hmr_types.specs.ModName.{is_name}
 use Rattle.hmr_types.specs.Specifier.{spelled}
 use Rattle.hmr_types.proofs.Segments.{spelled-is_name}
 use Rattle.hmr_types.proofs.specifier.named.Goals as goal

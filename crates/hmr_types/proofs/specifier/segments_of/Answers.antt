@@ -14,6 +14,6 @@ returns-clause-value c =
     (YieldsList-from_slice_split _ (λ b. b == slash) (drop 1 c.args.name.now) (grind (arith, common_steps)) c.split.ensures.done c.split.ensures.closure (λ x b q k. search (rules, tests)))
 
 pub returns-clause-segments : goal.returns-clause-segments
-returns-clause-segments c = 
-  let all = segments-is_name c.args.name.now (search rules) in
-  search rules
+returns-clause-segments c =
+    let all = segments-is_name c.args.name.now (search rules) in
+    search rules

@@ -9,5 +9,5 @@ use Rattle.hmr_types.proofs.specifier.walked.Given as goal
 abbrev pub invariant-loop-part : goal.invariant-loop-part
 invariant-loop-part l = record {
   leads : walk (map (λ s. s.now) l.segments.items) (drop (length l.yielded) (parts l.rest)) ≡ walk (map (λ s. s.now) l.fn.from.items) (parts l.rest);
-  segments : IsTrue (list_all is_segment (map (λ s. s.now) l.segments.items))
+  segments : IsTrue (list_all is_segment (map (λ s. s.now) l.segments.items));
 }
