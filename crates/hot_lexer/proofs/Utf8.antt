@@ -41,9 +41,10 @@ split_ascii xs b ys h u =
     let i = length xs in
     let at : get_or bs i 0 ≡ b = get_or-append_seam xs b ys 0 in
     let small : get_or bs i 0 < 128 = omega (arith, at, h) in
-    let inside : i < length bs = omega (arith, length-append xs (b ∷ ys)) in
-    (subst IsUtf8 (take-append_seam xs (b ∷ ys)) (IsUtf8-take bs i u (IsCharBoundary-before_ascii bs i inside small)),
-    subst IsUtf8 (drop-append-add xs (b ∷ ys) 1) (IsUtf8-drop bs (i + 1) u (IsCharBoundary-after_ascii bs i u inside small)))
+    let inside : i < length bs = omega (arith, length-append xs (b ∷ ys)) in (
+      subst IsUtf8 (take-append_seam xs (b ∷ ys)) (IsUtf8-take bs i u (IsCharBoundary-before_ascii bs i inside small)),
+      subst IsUtf8 (drop-append-add xs (b ∷ ys) 1) (IsUtf8-drop bs (i + 1) u (IsCharBoundary-after_ascii bs i u inside small)),
+    )
 
 -- What a text stands for so far, together with the bytes that are left, is UTF-8. At its place the byte b is next.
 at_place : (out : List ℕ) (i : ℕ) (bs : List ℕ) → i < length bs → IsUtf8 (out ++ drop i bs) → IsUtf8 (out ++ (get_or bs i 0 ∷ drop (i + 1) bs))

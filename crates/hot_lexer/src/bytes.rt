@@ -7,7 +7,7 @@ ghost use Rattle.module_semantics.specs.Lexing.{begins};
 pub(crate) fn is_blank(b: u8) -> bool
     ensures { result ≡ classes.is_blank b }
 {
-    b == b' ' || b == b'\t' || b == b'\r' || b == b'\n'
+    matches!(b, b' ' | b'\t' | b'\r' | b'\n')
 }
 
 #[tactic(auto, unfolding(module_semantics::specs::Bytes::is_digit))]
@@ -16,7 +16,7 @@ pub(crate) fn is_digit(b: u8) -> bool
     ensures low { IsTrue result → 48 ≤ b }
     ensures high { IsTrue result → b ≤ 57 }
 {
-    b'0' <= b && b <= b'9'
+    matches!(b, b'0'..=b'9')
 }
 
 /// Whether a name may begin with the byte.
@@ -25,7 +25,7 @@ pub(crate) fn is_name_start(b: u8) -> bool
     ensures exact { result ≡ classes.is_name_start b }
     ensures ascii { IsTrue result → b < 128 }
 {
-    (b'a' <= b && b <= b'z') || (b'A' <= b && b <= b'Z') || b == b'_' || b == b'$'
+    matches!(b, b'a'..=b'z' | b'A'..=b'Z' | b'_' | b'$')
 }
 
 /// Whether the byte may stand in a name.
@@ -42,7 +42,7 @@ pub(crate) fn is_quote(b: u8) -> bool
     ensures exact { result ≡ classes.is_quote b }
     ensures ascii { IsTrue result → b < 128 }
 {
-    b == b'"' || b == b'\''
+    matches!(b, b'"' | b'\'')
 }
 
 /// Whether the byte ends a line, and so can't stand raw in a text.
@@ -50,7 +50,7 @@ pub(crate) fn is_quote(b: u8) -> bool
 pub(crate) fn is_line_end(b: u8) -> bool
     ensures { result ≡ classes.is_line_end b }
 {
-    b == b'\n' || b == b'\r'
+    matches!(b, b'\n' | b'\r')
 }
 
 /// Whether the byte may follow a backslash.
@@ -59,7 +59,7 @@ pub(crate) fn is_escape(b: u8) -> bool
     ensures exact { result ≡ classes.is_escape b }
     ensures ascii { IsTrue result → b < 128 }
 {
-    b == b'n' || b == b't' || b == b'r' || b == b'\\' || b == b'\'' || b == b'"'
+    matches!(b, b'n' | b't' | b'r' | b'\\' | b'\'' | b'"')
 }
 
 /// What a backslash and this byte stand for.

@@ -47,12 +47,7 @@ fn is_barred(last: After, b: u8) -> bool
 
 /// Adds the token of a piece, where it is one.
 #[tactic(auto, unfolding(module_semantics::specs::Lexing::added))]
-fn add(
-    tokens: &mut Vec<Token>,
-    at: usize,
-    kind: Option<TokenKind>,
-    len: usize,
-) -> Result<(), Stop>
+fn add(tokens: &mut Vec<Token>, at: usize, kind: Option<TokenKind>, len: usize) -> Result<(), Stop>
     requires { at + len < 2 ^ 32 }
     ensures { Reads (λ _. lexemes_of tokens.new.items) result (lexing.added at (lexemes_of tokens.old.items) (option_map token_of kind, len)) }
 {
@@ -107,17 +102,10 @@ fn lex_bytes(alloc: Global, text: &[u8]) -> Result<Vec<Token>, Stop>
     let mut tokens = Vec::new(alloc);
     let mut at = 0;
     let mut last = After::Other;
-    for turn in 0..text.len() {
-        if at >= text.len() {
-            return Ok(tokens);
-        }
-        match step(alloc, &mut tokens, at, last, text[at], &text[at + 1..]) {
-            Err(stop) => return Err(stop),
-            Ok((len, next)) => {
-                last = next;
-                at += len;
-            }
-        }
+    while at < text.len() {
+        let (len, next) = step(alloc, &mut tokens, at, last, text[at], &text[at + 1..])?;
+        at += len;
+        last = next;
     }
     Ok(tokens)
 }

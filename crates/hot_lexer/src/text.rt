@@ -52,7 +52,12 @@ fn read_quoted(alloc: Global, at: usize, quote: u8, rest: &[u8]) -> Result<(Vec<
 }
 
 /// A text and its length; `rest` follows its opening quote.
-pub(crate) fn read_text(alloc: Global, at: usize, quote: u8, rest: &[u8]) -> Result<(Text, usize), Stop>
+pub(crate) fn read_text(
+    alloc: Global,
+    at: usize,
+    quote: u8,
+    rest: &[u8],
+) -> Result<(Text, usize), Stop>
     requires room { at + 1 + length rest.now < 2 ^ 32 }
     requires ascii { quote < 128 }
     requires utf8 { IsUtf8 rest.now }

@@ -1,38 +1,40 @@
-use Rattle.std.proofs.Common.{◌+◌, ◌-◌, drop, length, length-drop, length-take, arith, sym, ◌∙◌, subst}
+use Rattle.std.proofs.Common.{◌+◌, ◌-◌, drop, length, length-drop, length-take, arith, sym, subst}
+use Rattle.std.proofs.lemmas.Result.{err_from_is_err_and}
 use Rattle.std.specs.Str.{IsUtf8}
-use Rattle.module_semantics.specs.Lexing.{lexing}
 use Rattle.hot_lexer.specs.Token.{lexemes_of}
-use Rattle.hot_lexer.proofs.LexTurns.{ended, stopped, turned, passed, tail, no_turns}
+use Rattle.hot_lexer.proofs.LexTurns.{started, ended, stopped, turned, some_bytes, passed, tail}
 use Rattle.hot_lexer.proofs.Utf8.{after_ascii}
 use Rattle.hot_lexer.proofs.lexer.lex_bytes.Goals as goal
 
-pub returns-then-at-text : goal.returns-then-at-text
-unfolding lexing
-returns-then-at-text c =
-    let l = c.loop-turn in
-    sym l.invariant.same ∙ ended _ l.at l.last (lexemes_of l.tokens.items) c.args.text.now l.at c.if-at-text.true
+pub loop-at-init : goal.loop-at-init
+loop-at-init c = record { going = rw (c.new-tokens.ensures).items (started c.args.text.now); within = omega arith }
 
 pub step-requires-clause-utf8 : goal.step-requires-clause-utf8
-step-requires-clause-utf8 c = λ small. subst IsUtf8 (sym (tail c.args.text.now c.loop-turn.at)) (after_ascii c.args.text.now c.loop-turn.at c.requires.utf8 (omega (arith, c.if-at-text.false)) small)
+step-requires-clause-utf8 c = λ small. subst IsUtf8 (sym (tail c.args.text.now c.loop-at.at)) (after_ascii c.args.text.now c.loop-at.at c.requires.utf8 c.loop-at-test.true small)
 
-pub returns-in-Err : goal.returns-in-Err
-unfolding lexing
-returns-in-Err c =
-    let l = c.loop-turn in
-    passed c.in-Err.stop _ _ (c.in-Err.ensures).exact
-        (λ f h. sym l.invariant.same ∙ stopped _ (length c.args.text.now - (l.turn + 1)) l.at l.last (lexemes_of l.tokens.items) c.args.text.now l.at _ f (omega (arith, c.loop-turn-test.true)) (tail c.args.text.now l.at) (omega (arith, c.if-at-text.false)) h)
+pub returns-in_err-len : goal.returns-in_err-len
+returns-in_err-len c =
+    let l = c.loop-at in
+    let text = c.args.text.now in
+    let told = err_from_is_err_and c.from_residual.result c.from_residual.ensures.1 in
+    rw (told.1, told.2) (passed c.in_err-len.field-0.0 _ _ (c.in_err-len.ensures).exact
+    (λ f h. stopped l.at l.last (lexemes_of l.tokens.items) text _ f l.invariant.going c.loop-at-test.true (tail text l.at) h))
 
-pub loop-turn-preserved : goal.loop-turn-preserved
-unfolding lexing
-loop-turn-preserved c =
-    let l = c.loop-turn in
+pub loop-at-smaller : goal.loop-at-smaller
+loop-at-smaller c =
+    let l = c.loop-at in
+    omega (arith, c.loop-at-test.true, some_bytes l.at l.last (lexemes_of l.tokens.items) _ _ (c.in_ok-len.len, (c.in_ok-len.next, lexemes_of c.step.new.tokens.items)) (c.in_ok-len.ensures).exact)
+
+pub loop-at-preserved : goal.loop-at-preserved
+loop-at-preserved c =
+    let l = c.loop-at in
+    let text = c.args.text.now in
     record {
-      same = sym (turned _ (length c.args.text.now - (l.turn + 1)) l.at l.last (lexemes_of l.tokens.items) c.args.text.now l.at _ (c.in-Ok.len, (c.in-Ok.next, lexemes_of c.step.new.tokens.items)) (omega (arith, c.loop-turn-test.true)) (tail c.args.text.now l.at) (omega (arith, c.if-at-text.false)) (c.in-Ok.ensures).exact) ∙ l.invariant.same;
-      within = omega (arith, (c.in-Ok.ensures).within, length-drop (l.at + 1) c.args.text.now, c.if-at-text.false, length-take (length c.args.text.now - (l.at + 1)) (drop (l.at + 1) c.args.text.now));
+      going = turned l.at l.last (lexemes_of l.tokens.items) text _ (c.in_ok-len.len, (c.in_ok-len.next, lexemes_of c.step.new.tokens.items)) l.invariant.going c.loop-at-test.true (tail text l.at) (c.in_ok-len.ensures).exact;
+      within = omega (arith, (c.in_ok-len.ensures).within, length-drop (l.at + 1) text, c.loop-at-test.true, length-take (length text - (l.at + 1)) (drop (l.at + 1) text));
     }
 
 pub returns : goal.returns
-unfolding lexing
 returns c =
-    let l = c.loop-turn in
-    sym l.invariant.same ∙ no_turns _ l.at l.last (lexemes_of l.tokens.items) (drop l.at c.args.text.now) (omega (arith, c.loop-turn-test.false))
+    let l = c.loop-at in
+    ended l.at l.last (lexemes_of l.tokens.items) c.args.text.now l.invariant.going (omega (arith, c.loop-at-test.false))
