@@ -9,3 +9,4 @@ pub mod Planning
 pub mod Loading
 pub mod Replaying
 pub mod Clients
+pub mod Sending

@@ -8,7 +8,10 @@ ghost use Rattle.core_model.specs.Spread.{IsReason, reason_of, IsReloadWanted, I
 ghost use Rattle.core_model.specs.Page.{Plan, new_plan, plan_imports, met_of, new_entry, new_view};
 ghost use Rattle.core_model.specs.FreshLoad as fresh;
 ghost use Rattle.core_model.specs.FreshLoad.{Served, reached_by, version_in, fresh_table};
-ghost use Rattle.core_model.specs.Sources.{sources_after};
+ghost use Rattle.core_model.specs.Sources.{Sources, sources_after};
+ghost use Rattle.core_model.specs.Client.{Client};
+ghost use Rattle.core_model.specs.Asking.{ask_row, reload};
+ghost use Rattle.core_model.specs.Sent.{IsReloadSent};
 ghost use Rattle.core_model.specs.Core.{Event, step, core_after, replay, changes_of};
 ghost use Rattle.hmr_types.specs.declared.words.PlanKind.TheVariants.{Update};
 ghost use Rattle.core_model.specs.LeastPath.{IsLeastPath, least_path_of};
@@ -89,3 +92,11 @@ pub fn replay_of_one_more_is_a_step()
 pub fn sources_are_of_the_changes()
     ensures { (roots : List Name) (past : List Event) → (core_after roots past).sources ≡ sources_after (changes_of past) }
 {}
+
+/// An Ask is answered by a full reload exactly where no plan is under way, no notice waits, the page is
+/// loaded, nothing is dropped, the client isn't held, and an unaccepted path ends badly; the path that
+/// is told is the least such path.
+pub fn reload_is_sent_exactly()
+    ensures { (roots : List Name) (s : Sources) (c : Client) (path : List Name) → (ask_row roots s c ≡ reload path) ↔ IsReloadSent roots s c path }
+{
+}
