@@ -10,3 +10,4 @@ pub mod Loading
 pub mod Replaying
 pub mod Clients
 pub mod Sending
+pub mod Rising

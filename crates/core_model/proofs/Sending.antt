@@ -1,5 +1,5 @@
 -- An Ask is answered by a full reload exactly where one is to be sent.
-use Rattle.std.proofs.Common.{◌≡◌, ◌↔◌, ◌⊎◌, inl, inr, ℕ, Bool, true, false, List, [], ◌∷◌, ◌++◌, refl, ap, sym, ◌∙◌, Contains}
+use Rattle.std.proofs.Common.{◌≡◌, ◌↔◌, Bool, true, false, List, [], ◌∷◌, ◌++◌, refl, ap, sym, ◌∙◌}
 use Rattle.std.specs.Prelude.{Option, Some, None, is_some, IfSome, IfNone, option_and_then}
 use Prim.{⊥}
 use Rattle.std.proofs.Math.Path.{subst}
@@ -8,7 +8,7 @@ use Rattle.hmr_types.specs.declared.analysis.TextFault.{TextFault}
 use Rattle.core_model.specs.Names.{Name, same_name, has, at, names_of, sorted, first_of}
 use Rattle.core_model.specs.Sources.{Sources}
 use Rattle.core_model.specs.View.{View}
-use Rattle.core_model.specs.Spread.{passes, ends_badly, IsReason, IsReloadWanted, reason_of}
+use Rattle.core_model.specs.Spread.{passes, ends_badly, IsReason, IsReloadWanted}
 use Rattle.core_model.specs.Page.{Plan}
 use Rattle.core_model.specs.Client.{Client, is_held, changed, dropped, reason, replaced, pairs, with_name, first_notice}
 use Rattle.core_model.specs.Asking.{AskRow, out_of_turn, tell, load, idle, prune, reload, update, row_replaced, row_reason, row_held, row_dropped, row_loaded, row_notice, row_plan, ask_row}
@@ -109,23 +109,30 @@ module _ (path : List Name) where
   pub reload_is : (roots : List Name) (s : Sources) (c : Client) → (ask_row roots s c ≡ reload path) ↔ IsReloadSent roots s c path
   reload_is roots s c = (
     (λ e.
-      let plan = by_plan c.page.plan _ e in
-      let notice = by_notice (first_notice c) _ plan.1 in
-      let loaded = by_loaded c.page.loaded (is_held s c) _ notice.1 in
-      let whole = by_dropped (dropped roots c) _ loaded.1 in
-      let free = by_held (is_held s c) _ whole.1 in
-      let why : reason roots s c ≡ Some path = by_reason (reason roots s c) (replaced s c) (pairs s c) free.1 in
-      record { idle = plan.0; told = no_notice c.notices notice.0; loaded = loaded.0; whole = whole.0; free = free.0;
-        reason = subst (λ q. IfSome q (IsReason c.page.view roots (changed s c) c.page.forced)) why (reason_is c.page.view roots (changed s c) c.page.forced).0 }),
+        let plan = by_plan c.page.plan _ e in
+        let notice = by_notice (first_notice c) _ plan.1 in
+        let loaded = by_loaded c.page.loaded (is_held s c) _ notice.1 in
+        let whole = by_dropped (dropped roots c) _ loaded.1 in
+        let free = by_held (is_held s c) _ whole.1 in
+        let why : reason roots s c ≡ Some path = by_reason (reason roots s c) (replaced s c) (pairs s c) free.1 in
+        record {
+          idle = plan.0;
+          told = no_notice c.notices notice.0;
+          loaded = loaded.0;
+          whole = whole.0;
+          free = free.0;
+          reason = subst (λ q. IfSome q (IsReason c.page.view roots (changed s c) c.page.forced)) why (reason_is c.page.view roots (changed s c) c.page.forced).0;
+        }),
     (λ h.
-      let r = reason_is c.page.view roots (changed s c) c.page.forced in
-      let why : reason roots s c ≡ Some path = computed c.page.view roots (changed s c) c.page.forced (reason roots s c) r.0 r.1 h.reason in
-      let end : AskRow = row_replaced (replaced s c) (pairs s c) in
-      let at_reason : row_reason (reason roots s c) end ≡ reload path = ap (λ q. row_reason q end) why in
-      let at_held : row_held (is_held s c) (row_reason (reason roots s c) end) ≡ reload path = ap (λ b. row_held b (row_reason (reason roots s c) end)) h.free ∙ at_reason in
-      let at_dropped : row_dropped (dropped roots c) (row_held (is_held s c) (row_reason (reason roots s c) end)) ≡ reload path = ap (λ ns. row_dropped ns (row_held (is_held s c) (row_reason (reason roots s c) end))) h.whole ∙ at_held in
-      let rest : AskRow = row_dropped (dropped roots c) (row_held (is_held s c) (row_reason (reason roots s c) end)) in
-      ap (λ q. row_plan q (row_notice (first_notice c) (row_loaded c.page.loaded (is_held s c) rest))) h.idle
-      ∙ ap (λ notices. row_notice (option_and_then (λ n. with_name n (at notices n)) (first_of (sorted (names_of notices)))) (row_loaded c.page.loaded (is_held s c) rest)) h.told
-      ∙ ap (λ b. row_loaded b (is_held s c) rest) h.loaded
-      ∙ at_dropped))
+        let r = reason_is c.page.view roots (changed s c) c.page.forced in
+        let why : reason roots s c ≡ Some path = computed c.page.view roots (changed s c) c.page.forced (reason roots s c) r.0 r.1 h.reason in
+        let end : AskRow = row_replaced (replaced s c) (pairs s c) in
+        let at_reason : row_reason (reason roots s c) end ≡ reload path = ap (λ q. row_reason q end) why in
+        let at_held : row_held (is_held s c) (row_reason (reason roots s c) end) ≡ reload path = ap (λ b. row_held b (row_reason (reason roots s c) end)) h.free ∙ at_reason in
+        let at_dropped : row_dropped (dropped roots c) (row_held (is_held s c) (row_reason (reason roots s c) end)) ≡ reload path = ap (λ ns. row_dropped ns (row_held (is_held s c) (row_reason (reason roots s c) end))) h.whole ∙ at_held in
+        let rest : AskRow = row_dropped (dropped roots c) (row_held (is_held s c) (row_reason (reason roots s c) end)) in
+        ap (λ q. row_plan q (row_notice (first_notice c) (row_loaded c.page.loaded (is_held s c) rest))) h.idle
+        ∙ ap (λ notices. row_notice (option_and_then (λ n. with_name n (at notices n)) (first_of (sorted (names_of notices)))) (row_loaded c.page.loaded (is_held s c) rest)) h.told
+        ∙ ap (λ b. row_loaded b (is_held s c) rest) h.loaded
+        ∙ at_dropped),
+  )
