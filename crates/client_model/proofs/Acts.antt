@@ -61,7 +61,7 @@ module _ (P : Runtime → Did → Type 0) (k : IsKept P) where
   kept_replace language number i r =
       k.after r (and_then (run_each language place.Dispose no_arguments disposes i.number r) (drop_each is_left_behind i.number)) (end_instance (fate_by (number i.name)) i.number i.name)
       (k.after r (run_each language place.Dispose no_arguments disposes i.number r) (drop_each is_left_behind i.number)
-        (kept_run_each language place.Dispose no_arguments disposes i.number r) (k.drop is_left_behind i.number))
+      (kept_run_each language place.Dispose no_arguments disposes i.number r) (k.drop is_left_behind i.number))
       (k.end (fate_by (number i.name)) i.number i.name)
 
   pub kept_end_old : (language : Language) → (kind : PlanKind) (p : Plan) (r : Runtime) → P r (end_old kind language p r)
@@ -100,10 +100,10 @@ module _ (P : Runtime → Did → Type 0) (k : IsKept P) where
       let dropping : Runtime → Did = drop_each is_held i.number in
       k.after r (and_then (and_then (and_then disposed pruning) dropping) (give_up_bag i.name)) (end_instance Pruned i.number i.name)
       (k.after r (and_then (and_then disposed pruning) dropping) (give_up_bag i.name)
-        (k.after r (and_then disposed pruning) dropping
-          (k.after r disposed pruning (kept_run_each language place.Dispose no_arguments disposes i.number r) (kept_run_each language place.Prune no_arguments prunes i.number))
-          (k.drop is_held i.number))
-        (k.give_up i.name))
+      (k.after r (and_then disposed pruning) dropping
+      (k.after r disposed pruning (kept_run_each language place.Dispose no_arguments disposes i.number r) (kept_run_each language place.Prune no_arguments prunes i.number))
+      (k.drop is_held i.number))
+      (k.give_up i.name))
       (k.end Pruned i.number i.name)
 
   -- a plan is applied, up to the moment at which the page is the plan's
@@ -122,8 +122,8 @@ module _ (P : Runtime → Did → Type 0) (k : IsKept P) where
       let dropping : Runtime → Did = drop_set_aside p r in
       k.after r (and_then (and_then ended making) telling) dropping
       (k.after r (and_then ended making) telling
-        (k.after r ended making (kept_end_old language p.kind p r) (kept_each (make language) (k.made language) (births (new_names p r) p r)))
-        (kept_tell_all language p.kind p r))
+      (k.after r ended making (kept_end_old language p.kind p r) (kept_each (make language) (k.made language) (births (new_names p r) p r)))
+      (kept_tell_all language p.kind p r))
       (kept_set_aside language p r)
 
   pub kept_pruning : (language : Language) (names : List Name) (r : Runtime) → P r (for_each (prune_instance language) (live_of (has names) r) r)

@@ -104,7 +104,7 @@ keeps_if false r did other h k = k
 
 keeps_make : (language : Language) (b : Birth) (r : Runtime) → Keeps r (make language b r)
 keeps_make language b r = keeps_if (has_failed_link r.instances b.links) r (make_unrun b r) (make_run language b r) (λ n. refl)
-  (keeps_evaluated b (evaluate language b r) (register_in b (evaluate language b r) r) r (all_silent b.number b.name (evaluate language b r).registered (record { handlers = []; shelf = r.shelf; journal = [] }) (λ n bag. refl)))
+    (keeps_evaluated b (evaluate language b r) (register_in b (evaluate language b r) r) r (all_silent b.number b.name (evaluate language b r).registered (record { handlers = []; shelf = r.shelf; journal = [] }) (λ n bag. refl)))
 
 bags_kept : IsKept Keeps
 bags_kept = record {
@@ -116,7 +116,8 @@ bags_kept = record {
   give_up = keeps_give_up;
   give_up_all = λ r n. refl;
   made = keeps_make;
-  wrote = λ l r n. refl }
+  wrote = λ l r n. refl;
+}
 
 module _ (language : Language) where
   keeps_apply : (p : Plan) (r : Runtime) → Keeps r (apply language p r)
@@ -205,14 +206,14 @@ module _ (language : Language) where
       let filled : Taking = if is_too_many asked m r then stop r else did in
       taking_if r.stopped r (unchanged_by is_stopped r) (if not (is_answer r.page.loaded asked m) then not_answering else filled) (λ n. refl)
       (taking_if (not (is_answer r.page.loaded asked m)) r not_answering filled (λ n. refl)
-        (taking_if (is_too_many asked m r) r (stop r) did (λ n. refl) (keeps_answered asked m r)))
+      (taking_if (is_too_many asked m r) r (stop r) did (λ n. refl) (keeps_answered asked m r)))
 
   -- a client's bags are those that all that happened left
   pub bags_are : (shelf : List (Text × ℕ)) (past : List ServerMsg) (n : Name) → bag_of (runtime_after language shelf past) n ≡ bag_left (journal_of language shelf past) n
   bags_are shelf [] n = refl
   bags_are shelf (m ∷ past) n = keeps_take (runtime_after language shelf past) m n
-    ∙ ap (λ bag. fold (bag_after n) bag (take language (runtime_after language shelf past) m).journal) (bags_are shelf past n)
-    ∙ sym (fold-append (bag_after n) [] (journal_of language shelf past) (take language (runtime_after language shelf past) m).journal)
+      ∙ ap (λ bag. fold (bag_after n) bag (take language (runtime_after language shelf past) m).journal) (bags_are shelf past n)
+      ∙ sym (fold-append (bag_after n) [] (journal_of language shelf past) (take language (runtime_after language shelf past) m).journal)
 
   -- a pruned module's bag is empty
   pub pruned_bag_is_empty : (i : Instance) (r : Runtime) → bag_of (prune_instance language i r).0 i.name ≡ []

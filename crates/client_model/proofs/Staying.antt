@@ -1,5 +1,5 @@
 -- What a client does with its instances leaves its page, its roots and its number as they were.
-use Rattle.std.proofs.Common.{◌≡◌, ℕ, Bool, true, false, List, refl, ap, sym, ◌∙◌}
+use Rattle.std.proofs.Common.{◌≡◌, Bool, true, false, refl, ◌∙◌}
 use Rattle.std.specs.Prelude.{if◌then◌else◌}
 use Rattle.client_model.specs.Language.{Language}
 use Rattle.client_model.specs.Runtime.{Runtime, Did, and_then}
@@ -21,8 +21,8 @@ stays_if false r did other h k = k
 
 stays_made : (language : Language) (b : Birth) (r : Runtime) → Stays r (make language b r)
 stays_made language b r = stays_if (has_failed_link r.instances b.links) r (make_unrun b r) (make_run language b r)
-  (record { page = refl; roots = refl; client = refl; stopped = refl })
-  (record { page = refl; roots = refl; client = refl; stopped = refl })
+    (record { page = refl; roots = refl; client = refl; stopped = refl })
+    (record { page = refl; roots = refl; client = refl; stopped = refl })
 
 pub page_kept : IsKept Stays
 page_kept = record {
@@ -34,4 +34,5 @@ page_kept = record {
   give_up = λ m r. record { page = refl; roots = refl; client = refl; stopped = refl };
   give_up_all = λ r. record { page = refl; roots = refl; client = refl; stopped = refl };
   made = stays_made;
-  wrote = λ l r. record { page = refl; roots = refl; client = refl; stopped = refl } }
+  wrote = λ l r. record { page = refl; roots = refl; client = refl; stopped = refl };
+}

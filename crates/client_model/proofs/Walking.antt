@@ -145,7 +145,8 @@ module _ (next : Name → List Name) (names : List Name) (over : IsOver (λ n m.
   new_covers n w v c = record {
     all = λ m e. subst (λ k. has v.met k ≡ true) (same_true n m (or_false (same_name n m) e)) (c.grown n (more_last w.met n));
     grown = λ m h. c.grown m (met_grown n w m h);
-    closed = λ k m e g by. new_closed n w v c k m e g by (cases_bool (has (met_too n w).met k)) }
+    closed = λ k m e g by. new_closed n w v c k m e g by (cases_bool (has (met_too n w).met k));
+  }
 
   visit_if : (b : Bool) (n : Name) (w v : Walked) → has w.met n ≡ b → (b ≡ false → Covers (met_too n w) v (next n)) → Covers w (if b then w else left_too n v) (n ∷ [])
   visit_if true n w v e f = same_covers n w e
@@ -165,11 +166,13 @@ module _ (next : Name → List Name) (names : List Name) (over : IsOver (λ n m.
       both_cover n from w v u first rest = record {
         all = λ m e. all_by m (or_cases (same_name n m) (has from m) e);
         grown = λ m e. rest.grown m (first.grown m e);
-        closed = λ k m e g by. closed_by k m e g by (cases_bool (has v.met k)) }
+        closed = λ k m e g by. closed_by k m e g by (cases_bool (has v.met k));
+      }
         where
           all_by : (m : Name) → (same_name n m ≡ true) ⊎ (has from m ≡ true) → has u.met m ≡ true
           all_by m (inl s) = rest.grown m (first.all m (or_left (same_name n m) false s))
           all_by m (inr t) = rest.all m t
+
           closed_by : (k m : Name) → has w.met k ≡ false → has u.met k ≡ true → has (next k) m ≡ true → (has v.met k ≡ true) ⊎ (has v.met k ≡ false) → has u.met m ≡ true
           closed_by k m e g by (inl t) = rest.grown m (first.closed k m e t by)
           closed_by k m e g by (inr f) = rest.closed k m f g by
@@ -248,8 +251,9 @@ pub walk_is : (roots : List Name) (p : Plan) (view : View) (m : Name) → (has (
 walk_is roots p view m = (
   walk_sound (next_of p view) roots (depth_of roots p view) roots (record { met = []; left = [] }) (λ n h. reaches_start _ roots n ((has_is roots n).1 h)) (λ n h. absurd (false≢true h)) m,
   reaches_within (plan_imports p view) roots (λ n. has (fetch_order roots p view) n ≡ true)
-    (λ n c. (covered roots p view).all n ((has_is roots n).0 c))
-    (λ n k h by. (covered roots p view).closed n k refl h by) m)
+      (λ n c. (covered roots p view).all n ((has_is roots n).0 c))
+      (λ n k h by. (covered roots p view).closed n k refl h by) m,
+)
 
 -- and leaves it
 pub orders_agree : (roots : List Name) (p : Plan) (view : View) (m : Name) → has (fetch_order roots p view) m ≡ has (evaluation_order roots p view) m

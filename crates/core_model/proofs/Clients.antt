@@ -1,6 +1,6 @@
 -- Clients by number, looked up.
 use Rattle.std.proofs.Common.{◌≡◌, ℕ, Bool, true, false, List, [], ◌∷◌, refl, ap, sym, ◌∙◌}
-use Rattle.std.specs.Prelude.{filter, map, cond, not, ◌==◌, Option, Some, None, option_map, if◌then◌else◌}
+use Rattle.std.specs.Prelude.{cond, not, ◌==◌, Option, Some, None, option_map, if◌then◌else◌}
 use Rattle.std.proofs.lemmas.Bool.{false≢true, eqb-true, eq-eqb}
 use Rattle.core_model.specs.Core.{client_at, without_client, with_client, each_client}
 
@@ -27,7 +27,7 @@ module _ {X : Type 0} where
   pub at_without : (i : ℕ) (rows : List (ℕ × X)) (j : ℕ) → client_at (without_client i rows) j ≡ (if i == j then None else client_at rows j)
   at_without i [] j = both_ways (i == j) None
   at_without i (row ∷ rows) j = filtered_row (not (row.0 == i)) row (without_client i rows) j
-    ∙ without_step (row.0 == i) (i == j) (row.0 == j) row.1 (client_at rows j) (client_at (without_client i rows) j)
+      ∙ without_step (row.0 == i) (i == j) (row.0 == j) row.1 (client_at rows j) (client_at (without_client i rows) j)
       (λ e. ap (λ k. k == j) (sym (eqb-true row.0 i e)))
       (λ e f. apart (i == j) e (ap (λ k. k == i) (eqb-true row.0 j f)) (λ g. eq-eqb j i (sym (eqb-true i j g))))
       (at_without i rows j)

@@ -9,3 +9,5 @@ pub mod Planning
 pub mod Loading
 pub mod Replaying
 pub mod Clients
+pub mod Sending
+pub mod Rising

@@ -71,7 +71,7 @@ module _ {X : Type 0} where
   pub at_without : (n : Name) (rows : List (Name × X)) (m : Name) → at (without n rows) m ≡ (if same_name n m then None else at rows m)
   at_without n [] m = both_ways (same_name n m) None
   at_without n (row ∷ rows) m = filtered_row (not (same_name row.0 n)) row (without n rows) m
-    ∙ without_step (same_name row.0 n) (same_name n m) (same_name row.0 m) row.1 (at rows m) (at (without n rows) m)
+      ∙ without_step (same_name row.0 n) (same_name n m) (same_name row.0 m) row.1 (at rows m) (at (without n rows) m)
       (λ e. ap (λ k. same_name k m) (sym (same_true row.0 n e)))
       (λ e f. apart (same_name n m) e (ap (λ k. same_name k n) (same_true row.0 m f)) (λ g. ap (λ k. same_name m k) (same_true n m g) ∙ true_same m m refl))
       (at_without n rows m)

@@ -14,3 +14,4 @@ pub mod Core
 pub mod Transcript
 pub mod Examples
 pub mod Exchange
+pub mod Sent

@@ -1,5 +1,5 @@
 -- Names of modules, in lists and as keys.
-use Rattle.std.specs.Prelude.{ℕ, Bool, not, nat_eq, List, [], ◌∷◌, filter, map, Option, Some, None, if◌then◌else◌}
+use Rattle.std.specs.Prelude.{ℕ, Bool, not, nat_eq, List, [], ◌∷◌, filter, map, Option, Some, None, if◌then◌else◌, true, ◌&&◌}
 use Rattle.std.specs.List.{list_any}
 use Rattle.std.specs.Ordering.{nat_cmp, is_lt}
 use Rattle.std.specs.Cmp.Lexicographic.{pointwise, slice_cmp}
@@ -61,3 +61,9 @@ sorted (n ∷ names) = put_name n (sorted names)
 abbrev pub first_of : {X : Type 0} → List X → Option X
 first_of [] = None
 first_of (x ∷ xs) = Some x
+
+-- each name is below the next, by bytes
+abbrev pub rising : List Name → Bool
+rising [] = true
+rising (n ∷ []) = true
+rising (n ∷ (m ∷ names)) = is_lt (slice_cmp nat_cmp n m) && rising (m ∷ names)

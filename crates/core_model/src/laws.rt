@@ -1,14 +1,18 @@
 // Laws of the definitions: what is computed is what the relations say.
 ghost use Rattle.std.specs.Prelude.{◌≡◌, ◌↔◌, Bool, true, List, [], ◌∷◌, ◌++◌, None, IfSome, IfNone, Contains, if◌then◌else◌};
-ghost use Rattle.core_model.specs.Names.{Name, has, at, names_of};
+ghost use Rattle.core_model.specs.Names.{Name, has, at, names_of, rising};
 ghost use Rattle.core_model.specs.Paths.{Reaches};
 ghost use Rattle.core_model.specs.Rounds.{IsOver, reached_of};
-ghost use Rattle.core_model.specs.View.{View, imports, IsDropped, dropped_of};
+ghost use Rattle.core_model.specs.View.{View, imports, IsDropped, dropped_of, table_of};
 ghost use Rattle.core_model.specs.Spread.{IsReason, reason_of, IsReloadWanted, IsReplaced, replaced_of, AreIn, IsPair, pairs_of};
 ghost use Rattle.core_model.specs.Page.{Plan, new_plan, plan_imports, met_of, new_entry, new_view};
+ghost use Rattle.hmr_types.specs.Table.{rises};
 ghost use Rattle.core_model.specs.FreshLoad as fresh;
 ghost use Rattle.core_model.specs.FreshLoad.{Served, reached_by, version_in, fresh_table};
-ghost use Rattle.core_model.specs.Sources.{sources_after};
+ghost use Rattle.core_model.specs.Sources.{Sources, sources_after};
+ghost use Rattle.core_model.specs.Client.{Client};
+ghost use Rattle.core_model.specs.Asking.{ask_row, reload};
+ghost use Rattle.core_model.specs.Sent.{IsReloadSent};
 ghost use Rattle.core_model.specs.Core.{Event, step, core_after, replay, changes_of};
 ghost use Rattle.hmr_types.specs.declared.words.PlanKind.TheVariants.{Update};
 ghost use Rattle.core_model.specs.LeastPath.{IsLeastPath, least_path_of};
@@ -88,4 +92,21 @@ pub fn replay_of_one_more_is_a_step()
 /// The core's sources look back at the edits and results alone.
 pub fn sources_are_of_the_changes()
     ensures { (roots : List Name) (past : List Event) → (core_after roots past).sources ≡ sources_after (changes_of past) }
+{}
+
+/// An Ask is answered by a full reload exactly where no plan is under way, no notice waits, the page is
+/// loaded, nothing is dropped, the client isn't held, and an unaccepted path ends badly; the path that
+/// is told is the least such path.
+pub fn reload_is_sent_exactly()
+    ensures { (roots : List Name) (s : Sources) (c : Client) (path : List Name) → (ask_row roots s c ≡ reload path) ↔ IsReloadSent roots s c path }
+{}
+
+/// The view that a plan makes rises by name, and so does its table; so do the dropped and the replaced
+/// names.
+pub fn lists_of_names_rise()
+    ensures view { (roots : List Name) (p : Plan) (view : View) → rising (names_of (new_view roots p view)) ≡ true }
+    ensures table { (roots : List Name) (p : Plan) (view : View) → rises (table_of (new_view roots p view)) ≡ true }
+    ensures dropped { (view : View) (roots : List Name) → rising (dropped_of view roots) ≡ true }
+    ensures replaced { (view : View) (changed forced : List Name) → rising (replaced_of view changed forced) ≡ true }
+    ensures fresh { (served : Served) (roots : List Name) → rising (names_of (fresh_table served roots)) ≡ true }
 {}

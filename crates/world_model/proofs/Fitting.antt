@@ -1,14 +1,13 @@
 -- The core's answer to the request of a client that is tied to its record: it is an answer to that
 -- request, and the page that it makes of the client's is the one that the record then has.
-use Rattle.std.proofs.Common.{◌≡◌, ◌⊎◌, inl, inr, ℕ, ◌≤◌, Bool, true, false, List, [], ◌∷◌, ◌++◌, refl, ap, sym, ◌∙◌, arith}
+use Rattle.std.proofs.Common.{◌≡◌, ℕ, ◌≤◌, Bool, true, false, List, [], ◌∷◌, ◌++◌, refl, ap, sym, ◌∙◌, arith}
 use Rattle.std.specs.Prelude.{filter, cond, not, ◌==◌, Option, Some, None, is_some, is_none, map, ⊤, if◌then◌else◌}
 use Prim.{⊥}
 use Rattle.std.proofs.Math.Path.{subst}
 use Rattle.std.proofs.lemmas.Bool.{false≢true, eq-eqb, eqb-true}
 use Rattle.hmr_types.specs.declared.analysis.TextFault.{TextFault}
 use Rattle.hmr_types.specs.declared.words.PlanKind.TheVariants.{Load, Reload, Update}
-use Rattle.hmr_types.specs.declared.analysis.Outcome.{Outcome}
-use Rattle.hmr_types.specs.declared.analysis.Outcome.TheVariants.{Good, Bad}
+use Rattle.hmr_types.specs.declared.analysis.Outcome.TheVariants.{Good}
 use Rattle.core_model.specs.declared.message.ClientMsg.{ClientMsg}
 use Rattle.core_model.specs.declared.message.ClientMsg.TheVariants as told
 use Rattle.core_model.specs.declared.message.ServerMsg.{ServerMsg}
@@ -17,13 +16,13 @@ use Rattle.core_model.specs.declared.message.AbortCause.{AbortCause}
 use Rattle.core_model.specs.declared.message.AbortCause.TheVariants as abort
 use Rattle.core_model.specs.Names.{Name, same_name, has, at, names_of, sorted, first_of}
 use Rattle.core_model.specs.Sources.{Sources, Source, Serving, Verdict, outstanding, good, bad}
-use Rattle.core_model.specs.View.{View, Entry, table_of}
+use Rattle.core_model.specs.View.{table_of}
 use Rattle.core_model.specs.Page.{Plan, Page, entry_at, met_of, unfetched_of, new_view, staged, applied, given_up, forced_too, pruned}
 use Rattle.core_model.specs.Client.{Client, is_held, dropped, reason, replaced, pairs, first_notice}
 use Rattle.core_model.specs.Asking.{AskRow, out_of_turn, tell, load, idle, prune, reload, update, row_replaced, row_reason, row_held, row_dropped, row_loaded, row_notice, row_plan, ask_row, asked, js_update}
 use Rattle.core_model.specs.Requests as core
 use Rattle.core_model.specs.Requests.{Request, ask_reply, FetchRow, text, not_yet, broken, missing, row_verdict, row_source, row_served, fetch_row, fetched, fetch_reply, applied_row, row_differing, row_unfetched, AppliedRow, done, differing, version_at, heard, is_at_version, invalidated, invalidate_reply, after_applied, applied_reply, fetched_in, applied_in, aborted_in, invalidated_in}
-use Rattle.core_model.specs.Core.{Event, request}
+use Rattle.core_model.specs.Core.{request}
 use Rattle.core_model.specs.Exchange.{event_of, message_of}
 use Rattle.core_model.proofs.Naming.{true_same, filtered_from, filtered_in, sorted_has, or_left}
 use Rattle.client_model.specs.Language.{Language}
@@ -155,7 +154,8 @@ fetch_matches language p n c r e plan_is (text s) h = record {
   page_is = staged_by language p n s r (λ did. did.0.page ≡ staged p n (record { version = s.version; analysis = s.analysis }) c.page) plan_is h (ap (staged p n (record { version = s.version; analysis = s.analysis })) (sym e));
   roots = staged_by language p n s r (λ did. did.0.roots ≡ r.roots) plan_is h refl;
   number = staged_by language p n s r (λ did. did.0.client ≡ r.client) plan_is h refl;
-  running = staged_by language p n s r (λ did. did.0.stopped ≡ r.stopped) plan_is h refl }
+  running = staged_by language p n s r (λ did. did.0.stopped ≡ r.stopped) plan_is h refl;
+}
 fetch_matches language p n c r e plan_is not_yet h = record { answers = true_same n n refl; page_is = sym e; roots = refl; number = refl; running = refl }
 fetch_matches language p n c r e plan_is (broken fault) h = record { answers = true_same n n refl; page_is = sym e; roots = refl; number = refl; running = refl }
 fetch_matches language p n c r e plan_is missing h = record { answers = true_same n n refl; page_is = sym e; roots = refl; number = refl; running = refl }
@@ -200,7 +200,8 @@ applied_matches language p table c r e plan_is row is_done = subst (λ w. Matche
       page_is = applied_by language p r (λ did. did.0.page ≡ applied r.roots p c.page) plan_is (ap (λ roots. applied roots p (before_finish Stays page_kept language p r).0.page) k.roots ∙ ap (applied r.roots p) (k.page ∙ sym e));
       roots = applied_by language p r (λ did. did.0.roots ≡ r.roots) plan_is k.roots;
       number = applied_by language p r (λ did. did.0.client ≡ r.client) plan_is k.client;
-      running = applied_by language p r (λ did. did.0.stopped ≡ r.stopped) plan_is k.stopped })
+      running = applied_by language p r (λ did. did.0.stopped ≡ r.stopped) plan_is k.stopped;
+    })
 
 -- An Aborted.
 
@@ -217,7 +218,8 @@ aborted_matches language p c r why n from x e plan_is = record {
   page_is = aborted_by language p r (λ t. t.page ≡ given_up c.page) plan_is (ap given_up (sym e));
   roots = aborted_by language p r (λ t. t.roots ≡ r.roots) plan_is refl;
   number = aborted_by language p r (λ t. t.client ≡ r.client) plan_is refl;
-  running = aborted_by language p r (λ t. t.stopped ≡ r.stopped) plan_is refl }
+  running = aborted_by language p r (λ t. t.stopped ≡ r.stopped) plan_is refl;
+}
 
 -- An Invalidate.
 

@@ -1,35 +1,33 @@
 -- Every step of the world keeps each open client tied to its record.
-use Rattle.std.proofs.Common.{◌≡◌, ◌⊎◌, inl, inr, ℕ, suc, ◌+◌, ◌≤◌, Bool, true, false, List, [], ◌∷◌, refl, ap, sym, ◌∙◌, arith}
-use Rattle.std.specs.Prelude.{filter, find, not, ◌==◌, Option, Some, None, is_some, option_map, ⊤, if◌then◌else◌}
-use Prim.{⊥}
+use Rattle.std.proofs.Common.{◌≡◌, ℕ, ◌+◌, ◌≤◌, Bool, true, false, List, [], ◌∷◌, refl, ap, sym, ◌∙◌, arith}
+use Rattle.std.specs.Prelude.{find, not, ◌==◌, Option, Some, None, is_some, option_map, if◌then◌else◌}
 use Rattle.std.proofs.Math.Path.{subst}
 use Rattle.std.proofs.lemmas.Bool.{false≢true, eqb-true}
 use Rattle.hmr_types.specs.declared.analysis.Outcome.{Outcome}
 use Rattle.hmr_types.specs.declared.analysis.Outcome.TheVariants.{Good, Bad}
 use Rattle.core_model.specs.declared.message.ClientMsg.{ClientMsg}
 use Rattle.core_model.specs.declared.message.ServerMsg.{ServerMsg}
-use Rattle.core_model.specs.Names.{Name, same_name, at, with_row, without}
+use Rattle.core_model.specs.Names.{Name, same_name, at}
 use Rattle.core_model.specs.Sources.{Text, Sources, Serving, Change, edit, result, EditAnswer, job, same, removed, ResultAnswer, serve, refuse, late, edit_answer, result_answer, is_awaited, answer_of, after_edit, after_result, changed_by}
 use Rattle.core_model.specs.Sources as sources
-use Rattle.core_model.specs.FreshLoad.{Served}
 use Rattle.core_model.specs.Page.{Page}
 use Rattle.hmr_types.specs.declared.out_line.OutLine.{OutLine}
 use Rattle.core_model.specs.Client.{Client, new_client, told_of_edit, told_of_result}
 use Rattle.core_model.specs.Requests.{Request, Reply, heard}
-use Rattle.core_model.specs.Core.{Core, Event, change, connect, request, disconnect, client_at, with_client, without_client, each_client, told_of, after_change, is_full, connected, requested, disconnected, step}
+use Rattle.core_model.specs.Core.{Core, client_at, with_client, without_client, told_of, after_change, is_full, connected, requested, disconnected, step}
 use Rattle.core_model.specs.Exchange.{event_of, message_of}
 use Rattle.core_model.proofs.Clients.{at_with, at_without, at_each}
 use Rattle.core_model.proofs.Tables as tables
 use Rattle.core_model.proofs.Naming.{same_true}
 use Rattle.client_model.specs.Language.{Language}
-use Rattle.client_model.specs.Runtime.{Runtime, new_runtime}
+use Rattle.client_model.specs.Runtime.{Runtime}
 use Rattle.client_model.specs.Requesting as requesting
 use Rattle.client_model.specs.Answering.{answered}
 use Rattle.client_model.specs.Expecting.{is_answer, request_place, answer_place}
-use Rattle.client_model.specs.Taking.{Taken, took, unexpected, instances_full, is_stopped, Taking, unchanged_by, did_take, stop, is_too_many, take}
-use Rattle.world_model.specs.World.{Job, World, Step, edits, settles, opens, turn, closes, show, values, fates, fresh, Stepped, new_world}
-use Rattle.world_model.specs.Editing.{edited_by, is_job, settle_job, settled_by}
-use Rattle.world_model.specs.Turning.{lines_taken, turned_by, answered_by, turn_of, shelf_of, opened_by, open_by, close_of, shown}
+use Rattle.client_model.specs.Taking.{unexpected, instances_full, is_stopped, Taking, unchanged_by, did_take, stop, is_too_many, take}
+use Rattle.world_model.specs.World.{Job, World, Step, edits, settles, opens, turn, closes, show, values, fates, fresh}
+use Rattle.world_model.specs.Editing.{is_job, settle_job}
+use Rattle.world_model.specs.Turning.{lines_taken, turn_of, open_by, close_of, shown}
 use Rattle.world_model.specs.Steps.{world_step, world_after}
 use Rattle.world_model.specs.Ties.{IsTied, TiedAt, AreTied, IsServedRight, AreServedRight, IsUnderstood, UnderstandsAt, Understands, WentOn}
 use Rattle.world_model.proofs.Fitting.{Matches, Fits, fits}
@@ -88,7 +86,7 @@ tied_with roots i j false e c r oc or h k = k
 
 both_with : (roots : List Name) (i : ℕ) (c : Client) (r : Runtime) (clients : List (ℕ × Client)) (runtimes : List (ℕ × Runtime)) → IsTied roots i c r → ((j : ℕ) → TiedAt roots j (client_at clients j) (client_at runtimes j)) → (j : ℕ) → TiedAt roots j (client_at (with_client i c clients) j) (client_at (with_client i r runtimes) j)
 both_with roots i c r clients runtimes h k j = subst (λ o. TiedAt roots j o (client_at (with_client i r runtimes) j)) (sym (at_with i c clients j))
-  (subst (λ o. TiedAt roots j (if i == j then Some c else client_at clients j) o) (sym (at_with i r runtimes j)) (tied_with roots i j (i == j) (eqb-true i j) c r (client_at clients j) (client_at runtimes j) h (k j)))
+    (subst (λ o. TiedAt roots j (if i == j then Some c else client_at clients j) o) (sym (at_with i r runtimes j)) (tied_with roots i j (i == j) (eqb-true i j) c r (client_at clients j) (client_at runtimes j) h (k j)))
 
 tied_without : (roots : List Name) (j : ℕ) (b : Bool) (oc : Option Client) (or : Option Runtime) → TiedAt roots j oc or → TiedAt roots j (if b then None else oc) (if b then None else or)
 tied_without roots j true oc or h = tt
@@ -96,7 +94,7 @@ tied_without roots j false oc or h = h
 
 both_without : (roots : List Name) (i : ℕ) (clients : List (ℕ × Client)) (runtimes : List (ℕ × Runtime)) → ((j : ℕ) → TiedAt roots j (client_at clients j) (client_at runtimes j)) → (j : ℕ) → TiedAt roots j (client_at (without_client i clients) j) (client_at (without_client i runtimes) j)
 both_without roots i clients runtimes k j = subst (λ o. TiedAt roots j o (client_at (without_client i runtimes) j)) (sym (at_without i clients j))
-  (subst (λ o. TiedAt roots j (if i == j then None else client_at clients j) o) (sym (at_without i runtimes j)) (tied_without roots j (i == j) (client_at clients j) (client_at runtimes j) (k j)))
+    (subst (λ o. TiedAt roots j (if i == j then None else client_at clients j) o) (sym (at_without i runtimes j)) (tied_without roots j (i == j) (client_at clients j) (client_at runtimes j) (k j)))
 
 -- A turn.
 
@@ -128,7 +126,8 @@ requested_takes : (language : Language) (roots : List Name) (w : World) (i : ℕ
 requested_takes language roots w i r c is h k = record {
   understood = k.understood;
   tied = λ some. both_with roots i (heard roots i w.core.sources c is).0 (take language r (message_of (heard roots i w.core.sources c is).1)).after w.core.clients w.clients (k.tied some) h;
-  sources_same = refl }
+  sources_same = refl;
+}
 
 -- for a runtime under its own number and roots
 turn_at : (language : Language) (w : World) (r : Runtime) (c : Client) → client_at w.core.clients r.client ≡ Some c → IsTied r.roots r.client c r → AreTied r.roots w → AreServedRight language w.core.sources.served → TurnTakes language r.roots w r.client r (step r.roots w.core (event_of r.client (requesting.request language r)))
@@ -174,18 +173,21 @@ settled : (language : Language) (roots : List Name) (n : Name) (v : ℕ) (w : Wo
 settled language roots n v w None h = h
 settled language roots n v w (Some j) h = record {
   tied = change_tied roots w.core w.clients (result n j.text (language.transformed n j.text) v) h.tied;
-  served = result_right language (is_awaited (at w.core.sources.current n) j.text v) (language.transformed n j.text) n j.text v w.core.sources refl h.served }
+  served = result_right language (is_awaited (at w.core.sources.current n) j.text v) (language.transformed n j.text) n j.text v w.core.sources refl h.served;
+}
 
 opened : (language : Language) (roots : List Name) (shelves : List (List (Text × ℕ))) (w : World) (full : Bool) → IsSound language roots w → IsSound language roots (open_by language shelves w (connected full roots w.core)).world
 opened language roots shelves w true h = h
 opened language roots shelves w false h = record {
   tied = both_with roots (w.core.given + 1) (new_client w.core.sources.served_no) _ w.core.clients w.clients (record { page = refl; roots_are = refl; number = refl; counted = omega arith; running = refl }) h.tied;
-  served = h.served }
+  served = h.served;
+}
 
 closed_core : (language : Language) (roots : List Name) (i : ℕ) (w : World) (o : Option Client) → client_at w.core.clients i ≡ o → IsSound language roots w → IsSound language roots (record w { core = (disconnected o i w.core).0; clients = without_client i w.clients })
 closed_core language roots i w None e h = record {
   tied = λ j. subst (λ o. TiedAt roots j (client_at w.core.clients j) o) (sym (at_without i w.clients j)) (gone j (i == j) (client_at w.core.clients j) (client_at w.clients j) (h.tied j));
-  served = h.served }
+  served = h.served;
+}
   where
     gone : (j : ℕ) (b : Bool) (oc : Option Client) (or : Option Runtime) → TiedAt roots j oc or → TiedAt roots j oc (if b then None else or)
     gone j true oc or k = tt

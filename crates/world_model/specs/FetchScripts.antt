@@ -118,9 +118,11 @@ abbrev pub needed_5 : Text
 needed_5 = codes "export const x = 5;"
 
 abbrev pub needing : Stage
-needing = page_of (
-    (needing_m, module_of (accepting (x ∷ []) (importing (x ∷ []))) (binding x (codes "x") (codes "x") ∷ []) (
-        deps false (x ∷ []) (Some (callback (codes "n" ∷ []) (log (text (codes "x is") ∷ (member 0 true (codes "x") ∷ []))))) ∷ [])) ∷
+needing = page_of ((
+  needing_m,
+  module_of (accepting (x ∷ []) (importing (x ∷ []))) (binding x (codes "x") (codes "x") ∷ []) (
+      deps false (x ∷ []) (Some (callback (codes "n" ∷ []) (log (text (codes "x is") ∷ (member 0 true (codes "x") ∷ []))))) ∷ []),
+) ∷
     (needed_1, module_of (exporting (codes "x" ∷ []) (importing [])) [] (declare true false (codes "x") (num 1) ∷ [])) ∷
     (needed_5, module_of (exporting (codes "x" ∷ []) (importing [])) [] (declare true false (codes "x") (num 5) ∷ [])) ∷ [])
 

@@ -24,12 +24,14 @@ seen = codes "seen"
 abbrev pub seeing : Stage
 seeing = page_of (
     (with_x, module_of (self_accepting (importing (x ∷ []))) [] (own None ∷ [])) ∷
-    (without_x, module_of (self_accepting (importing [])) [] (own None ∷ [])) ∷
-    (seeing_x, module_of (importing []) [] (
-        act (log (text (codes "seen") ∷ (bag seen ∷ []))) ∷
-        act (bag_set seen (num 1)) ∷
-        dispose (code (callback [] (log_text (codes "dispose")))) ∷
-        prune (code (callback [] (log_text (codes "prune")))) ∷ [])) ∷ [])
+    (without_x, module_of (self_accepting (importing [])) [] (own None ∷ [])) ∷ (
+      seeing_x,
+      module_of (importing []) [] (
+          act (log (text (codes "seen") ∷ (bag seen ∷ []))) ∷
+          act (bag_set seen (num 1)) ∷
+          dispose (code (callback [] (log_text (codes "dispose")))) ∷
+          prune (code (callback [] (log_text (codes "prune")))) ∷ []),
+    ) ∷ [])
 
 abbrev pub seeing_script : List Command
 seeing_script =
@@ -56,7 +58,8 @@ hosting = record (page_of (
     (hosting_1, module_of (self_accepting (importing [])) [] (dispose (host label) ∷ dispose (code (callback [] (log_text (codes "second")))) ∷ prune (host label) ∷ own None ∷ [])) ∷
     (hosting_2, module_of (self_accepting (importing [])) [] (own None ∷ dispose (host label) ∷ [])) ∷
     (hosting_3, module_of (self_accepting (importing [])) [] (own None ∷ act (log (bag (codes "host") ∷ [])) ∷ [])) ∷ [])) {
-    shelves = ((label, 1) ∷ (label, 2) ∷ (label, 3) ∷ []) ∷ [] }
+      shelves = ((label, 1) ∷ (label, 2) ∷ (label, 3) ∷ []) ∷ [];
+    }
 
 abbrev pub hosting_script : List Command
 hosting_script =
@@ -77,10 +80,12 @@ valid_a = codes "export const a = 2; import.meta.hot.accept();"
 
 abbrev pub invalidating : Stage
 invalidating = page_of (
-    (invalid_m, module_of (self_accepting (importing (a ∷ []))) (binding a (codes "a") (codes "a") ∷ []) (act (log (text (codes "m") ∷ (name (codes "a") ∷ []))) ∷ own None ∷ [])) ∷
-    (invalid_a, module_of (self_accepting (exporting (codes "a" ∷ []) (importing []))) [] (
-        declare true false (codes "a") (num 1) ∷
-        own (Some (code (callback (codes "n" ∷ []) (invalidate (Some (binary Add (text (codes "changed ")) (member 0 true (codes "a")))))))) ∷ [])) ∷
+    (invalid_m, module_of (self_accepting (importing (a ∷ []))) (binding a (codes "a") (codes "a") ∷ []) (act (log (text (codes "m") ∷ (name (codes "a") ∷ []))) ∷ own None ∷ [])) ∷ (
+      invalid_a,
+      module_of (self_accepting (exporting (codes "a" ∷ []) (importing []))) [] (
+          declare true false (codes "a") (num 1) ∷
+          own (Some (code (callback (codes "n" ∷ []) (invalidate (Some (binary Add (text (codes "changed ")) (member 0 true (codes "a")))))))) ∷ []),
+    ) ∷
     (valid_a, module_of (self_accepting (exporting (codes "a" ∷ []) (importing []))) [] (declare true false (codes "a") (num 2) ∷ own None ∷ [])) ∷ [])
 
 abbrev pub invalidating_script : List Command

@@ -205,4 +205,5 @@ small_language texts = record {
   bindings = λ n t. bindings_in (at texts t);
   evaluated = λ n t imports before. evaluated_in (at texts t) imports before;
   ran = ran_by;
-  hosted = hosted_by; }
+  hosted = hosted_by;
+}

@@ -1,13 +1,13 @@
 -- What ties the two sides of the world together: what a client's runtime has of its page is what the
 -- core's record has, so that each answer is one to the request that stands.
-use Rattle.std.specs.Prelude.{◌≡◌, ℕ, ◌≤◌, Bool, true, false, List, [], ◌∷◌, Option, Some, None, is_some, ⊤}
+use Rattle.std.specs.Prelude.{◌≡◌, ℕ, ◌≤◌, true, false, List, [], ◌∷◌, Option, Some, None, is_some, ⊤}
 use Prim.{⊥}
 use Rattle.hmr_types.specs.declared.analysis.Outcome.TheVariants.{Good}
 use Rattle.core_model.specs.Names.{Name, at}
 use Rattle.core_model.specs.Sources.{Text, Serving}
 use Rattle.core_model.specs.FreshLoad.{Served}
 use Rattle.core_model.specs.Client.{Client}
-use Rattle.core_model.specs.Core.{Core, client_at, step}
+use Rattle.core_model.specs.Core.{client_at, step}
 use Rattle.core_model.specs.Exchange.{event_of, message_of}
 use Rattle.client_model.specs.Language.{Language}
 use Rattle.client_model.specs.Runtime.{Runtime}

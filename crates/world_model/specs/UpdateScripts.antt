@@ -25,17 +25,23 @@ abbrev pub kept_count_plus : ℕ → ExprTree
 kept_count_plus n = binary Add (binary Null (bag count) (num 0)) (num n)
 
 abbrev pub counter : Stage
-counter = page_of (
-    (main_text, module_of (accepting (c ∷ []) (exporting (count ∷ []) (importing (c ∷ [])))) (binding c count (codes "c") ∷ []) (
-        declare true true count (name (codes "c")) ∷
-        deps false (c ∷ []) (Some (callback_of_two (codes "newCounter" ∷ []) (assign count (member 0 true count)) (log (text (codes "count is now") ∷ (name count ∷ []))))) ∷ [])) ∷
-    (counter_text, module_of (exporting (count ∷ []) (importing [])) [] (
-        declare true false count (kept_count_plus 1) ∷
-        act (log (text (codes "counter") ∷ (name count ∷ []))) ∷
-        dispose (code (callback [] (bag_set count (name count)))) ∷ [])) ∷
-    (counter_by_ten, module_of (exporting (count ∷ []) (importing [])) [] (
-        declare true false count (kept_count_plus 10) ∷
-        act (log (text (codes "counter") ∷ (name count ∷ []))) ∷ [])) ∷ [])
+counter = page_of ((
+  main_text,
+  module_of (accepting (c ∷ []) (exporting (count ∷ []) (importing (c ∷ [])))) (binding c count (codes "c") ∷ []) (
+      declare true true count (name (codes "c")) ∷
+      deps false (c ∷ []) (Some (callback_of_two (codes "newCounter" ∷ []) (assign count (member 0 true count)) (log (text (codes "count is now") ∷ (name count ∷ []))))) ∷ []),
+) ∷ (
+  counter_text,
+  module_of (exporting (count ∷ []) (importing [])) [] (
+      declare true false count (kept_count_plus 1) ∷
+      act (log (text (codes "counter") ∷ (name count ∷ []))) ∷
+      dispose (code (callback [] (bag_set count (name count)))) ∷ []),
+) ∷ (
+  counter_by_ten,
+  module_of (exporting (count ∷ []) (importing [])) [] (
+      declare true false count (kept_count_plus 10) ∷
+      act (log (text (codes "counter") ∷ (name count ∷ []))) ∷ []),
+) ∷ [])
 
 abbrev pub counter_script : List Command
 counter_script =

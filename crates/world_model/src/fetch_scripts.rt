@@ -33,8 +33,7 @@ pub fn late_result_is_not_served()
         line.Edit m edit.Same ∷
         line.Fresh ∷
         line.Module m 2 ∷ [] }
-{
-}
+{}
 
 /// A text that can't be read leaves the last good one served, and the client is told.
 pub fn faulty_text_is_told()
@@ -48,8 +47,7 @@ pub fn faulty_text_is_told()
         line.Applied 1 Reload ∷
         line.Client 1 Up ∷
         line.Module m 3 ∷ [] }
-{
-}
+{}
 
 /// A fetch gives what is served at that moment, and what the page then has decides on the next change.
 pub fn fetch_gives_the_newest()
@@ -67,8 +65,7 @@ pub fn fetch_gives_the_newest()
         line.Client 1 Up ∷
         line.Module a 5 ∷
         line.Module m 1 ∷ [] }
-{
-}
+{}
 
 /// What was fetched before and after a change may not fit: the plan is given up with nothing changed,
 /// and the next one fits.
@@ -86,8 +83,7 @@ pub fn mixed_versions_are_given_up()
         line.Module m 1 ∷
         line.Module x 6 ∷
         line.Stale m a ∷ [] }
-{
-}
+{}
 
 /// A client whose plan needs a removed module stays as it was, and catches up once it is there again.
 pub fn removed_dependency_is_waited_for()
@@ -110,8 +106,7 @@ pub fn removed_dependency_is_waited_for()
         line.Module m 1 ∷
         line.Module x 4 ∷
         line.Stale m x ∷ [] }
-{
-}
+{}
 
 /// A change between the fetch and the end of a plan isn't lost: the client is behind, and catches up.
 pub fn change_after_the_fetch_is_not_lost()
@@ -131,5 +126,4 @@ pub fn change_after_the_fetch_is_not_lost()
         line.Module a 4 ∷
         line.Module m 1 ∷
         line.Stale m a ∷ [] }
-{
-}
+{}

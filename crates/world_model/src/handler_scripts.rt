@@ -50,8 +50,7 @@ pub fn data_is_given_up_at_the_prune()
         line.Handler kind.Dispose Code Held ∷
         line.Handler kind.Prune Code Held ∷
         line.Instance 5 m 4 Done fate.Live ∷ [] }
-{
-}
+{}
 
 /// A displaced disposer is dropped unrun, a prune handler is dropped at a replacement, and a closure is
 /// taken off the shelf once.
@@ -75,8 +74,7 @@ pub fn displaced_disposer_is_dropped()
         line.Instance 2 m 2 Done (fate.Replaced 3) ∷
         line.Handler kind.Dispose (handled.Host label 3) Spent ∷
         line.Instance 3 m 3 Done fate.Live ∷ [] }
-{
-}
+{}
 
 /// An invalidation is the business of the client that made it: its importer is updated, and the other
 /// client stays as it was.
@@ -100,8 +98,7 @@ pub fn invalidation_updates_the_importer()
         line.Client 2 Behind ∷
         line.Module a 2 ∷
         line.Module m 1 ∷ [] }
-{
-}
+{}
 
 /// A client that has the very version that another one invalidates stays caught up.
 pub fn invalidation_leaves_other_clients_alone()
@@ -124,8 +121,7 @@ pub fn invalidation_leaves_other_clients_alone()
         line.Client 2 Up ∷
         line.Module a 3 ∷
         line.Module m 1 ∷ [] }
-{
-}
+{}
 
 /// A root that invalidates itself has nobody above it to update: the page is loaded again.
 pub fn invalidated_root_reloads()
@@ -137,8 +133,7 @@ pub fn invalidated_root_reloads()
         line.Invalidated 1 m [] ∷
         line.Reload 1 Root (m ∷ []) ∷
         line.Applied 1 Reload ∷ [] }
-{
-}
+{}
 
 /// A module that imports one that faulted isn't run, and both stand on the page with their versions.
 pub fn importer_of_a_fault_is_not_run()
@@ -151,8 +146,7 @@ pub fn importer_of_a_fault_is_not_run()
         line.Module x 2 ∷
         line.Values 1 ∷
         line.Value x (codes "n") Unset ∷ [] }
-{
-}
+{}
 
 /// A callback gets undefined for a module whose evaluation faulted, and the update goes on.
 pub fn callback_of_a_fault_gets_undefined()
@@ -163,8 +157,7 @@ pub fn callback_of_a_fault_gets_undefined()
         line.Fault 1 x place.Module (Thrown (codes "bad")) ∷
         line.Log 1 m (codes "x has undefined") ∷
         line.Applied 1 Update ∷ [] }
-{
-}
+{}
 
 /// Where no closure of a label is left, nothing is registered.
 pub fn missing_closure_registers_nothing()
@@ -173,5 +166,4 @@ pub fn missing_closure_registers_nothing()
         line.Applied 1 Load ∷
         line.Fates 1 ∷
         line.Instance 1 m 1 Done fate.Live ∷ [] }
-{
-}
+{}

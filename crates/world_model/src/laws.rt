@@ -11,12 +11,10 @@ ghost use Rattle.world_model.specs.Ties.{AreTied, AreServedRight, Understands, W
 pub fn clients_are_tied_to_their_records()
     ensures tied { (language : Language) (roots : List Name) (shelves : List (List (Text × ℕ))) (past : List Step) → WentOn language roots shelves past → AreTied roots (world_after language roots shelves past) }
     ensures served { (language : Language) (roots : List Name) (shelves : List (List (Text × ℕ))) (past : List Step) → WentOn language roots shelves past → AreServedRight language (world_after language roots shelves past).core.sources.served }
-{
-}
+{}
 
 /// In every turn the core's answer is one to the request that stands: nothing is out of turn, no fetch
 /// is forgotten, and no table differs.
 pub fn every_answer_is_understood()
     ensures { (language : Language) (roots : List Name) (shelves : List (List (Text × ℕ))) (past : List Step) → WentOn language roots shelves past → Understands language roots (world_after language roots shelves past) }
-{
-}
+{}

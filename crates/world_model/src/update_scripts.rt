@@ -52,8 +52,7 @@ pub fn counter_keeps_its_count()
         line.Fresh ∷
         line.Module c 3 ∷
         line.Module m 1 ∷ [] }
-{
-}
+{}
 
 /// Nothing on a chain accepts a change at its end: the page is loaded again, and no disposer runs.
 pub fn unaccepted_chain_reloads()
@@ -70,8 +69,7 @@ pub fn unaccepted_chain_reloads()
         line.Instance 5 a 2 Done fate.Live ∷
         line.Handler kind.Dispose Code Held ∷
         line.Instance 6 m 1 Done fate.Live ∷ [] }
-{
-}
+{}
 
 /// A cycle is replaced whole: disposers in falling number, evaluation in the order of the walk, though
 /// one of its modules reads the other before it was evaluated.
@@ -96,5 +94,4 @@ pub fn cycle_is_replaced_in_order()
         line.Module m 1 ∷
         line.Module x 5 ∷
         line.Stale m a ∷ [] }
-{
-}
+{}
