@@ -1,11 +1,7 @@
 -- Rows of operators: the operator and the right side of each node, the outermost first.
-use Rattle.std.proofs.Common.{◌≡◌, ℕ, suc, ◌+◌, ◌<◌, ◌≤◌, List, [], ◌∷◌, ◌++◌, Result, Ok, Err, refl, ap, ◌∙◌, sym, subst, map, arith, Bor, Box, Global}
-use Rattle.hmr_types.specs.Tree.{expr_of, expr_step}
+use Rattle.std.proofs.Common.{◌≡◌, ℕ, suc, ◌+◌, ◌<◌, ◌≤◌, List, [], ◌∷◌, ◌++◌, Result, Ok, Err, refl, ap, ◌∙◌, sym, subst, map, arith, Bor}
+use Rattle.hmr_types.specs.Tree.{expr_of}
 use Rattle.hmr_types.specs.declared.tree.Expr.{Expr}
-use Rattle.hmr_types.specs.declared.tree.Expr.TheViews.{Binary}
-use Rattle.hmr_types.specs.declared.tree.Expr.TheVariants.{rolls-Binary}
-use Rattle.hmr_types.specs.declared.tree.Expr.TheFolds.{fold-roll-Expr}
-use Rattle.hmr_types.specs.declared.tree.Expr.TheOpen.{Expr-F}
 use Rattle.hmr_types.specs.Syntax as tree
 use Rattle.hmr_types.specs.Syntax.{ExprTree}
 use Rattle.hmr_types.specs.Results.{◌>>=◌}
@@ -103,28 +99,3 @@ popped_below n old new x is b =
 -- a fault ends the row
 pub ended : (s : Scope) (xs : List (Op × Bor Expr)) (r v : Result Value EvalFault) (e : EvalFault) → r ≡ Err e → run_row s (steps xs) r ≡ v → Err e ≡ v
 ended s xs r v e is h = sym (ap (run_row s (steps xs)) is ∙ row_err s (steps xs) e) ∙ h
-
--- what a node stands for
-pub node_is : (op : Op) (a b : Box Expr Global) → expr_of (Binary op a b) ≡ tree.binary op (expr_of a.value) (expr_of b.value)
-node_is op a b = ap expr_of (sym (rolls-Binary op a b)) ∙ fold-roll-Expr ExprTree expr_step (Expr-F.Binary op a b)
-
--- the tree of a row and its first operand
-abbrev pub row_tree : List (Op × ExprTree) → ExprTree → ExprTree
-row_tree [] t = t
-row_tree (s ∷ ss) t = tree.binary s.0 (row_tree ss t) s.1
-
-row_tree_snoc : (ss : List (Op × ExprTree)) (s : Op × ExprTree) (t : ExprTree) → row_tree (ss ++ s ∷ []) t ≡ row_tree ss (tree.binary s.0 t s.1)
-row_tree_snoc [] s t = refl
-row_tree_snoc (u ∷ ss) s t = ap (λ x. tree.binary u.0 x u.1) (row_tree_snoc ss s t)
-
--- a node goes on the row
-pub pushed_tree : (xs new : List (Op × Bor Expr)) (x : Op × Bor Expr) (first next whole : ExprTree) → new ≡ xs ++ x ∷ [] → first ≡ tree.binary x.0 next (expr_of x.1.now)
-    → row_tree (steps xs) first ≡ whole → row_tree (steps new) next ≡ whole
-pushed_tree xs new x first next whole is node h =
-    ap (λ l. row_tree (steps l) next) is ∙ ap (λ l. row_tree l next) (steps_snoc xs x) ∙ row_tree_snoc (steps xs) (plain_step x) next ∙ ap (row_tree (steps xs)) (sym node) ∙ h
-
--- a node is taken off the row
-pub popped_tree : (old new : List (Op × Bor Expr)) (x : Op × Bor Expr) (left node whole : ExprTree) → old ≡ new ++ x ∷ [] → node ≡ tree.binary x.0 left (expr_of x.1.now)
-    → row_tree (steps old) left ≡ whole → row_tree (steps new) node ≡ whole
-popped_tree old new x left node whole is one h =
-    ap (row_tree (steps new)) one ∙ sym (ap (λ l. row_tree (steps l) left) is ∙ ap (λ l. row_tree l left) (steps_snoc new x) ∙ row_tree_snoc (steps new) (plain_step x) left) ∙ h

@@ -9,4 +9,4 @@ abbrev pub ran_seen : body.Ran → Ran
 ran_seen r = record { fault = r.fault; lines = r.lines; changes = r.changes; invalidations = r.invalidations; bag = r.bag }
 
 abbrev pub evaluated_seen : module_answer.Evaluated → Evaluated
-evaluated_seen r = record { fault = r.fault; vars = r.vars; lines = r.lines; registered = map registration_of r.registered.items; bag = r.bag }
+evaluated_seen r = record { fault = r.fault; vars = r.vars; lines = r.lines; registered = map registration_of r.registered; bag = r.bag }

@@ -41,7 +41,7 @@ pub fn run_body(
         imports: &imports,
         mods,
     };
-    let vars = copy_slots(alloc, env.vars.as_slice())?;
+    let vars = env.vars.clone()?.into_vec();
     let mut state = opening(alloc, vars, bag);
     let fault = run_stmts(alloc, &code.body, &context, &mut state)?;
     Ok(Ran {
@@ -51,14 +51,4 @@ pub fn run_body(
         invalidations: Sequence::from_vec(state.invalidations),
         bag: state.bag,
     })
-}
-
-fn copy_slots(alloc: Global, slots: &[(Name, Slot)]) -> Result<Vec<(Name, Slot)>, AllocError>
-    ensures { IfOk result (λ copies. copies.items ≡ slots.now) }
-{
-    let mut copies = Vec::new(alloc);
-    for (name, slot) in slots {
-        copies.push((name.clone()?, slot.clone()?))?;
-    }
-    Ok(copies)
 }

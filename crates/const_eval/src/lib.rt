@@ -6,7 +6,6 @@
 #![tactic(auto)]
 
 mod body;
-mod copy;
 mod expression;
 mod lines;
 mod module;

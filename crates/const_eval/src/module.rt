@@ -8,7 +8,6 @@ ghost use Rattle.module_semantics.specs.Modules.{declare, declared_names, item_r
 ghost use Rattle.const_eval.specs.Answers.{evaluated_seen};
 ghost use Rattle.const_eval.specs.States.{context_of, state_of};
 
-use crate::copy::{copy_code, copy_once, copy_texts};
 use crate::expression::eval_expr;
 use crate::state::{Context, State, Step, declare, opening, reads};
 use crate::statements::run_stmt;
@@ -27,7 +26,7 @@ pub struct Evaluated {
     pub vars: Sequence<(Name, Slot)>,
     pub lines: Sequence<Text>,
     /// The handlers, in the order in which they registered.
-    pub registered: Vec<Registered>,
+    pub registered: Sequence<Registered>,
     pub bag: Bag,
 }
 
@@ -54,7 +53,7 @@ pub fn eval_module(
         fault,
         vars: Sequence::from_vec(state.vars),
         lines: Sequence::from_vec(state.lines),
-        registered: state.registered,
+        registered: Sequence::from_vec(state.registered),
         bag: state.bag,
     })
 }
@@ -106,7 +105,7 @@ fn eval_item(alloc: Global, item: &Item, context: &Context, state: &mut State) -
             list: _,
             specs,
             call,
-        } => register_deps(alloc, specs.as_slice(), call, state),
+        } => register_deps(alloc, specs, call, state),
         Item::Dispose(what) => register(alloc, Kind::Dispose, what, state),
         Item::Prune(what) => register(alloc, Kind::Prune, what, state),
     }
@@ -130,7 +129,7 @@ fn eval_declaration(
 fn register(alloc: Global, kind: Kind, what: &Once, state: &mut State) -> Step
     ensures { IfOk result (λ fault. (state_of state.new, fault) ≡ register kind [] (once_of what.now) (state_of state.old)) }
 {
-    let what = copy_once(alloc, what)?;
+    let what = what.copy(alloc)?;
     state.registered.push(Registered {
         kind,
         deps: Sequence::new(alloc),
@@ -150,21 +149,27 @@ fn register_own(alloc: Global, what: &Option<Once>, state: &mut State) -> Step
 
 fn register_deps(
     alloc: Global,
-    specs: &[Text],
+    specs: &Sequence<Text>,
     code: &Option<HandlerCode>,
     state: &mut State,
 ) -> Step
     ensures { IfOk result (λ fault. (state_of state.new, fault) ≡ register_deps specs.now (option_map handler_of code.now) (state_of state.old)) }
 {
     let code = match code {
-        Some(code) => copy_code(alloc, code)?,
+        Some(code) => code.copy(alloc)?,
         None => return Ok(None),
     };
-    let deps = copy_texts(alloc, specs)?;
+    let deps = copy_texts(specs)?;
     state.registered.push(Registered {
         kind: Kind::Dep,
         deps,
         what: Once::Code(code),
     })?;
     Ok(None)
+}
+
+fn copy_texts(texts: &Sequence<Text>) -> Result<Sequence<Text>, AllocError>
+    ensures { IfOk result (λ copies. copies ≡ texts.now) }
+{
+    texts.clone()
 }

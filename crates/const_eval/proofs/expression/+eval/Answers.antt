@@ -6,13 +6,14 @@ use Rattle.const_eval.specs.Reads.{scope_of}
 use Rattle.hmr_types.specs.Tree.{expr_of}
 use Rattle.hmr_types.specs.Syntax.{ExprTree}
 use Rattle.hmr_types.specs.Syntax as tree
-use Rattle.const_eval.proofs.Rows.{weight, pushed, pushed_below, pushed_small, node_is, popped, popped_below, ended}
+use Rattle.hmr_types.proofs.Rows.{expr_of-Binary}
+use Rattle.const_eval.proofs.Rows.{weight, pushed, pushed_below, pushed_small, popped, popped_below, ended}
 use Rattle.const_eval.proofs.expression.+eval.Goals as goal
 
 pub eval_expr-loop-first-preserved : goal.eval_expr-loop-first-preserved
 eval_expr-loop-first-preserved t c =
     let s : Scope = scope_of c.args.scope.now in
-    let seen : expr_of c.loop-first.first.now ≡ tree.binary c.in-Binary.op (expr_of c.in-Binary.a.value) (expr_of c.in-Binary.b.value) = ap expr_of c.in-Binary.is ∙ node_is c.in-Binary.op c.in-Binary.a c.in-Binary.b in
+    let seen : expr_of c.loop-first.first.now ≡ tree.binary c.in-Binary.op (expr_of c.in-Binary.a.value) (expr_of c.in-Binary.b.value) = ap expr_of c.in-Binary.is ∙ expr_of-Binary c.in-Binary.op c.in-Binary.a c.in-Binary.b in
     let node : expr_of c.loop-first.first.now ≡ tree.binary c.in-Binary.op (expr_of c.deref-first.result.now) (expr_of c.deref.result.now) = search (rules, seen) in
     let is : c.push.new.self.items ≡ c.loop-first.row.items ++ (c.in-Binary.op, c.deref.result) ∷ [] = search rules in
     record {

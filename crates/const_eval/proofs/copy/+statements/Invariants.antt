@@ -1,6 +1,0 @@
-use Rattle.std.proofs.Common.{◌≡◌, ◌++◌, drop, map}
-use Rattle.hmr_types.specs.Tree.{stmt_of}
-use Rattle.const_eval.proofs.copy.+statements.Given as goal
-
-abbrev pub invariant-copy_stmts-loop-stmt : goal.invariant-copy_stmts-loop-stmt
-invariant-copy_stmts-loop-stmt l = map stmt_of l.copies.items ++ map stmt_of (drop l.stmt-index l.stmts) ≡ map stmt_of l.stmts
