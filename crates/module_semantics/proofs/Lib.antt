@@ -1,6 +1,7 @@
 pub mod Acts
 pub mod Callbacks
 pub mod CanonExamples
+pub mod CanonExprs
 pub mod CanonLevels
 pub mod CanonOperators
 pub mod Choices

@@ -1,10 +1,13 @@
 -- The tokens of a canonical text, and how deep it is.
-use Rattle.std.specs.Prelude.{ℕ, zero, suc, max, List, [], ◌∷◌, ◌++◌, Bool, true, false, nat_lt, if◌then◌else◌, Option, Some, None, codes}
+use Rattle.std.specs.Prelude.{ℕ, zero, suc, max, List, [], ◌∷◌, ◌++◌, Bool, true, false, nat_lt, not, ◌&&◌, ◌==◌, if◌then◌else◌, Option, Some, None, codes}
 use Rattle.hmr_types.specs.Syntax.{ExprTree, num, text, undefined, name, bag, member, neg, binary, choose}
 use Rattle.hmr_types.specs.declared.tree.Op.{Op}
 use Rattle.hmr_types.specs.declared.tree.Op.TheVariants as ops
 use Rattle.module_semantics.specs.Token as token
 use Rattle.module_semantics.specs.Token.{Token}
+use Rattle.module_semantics.specs.Kinds.{within, word_kind, free_names}
+use Rattle.module_semantics.specs.NameRules.{Within, outside, in_once, in_accept, is_param, has_name}
+use Rattle.module_semantics.specs.Resolving.{place_of}
 use Rattle.module_semantics.specs.Canon.{op_level, level, nth}
 
 -- in parentheses, where the level is below that of the place
@@ -52,3 +55,25 @@ inner_depth (member place safe k) = 0
 inner_depth (neg a) = placed_depth 5 (level a) (inner_depth a)
 inner_depth (binary op a b) = max (placed_depth (op_level op) (level a) (inner_depth a)) (placed_depth (suc (op_level op)) (level b) (inner_depth b))
 inner_depth (choose c a b) = max (placed_depth 1 (level c) (inner_depth c)) (max (suc (inner_depth a)) (suc (inner_depth b)))
+
+-- a name that is none of the reserved words
+abbrev pub fits_name : List ℕ → Bool
+fits_name n = within free_names (word_kind n)
+
+-- a parameter of an accept callback, which its name tells
+abbrev pub fits_param : Within → List (List ℕ) → ℕ → Bool
+fits_param outside ps i = false
+fits_param (in_once qs) ps i = false
+fits_param (in_accept qs) ps i = fits_name (nth ps i) && has_name (nth ps i) qs && place_of (nth ps i) qs == i
+
+-- an expression that reading can give there
+unfoldable pub fits_expr : Within → List (List ℕ) → ExprTree → Bool
+fits_expr w ps (num n) = true
+fits_expr w ps (text s) = true
+fits_expr w ps undefined = true
+fits_expr w ps (name n) = fits_name n && not (is_param w n)
+fits_expr w ps (bag k) = true
+fits_expr w ps (member place safe k) = fits_param w ps place
+fits_expr w ps (neg a) = fits_expr w ps a
+fits_expr w ps (binary op a b) = fits_expr w ps a && fits_expr w ps b
+fits_expr w ps (choose c a b) = fits_expr w ps c && fits_expr w ps a && fits_expr w ps b
