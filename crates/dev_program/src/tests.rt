@@ -18,6 +18,7 @@ const RELOADED: (&str, &str) = (
 );
 
 const UNBUILT: &str = "script fault at line 0: unbuilt\n";
+
 const USAGE: &str =
     "usage: hmr play | check NAME | make N SEED | serve FOLDER ROOT.. | join PORT\n";
 
@@ -61,7 +62,12 @@ fn scripts_write_what_the_rules_say(rt: HostRuntime) -> Result<(), Fail> {
         ("play", "root /m.js\nfresh", 3, UNBUILT),
         ("play", "root m.js\n", 3, UNBUILT),
         ("play", "root /m.js\nedit /m.js\n", 3, UNBUILT),
-        ("play", "root /m.js\nedit /m.js\n|export const n = 01;\n", 3, UNBUILT),
+        (
+            "play",
+            "root /m.js\nedit /m.js\n|export const n = 01;\n",
+            3,
+            UNBUILT,
+        ),
         ("play", "root /m.js\nfresh\n", 0, "fresh\nmissing /m.js\n"),
         ("", LOADED.0, 2, USAGE),
         ("play play", LOADED.0, 2, USAGE),

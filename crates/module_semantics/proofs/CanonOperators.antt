@@ -217,4 +217,3 @@ null_nullish w a b n xs ys x y us r h =
     let left = x k.front (m.at ∷ (m.back ++ r)) k.firsts in
     let whole : us ≡ k.front ++ (m.at ∷ m.back) = k.is ∙ ap (λ v. k.front ++ v) m.is in
     subst (λ v. Derived null_spelt null_raw null_depth w (tree.binary ops.Null a b) n v r) (sym whole) (null_nullish_by w a b n k.front m.back r m.at m.token left right left.by left.spells left.tree left.clean left.shallow)
-
