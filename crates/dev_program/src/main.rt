@@ -15,20 +15,30 @@ mod tests;
 mod top;
 
 use hmr_base::{StdSink, StdSource};
-use std::alloc::AllocError;
 use std::env;
+use std::io::ErrorKind;
 use std::process::ExitCode;
 
-fn main(rt: HostRuntime) -> Result<ExitCode, AllocError> {
+/// The status for want of memory.
+const NO_MEMORY: u8 = 9;
+
+fn main(rt: HostRuntime) -> ExitCode {
     let alloc = rt.alloc();
     let mut words = Vec::new(alloc);
-    if let Ok(args) = env::args(&rt) {
-        for word in args.skip(1) {
-            words.push(word)?;
+    match env::args(&rt) {
+        Ok(args) => {
+            for word in args.skip(1) {
+                if words.push(word).is_err() {
+                    return ExitCode::from(NO_MEMORY);
+                }
+            }
         }
+        Err(error) if error.kind() == ErrorKind::OutOfMemory => return ExitCode::from(NO_MEMORY),
+        // A word that isn't UTF-8 makes no command, as no word at all makes none.
+        Err(_) => {}
     }
     let mut input = StdSource::new(rt.stdin());
     let mut out = StdSink::new(rt.stdout());
     let status = top::run(alloc, &words, &mut input, &mut out);
-    Ok(ExitCode::from(status))
+    ExitCode::from(status)
 }
