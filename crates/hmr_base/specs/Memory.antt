@@ -16,6 +16,14 @@ failures_of source = source.faults
 abbrev pub taken_by : MemSink → List ℕ
 taken_by sink = sink.bytes.items
 
+-- how many bytes fit it in all
+abbrev pub room_of : MemSink → ℕ
+room_of sink = sink.room
+
+-- the numbers of its calls that are to fail
+abbrev pub planned_of : MemSink → List ℕ
+planned_of sink = sink.failing.items
+
 -- how many of its calls failed
 abbrev pub refusals_of : MemSink → ℕ
 refusals_of sink = sink.faults

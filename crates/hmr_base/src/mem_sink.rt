@@ -19,7 +19,7 @@ pub struct MemSink {
 }
 
 impl MemSink {
-    ghost use Rattle.hmr_base.specs.Memory.{taken_by, refusals_of};
+    ghost use Rattle.hmr_base.specs.Memory.{taken_by, refusals_of, room_of, planned_of};
 
     /// An empty sink with room for `room` bytes, which takes at most `piece` of them in a call (0
     /// counts as 1). The calls whose numbers, from 0, stand in `failing` fail, and so does each call
@@ -32,6 +32,8 @@ impl MemSink {
     ) -> Result<Self, AllocError>
         ensures taken { IfOk result (λ sink. taken_by sink ≡ []) }
         ensures faults { IfOk result (λ sink. refusals_of sink ≡ 0) }
+        ensures room { IfOk result (λ sink. room_of sink ≡ room) }
+        ensures planned { IfOk result (λ sink. planned_of sink ≡ failing.items) }
     {
         Ok(MemSink {
             bytes: Vec::with_capacity(alloc, room)?,
