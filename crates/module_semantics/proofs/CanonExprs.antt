@@ -1,5 +1,5 @@
 -- The canonical tokens of an expression are written as it, at each level.
-use Rattle.std.proofs.Common.{◌≡◌, ℕ, zero, suc, ◌≤◌, max, List, [], ◌∷◌, ◌++◌, length, Bool, true, false, cond, not, ◌&&◌, ◌==◌, Option, Some, None, refl, sym, ap, ◌∙◌, subst, arith, codes}
+use Rattle.std.proofs.Common.{◌≡◌, ℕ, suc, ◌≤◌, List, [], ◌∷◌, ◌++◌, Bool, true, false, cond, not, ◌&&◌, ◌==◌, Some, refl, sym, ap, ◌∙◌, subst, arith, codes}
 use Rattle.std.proofs.lemmas.Bool.{eqb-true}
 use Rattle.std.proofs.lemmas.List.{append_assoc}
 use Rattle.std.specs.Str.{bytes_eq}
@@ -19,16 +19,15 @@ use Rattle.module_semantics.specs.Spelling.{Spell, ◌>>◌, ◌▸◌, one}
 use Rattle.module_semantics.specs.ExprGrammar as grammar
 use Rattle.module_semantics.specs.ExprGrammar.{ExprD, NullD, PrimD, expr_spelt, null_spelt, prim_spelt, expr_raw, prim_raw, expr_depth, prim_depth, hot_spelt}
 use Rattle.module_semantics.specs.NameRules.{Within, outside, in_once, in_accept, is_param, has_name, broken_if, expr_broken}
-use Rattle.module_semantics.specs.NameRules.{Broken}
-use Rattle.module_semantics.specs.Resolving.{expr_tree, member_tree, place_of}
+use Rattle.module_semantics.specs.Resolving.{member_tree, place_of}
 use Rattle.module_semantics.specs.Canon.{op_level, level, nth}
-use Rattle.module_semantics.specs.CanonTokens.{placed_tokens, placed_depth, op_token, dot_token, hot_tokens, expr_tokens, inner_depth, fits_name, fits_param, fits_expr}
+use Rattle.module_semantics.specs.CanonTokens.{placed_tokens, placed_depth, dot_token, hot_tokens, expr_tokens, inner_depth, fits_name, fits_param, fits_expr}
 use Rattle.module_semantics.proofs.PiecesLex.{both, nots}
 use Rattle.module_semantics.proofs.Steps.{bound_some}
 use Rattle.module_semantics.proofs.KindLists.{same_kind}
 use Rattle.module_semantics.proofs.Leaves.{one_is}
 use Rattle.module_semantics.proofs.Marks.{same_names, same_bytes, mark_spells}
-use Rattle.module_semantics.proofs.CanonLevels.{tokens_in, Derived, Written, AsPrim, AsUnary, AsProd, AsSum, AsNull, AsExpr, prim_unary, unary_prod, prod_sum, sum_null, null_expr, expr_prim, neg_unary, Halves, halves, First, first, marked, no_line_tokens}
+use Rattle.module_semantics.proofs.CanonLevels.{tokens_in, Derived, Written, AsPrim, AsUnary, AsProd, AsSum, AsNull, AsExpr, prim_unary, unary_prod, prod_sum, sum_null, null_expr, expr_prim, neg_unary, halves, first, marked, no_line_tokens}
 use Rattle.module_semantics.proofs.CanonOperators.{prod_times, sum_plus, sum_minus, null_nullish}
 
 -- no deeper than something larger

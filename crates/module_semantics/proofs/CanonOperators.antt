@@ -1,5 +1,5 @@
 -- Operators between two operands, which group to the left.
-use Rattle.std.proofs.Common.{◌≡◌, ℕ, ◌≤◌, max, suc, List, [], ◌∷◌, ◌++◌, Bool, true, Option, Some, None, refl, sym, ap, ◌∙◌, subst, arith}
+use Rattle.std.proofs.Common.{◌≡◌, ℕ, ◌≤◌, List, [], ◌∷◌, ◌++◌, true, Option, Some, None, refl, sym, ap, ◌∙◌, subst, arith}
 use Rattle.std.proofs.lemmas.List.{append_assoc}
 use Rattle.hmr_types.specs.Syntax as tree
 use Rattle.hmr_types.specs.Syntax.{ExprTree}
@@ -7,7 +7,7 @@ use Rattle.hmr_types.specs.declared.tree.Op.{Op}
 use Rattle.hmr_types.specs.declared.tree.Op.TheVariants as ops
 use Rattle.module_semantics.specs.Token as token
 use Rattle.module_semantics.specs.Token.{Token, LineToken}
-use Rattle.module_semantics.specs.Kinds.{kind, within, PLUS, MINUS, TIMES, NULLISH, QUESTION, COLON}
+use Rattle.module_semantics.specs.Kinds.{kind, within, PLUS, MINUS, TIMES, NULLISH}
 use Rattle.module_semantics.specs.Raw as raw
 use Rattle.module_semantics.specs.Raw.{RawExpr}
 use Rattle.module_semantics.specs.Spelling as spell
@@ -19,7 +19,7 @@ use Rattle.module_semantics.specs.Resolving.{expr_tree}
 use Rattle.module_semantics.proofs.Steps.{bound_some}
 use Rattle.module_semantics.proofs.Statements.{under, assoc}
 use Rattle.module_semantics.proofs.Marks.{mark_spells}
-use Rattle.module_semantics.proofs.CanonLevels.{Derived, Written, AsExpr, AsNull, AsSum, AsProd, AsUnary, Halves, halves, First, first}
+use Rattle.module_semantics.proofs.CanonLevels.{Derived, AsNull, AsSum, AsProd, AsUnary, halves, first}
 
 same_again : (o : Option (List LineToken)) → (o >> grammar.nothing) ≡ o
 same_again (Some x) = refl
@@ -217,4 +217,3 @@ null_nullish w a b n xs ys x y us r h =
     let left = x k.front (m.at ∷ (m.back ++ r)) k.firsts in
     let whole : us ≡ k.front ++ (m.at ∷ m.back) = k.is ∙ ap (λ v. k.front ++ v) m.is in
     subst (λ v. Derived null_spelt null_raw null_depth w (tree.binary ops.Null a b) n v r) (sym whole) (null_nullish_by w a b n k.front m.back r m.at m.token left right left.by left.spells left.tree left.clean left.shallow)
-

@@ -1,30 +1,25 @@
 -- The canonical tokens of statements are written as them.
-use Rattle.std.proofs.Common.{◌≡◌, ℕ, zero, suc, ◌≤◌, max, List, [], ◌∷◌, ◌++◌, length, map, Bool, true, false, not, ◌&&◌, ◌||◌, Option, Some, None, refl, sym, ap, ◌∙◌, subst, arith, codes}
+use Rattle.std.proofs.Common.{◌≡◌, ℕ, ◌≤◌, List, [], ◌∷◌, ◌++◌, Bool, true, false, not, ◌||◌, Some, refl, ap, ◌∙◌, codes}
 use Rattle.std.proofs.lemmas.List.{append_assoc}
-use Rattle.std.specs.Option.{option_map}
 use Rattle.hmr_types.specs.Syntax as tree
 use Rattle.hmr_types.specs.Syntax.{ExprTree, CondTree, StmtTree, StmtTrees}
 use Rattle.hmr_types.specs.declared.analysis.FaultWord.{FaultWord}
-use Rattle.hmr_types.specs.declared.analysis.FaultWord.TheVariants.{Unexpected, NotAssignable}
+use Rattle.hmr_types.specs.declared.analysis.FaultWord.TheVariants.{NotAssignable}
 use Rattle.module_semantics.specs.Token as token
 use Rattle.module_semantics.specs.Token.{Token, LineToken}
-use Rattle.module_semantics.specs.Kinds.{META, HOT, IMPORT, CONSOLE, LOG, DATA, THROW, NEW, ERROR, IF, ELSE, INVALIDATE, DOT, EQUALS, OPEN, CLOSE, OPEN_BRACE, CLOSE_BRACE, COMMA, SEMICOLON, kind, within, word_kind, found_word, free_names, bytes_of, NameAt, name_at}
-use Rattle.module_semantics.specs.Raw as raw
-use Rattle.module_semantics.specs.Raw.{RawExpr, RawStmt, RawStmts}
+use Rattle.module_semantics.specs.Kinds.{META, HOT, IMPORT, DATA, THROW, NEW, ERROR, DOT, EQUALS, OPEN, CLOSE, SEMICOLON, kind, within, word_kind, found_word, free_names, bytes_of, name_at}
 use Rattle.module_semantics.specs.Readers.{next_in}
 use Rattle.module_semantics.specs.Spelling as spell
 use Rattle.module_semantics.specs.Spelling.{Spell, ◌>>◌, ◌▸◌}
 use Rattle.module_semantics.specs.Grammar as grammar
 use Rattle.module_semantics.specs.Grammar.{ExprD, ActD, ThrowD, InvalD, StmtD, StmtsD, IfD, ElseD, BlockD, expr_spelt, expr_raw, expr_depth, act_spelt, act_raw, act_depth, throw_spelt, inval_spelt, stmt_spelt, stmts_spelt, if_spelt, else_spelt, block_spelt, stmt_raw, stmts_raw, stmt_depth, stmts_depth, hot_spelt, deepest}
-use Rattle.module_semantics.specs.NameRules.{Within, Broken, broken_if, is_param, has_name, accepts, expr_broken, exprs_broken, cond_broken, stmt_broken, stmts_broken}
-use Rattle.module_semantics.specs.Resolving.{expr_tree, cond_tree, name_cond, stmt_tree, stmts_tree}
-use Rattle.module_semantics.specs.Canon.{nth}
-use Rattle.module_semantics.specs.CanonTokens.{hot_tokens, expr_tokens, comma_tokens, exprs_tokens, told_tokens, cond_tokens, else_tokens, stmt_tokens, stmts_tokens, expr_deep, exprs_deep, told_deep, cond_deep, stmt_deep, stmts_deep, fits_name, fits_expr, fits_exprs, fits_told, fits_cond, fits_stmt, fits_stmts}
-use Rattle.module_semantics.proofs.PiecesLex.{both, nots}
+use Rattle.module_semantics.specs.NameRules.{Within, Broken, broken_if, is_param, has_name, expr_broken, stmt_broken}
+use Rattle.module_semantics.specs.Resolving.{expr_tree, stmt_tree}
+use Rattle.module_semantics.specs.CanonTokens.{hot_tokens, expr_tokens, stmt_tokens, expr_deep, stmt_deep, fits_name, fits_expr}
 use Rattle.module_semantics.proofs.Steps.{bound_some, if_true}
 use Rattle.module_semantics.proofs.Leaves.{next_is}
 use Rattle.module_semantics.proofs.Marks.{mark_spells}
-use Rattle.module_semantics.proofs.CanonLevels.{tokens_in, Derived, AsExpr, Halves, halves, First, first, marked}
+use Rattle.module_semantics.proofs.CanonLevels.{tokens_in, halves, first, marked}
 use Rattle.module_semantics.proofs.CanonExprs.{expr_levels, name_spells, key_spells, lone, dot_kind, meta_kind, hot_kind, data_kind, import_kind}
 
 -- a derivation spelled by tokens, of which something holds
