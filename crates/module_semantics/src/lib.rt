@@ -2,8 +2,8 @@
 //!
 //! What the tokens of a text are, which texts read as which module, what the first fault of the
 //! others is, and what the one canonical text of a module is. It stands on the vocabulary of
-//! `hmr_types`. Keeps: each definition that computes is tied by a law to a relation that speaks of
-//! whole texts. It has no running code: each public function has an empty body and carries laws.
+//! `hmr_types`. Keeps: lexing, reading and parsing, which compute, are tied by laws to relations that
+//! speak of whole texts. It has no running code: each public function has an empty body and carries laws.
 //! Knows nothing of the code that reads texts, of clients or of versions.
 #![tactic(auto)]
 
