@@ -1,5 +1,5 @@
 -- The canonical tokens of an expression are written as it, at each level.
-use Rattle.std.proofs.Common.{◌≡◌, ℕ, zero, suc, ◌≤◌, max, List, [], ◌∷◌, ◌++◌, length, Bool, true, false, cond, not, ◌&&◌, ◌==◌, Option, Some, None, refl, sym, ap, ◌∙◌, subst, arith, codes}
+use Rattle.std.proofs.Common.{◌≡◌, ℕ, suc, ◌≤◌, List, [], ◌∷◌, ◌++◌, Bool, true, false, cond, not, ◌&&◌, ◌==◌, Some, refl, sym, ap, ◌∙◌, subst, arith, codes}
 use Rattle.std.proofs.lemmas.Bool.{eqb-true}
 use Rattle.std.proofs.lemmas.List.{append_assoc}
 use Rattle.std.specs.Str.{bytes_eq}
@@ -19,16 +19,15 @@ use Rattle.module_semantics.specs.Spelling.{Spell, ◌>>◌, ◌▸◌, one}
 use Rattle.module_semantics.specs.ExprGrammar as grammar
 use Rattle.module_semantics.specs.ExprGrammar.{ExprD, NullD, PrimD, expr_spelt, null_spelt, prim_spelt, expr_raw, prim_raw, expr_depth, prim_depth, hot_spelt}
 use Rattle.module_semantics.specs.NameRules.{Within, outside, in_once, in_accept, is_param, has_name, broken_if, expr_broken}
-use Rattle.module_semantics.specs.NameRules.{Broken}
-use Rattle.module_semantics.specs.Resolving.{expr_tree, member_tree, place_of}
+use Rattle.module_semantics.specs.Resolving.{member_tree, place_of}
 use Rattle.module_semantics.specs.Canon.{op_level, level, nth}
-use Rattle.module_semantics.specs.CanonTokens.{placed_tokens, placed_depth, op_token, dot_token, hot_tokens, expr_tokens, inner_depth, fits_name, fits_param, fits_expr}
+use Rattle.module_semantics.specs.CanonTokens.{placed_tokens, placed_depth, dot_token, hot_tokens, expr_tokens, inner_depth, fits_name, fits_param, fits_expr}
 use Rattle.module_semantics.proofs.PiecesLex.{both, nots}
 use Rattle.module_semantics.proofs.Steps.{bound_some}
 use Rattle.module_semantics.proofs.KindLists.{same_kind}
 use Rattle.module_semantics.proofs.Leaves.{one_is}
 use Rattle.module_semantics.proofs.Marks.{same_names, same_bytes, mark_spells}
-use Rattle.module_semantics.proofs.CanonLevels.{tokens_in, Derived, Written, AsPrim, AsUnary, AsProd, AsSum, AsNull, AsExpr, prim_unary, unary_prod, prod_sum, sum_null, null_expr, expr_prim, neg_unary, Halves, halves, First, first, marked, no_line_tokens}
+use Rattle.module_semantics.proofs.CanonLevels.{tokens_in, Derived, Written, AsPrim, AsUnary, AsProd, AsSum, AsNull, AsExpr, prim_unary, unary_prod, prod_sum, sum_null, null_expr, expr_prim, neg_unary, halves, first, marked, no_line_tokens}
 use Rattle.module_semantics.proofs.CanonOperators.{prod_times, sum_plus, sum_minus, null_nullish}
 
 -- no deeper than something larger
@@ -36,7 +35,7 @@ pub deeper : {D : Type 0} (spelt : D → Spell) (says : D → RawExpr) (depth : 
 deeper spelt says depth w t n m toks h a us r is = let d = a us r is in record { by = d.by; spells = d.spells; tree = d.tree; clean = d.clean; shallow = omega (arith, h, d.shallow) }
 
 -- a lone token
-lone : (us : List LineToken) (x : Token) → tokens_in us ≡ x ∷ [] → (u : LineToken) × (us ≡ u ∷ []) × (u.token ≡ x)
+pub lone : (us : List LineToken) (x : Token) → tokens_in us ≡ x ∷ [] → (u : LineToken) × (us ≡ u ∷ []) × (u.token ≡ x)
 lone us x h =
     let f = first us x [] h in
     (f.at, f.is ∙ ap (λ v. f.at ∷ v) (no_line_tokens f.back f.lasts), f.token)
@@ -150,7 +149,7 @@ three us x y z h =
     let l = lone g.back z g.lasts in
     record { a = f.at; b = g.at; c = l.0; is = f.is ∙ ap (λ v. f.at ∷ v) (g.is ∙ ap (λ v. g.at ∷ v) l.1); first = f.token; second = g.token; third = l.2 }
 
-dot_kind : within (DOT ∷ []) (kind (token.punct 8)) ≡ true
+pub dot_kind : within (DOT ∷ []) (kind (token.punct 8)) ≡ true
 unfolding within
 dot_kind = refl
 
@@ -202,19 +201,19 @@ member_prim w ps i safe k fits us r h = member_by w ps i safe k us r fits (three
 pub take_word : (k : ℕ) (x : Token) (ys : List Token) (us r : List LineToken) (f : Spell) (q : List LineToken) → within (k ∷ []) (kind x) ≡ true → tokens_in us ≡ x ∷ ys → ((vs : List LineToken) → tokens_in vs ≡ ys → f (vs ++ r) ≡ Some q) → (spell.mark k ▸ f) (us ++ r) ≡ Some q
 take_word k x ys us r f q is h g = let m = first us x ys h in bound_some (spell.mark k (us ++ r)) f (m.back ++ r) (Some q) (marked k us x ys m r is) (g m.back m.lasts)
 
-meta_kind : within (META ∷ []) (kind (token.name (codes "meta"))) ≡ true
+pub meta_kind : within (META ∷ []) (kind (token.name (codes "meta"))) ≡ true
 unfolding within word_kind found_word
 meta_kind = refl
 
-hot_kind : within (HOT ∷ []) (kind (token.name (codes "hot"))) ≡ true
+pub hot_kind : within (HOT ∷ []) (kind (token.name (codes "hot"))) ≡ true
 unfolding within word_kind found_word
 hot_kind = refl
 
-data_kind : within (DATA ∷ []) (kind (token.name (codes "data"))) ≡ true
+pub data_kind : within (DATA ∷ []) (kind (token.name (codes "data"))) ≡ true
 unfolding within word_kind found_word
 data_kind = refl
 
-import_kind : within (IMPORT ∷ []) (kind (token.name (codes "import"))) ≡ true
+pub import_kind : within (IMPORT ∷ []) (kind (token.name (codes "import"))) ≡ true
 unfolding within word_kind found_word
 import_kind = refl
 

@@ -1,24 +1,22 @@
 -- Tokens that are written as an expression, at each level of the grammar: whatever their places and lines are, a derivation is
 -- spelled by them that says the tree, breaks no rule on names, and is no deeper than told.
-use Rattle.std.proofs.Common.{◌≡◌, ℕ, zero, suc, ◌+◌, ◌≤◌, max, List, [], ◌∷◌, ◌++◌, length, map, Bool, true, false, ◌⊎◌, inl, inr, Option, Some, None, refl, sym, ap, ◌∙◌, subst, arith}
-use Rattle.std.proofs.lemmas.List.{append-nil, append_assoc}
+use Rattle.std.proofs.Common.{◌≡◌, ℕ, suc, ◌≤◌, List, [], ◌∷◌, ◌++◌, map, true, Some, refl, ap, ◌∙◌, arith}
+use Rattle.std.proofs.lemmas.List.{append_assoc}
 use Rattle.hmr_types.specs.Syntax as tree
 use Rattle.hmr_types.specs.Syntax.{ExprTree}
-use Rattle.hmr_types.specs.declared.tree.Op.{Op}
-use Rattle.hmr_types.specs.declared.tree.Op.TheVariants as ops
 use Rattle.module_semantics.specs.Token as token
 use Rattle.module_semantics.specs.Token.{Token, LineToken}
-use Rattle.module_semantics.specs.Kinds.{kind, within, OPEN, CLOSE, MINUS, PLUS, TIMES, NULLISH, QUESTION, COLON}
+use Rattle.module_semantics.specs.Kinds.{kind, within, OPEN, CLOSE, MINUS}
 use Rattle.module_semantics.specs.Raw as raw
 use Rattle.module_semantics.specs.Raw.{RawExpr}
 use Rattle.module_semantics.specs.Spelling as spell
 use Rattle.module_semantics.specs.Spelling.{Spell, ◌>>◌, ◌▸◌}
 use Rattle.module_semantics.specs.Grammar as grammar
-use Rattle.module_semantics.specs.ExprGrammar.{ExprD, NullD, NullRestD, SumD, SumRestD, ProdD, ProdRestD, UnaryD, PrimD, expr_spelt, null_spelt, null_rest_spelt, sum_spelt, sum_rest_spelt, prod_spelt, prod_rest_spelt, unary_spelt, prim_spelt, expr_raw, null_raw, null_rest_raw, sum_raw, sum_rest_raw, prod_raw, prod_rest_raw, unary_raw, prim_raw, expr_depth, null_depth, null_rest_depth, sum_depth, sum_rest_depth, prod_depth, prod_rest_depth, unary_depth, prim_depth}
-use Rattle.module_semantics.specs.NameRules.{Within, Broken, expr_broken}
+use Rattle.module_semantics.specs.ExprGrammar.{expr_spelt, null_spelt, sum_spelt, prod_spelt, unary_spelt, prim_spelt, expr_raw, null_raw, sum_raw, prod_raw, unary_raw, prim_raw, expr_depth, null_depth, sum_depth, prod_depth, unary_depth, prim_depth}
+use Rattle.module_semantics.specs.NameRules.{Within, expr_broken}
 use Rattle.module_semantics.specs.Resolving.{expr_tree}
-use Rattle.module_semantics.proofs.Steps.{bound_some, regroup}
-use Rattle.module_semantics.proofs.Expressions.{and_no_more, same_after}
+use Rattle.module_semantics.proofs.Steps.{bound_some}
+use Rattle.module_semantics.proofs.Expressions.{and_no_more}
 use Rattle.module_semantics.proofs.Marks.{mark_spells}
 
 abbrev pub tokens_in : List LineToken → List Token

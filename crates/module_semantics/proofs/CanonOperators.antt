@@ -1,5 +1,5 @@
 -- Operators between two operands, which group to the left.
-use Rattle.std.proofs.Common.{◌≡◌, ℕ, ◌≤◌, max, suc, List, [], ◌∷◌, ◌++◌, Bool, true, Option, Some, None, refl, sym, ap, ◌∙◌, subst, arith}
+use Rattle.std.proofs.Common.{◌≡◌, ℕ, ◌≤◌, List, [], ◌∷◌, ◌++◌, true, Option, Some, None, refl, sym, ap, ◌∙◌, subst, arith}
 use Rattle.std.proofs.lemmas.List.{append_assoc}
 use Rattle.hmr_types.specs.Syntax as tree
 use Rattle.hmr_types.specs.Syntax.{ExprTree}
@@ -7,7 +7,7 @@ use Rattle.hmr_types.specs.declared.tree.Op.{Op}
 use Rattle.hmr_types.specs.declared.tree.Op.TheVariants as ops
 use Rattle.module_semantics.specs.Token as token
 use Rattle.module_semantics.specs.Token.{Token, LineToken}
-use Rattle.module_semantics.specs.Kinds.{kind, within, PLUS, MINUS, TIMES, NULLISH, QUESTION, COLON}
+use Rattle.module_semantics.specs.Kinds.{kind, within, PLUS, MINUS, TIMES, NULLISH}
 use Rattle.module_semantics.specs.Raw as raw
 use Rattle.module_semantics.specs.Raw.{RawExpr}
 use Rattle.module_semantics.specs.Spelling as spell
@@ -19,7 +19,7 @@ use Rattle.module_semantics.specs.Resolving.{expr_tree}
 use Rattle.module_semantics.proofs.Steps.{bound_some}
 use Rattle.module_semantics.proofs.Statements.{under, assoc}
 use Rattle.module_semantics.proofs.Marks.{mark_spells}
-use Rattle.module_semantics.proofs.CanonLevels.{Derived, Written, AsExpr, AsNull, AsSum, AsProd, AsUnary, Halves, halves, First, first}
+use Rattle.module_semantics.proofs.CanonLevels.{Derived, AsNull, AsSum, AsProd, AsUnary, halves, first}
 
 same_again : (o : Option (List LineToken)) → (o >> grammar.nothing) ≡ o
 same_again (Some x) = refl

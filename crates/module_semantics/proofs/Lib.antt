@@ -4,6 +4,7 @@ pub mod CanonExamples
 pub mod CanonExprs
 pub mod CanonLevels
 pub mod CanonOperators
+pub mod CanonStmts
 pub mod Choices
 pub mod CommaLists
 pub mod Ends
