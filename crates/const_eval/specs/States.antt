@@ -4,6 +4,7 @@ use Rattle.module_semantics.specs.Bodies.{State, Context, registration_of}
 use Rattle.const_eval.specs.declared.state.State as state
 use Rattle.const_eval.specs.declared.state.Context as context
 
+-- what was made so far
 abbrev pub state_of : state.State → State
 state_of s = record {
   vars = s.vars.items;
@@ -14,5 +15,6 @@ state_of s = record {
   registered = map registration_of s.registered.items;
 }
 
+-- what stays as it is
 abbrev pub context_of : context.Context → Context
 context_of c = record { imports = c.imports.now; mods = c.mods.now }

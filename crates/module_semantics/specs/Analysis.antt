@@ -76,6 +76,7 @@ is_decline tree.decline = true
 abbrev pub specifiers_of : ItemTree → List (List ℕ)
 specifiers_of i = imported_by i ++ accepted_by i
 
+-- a refusal, or what comes later
 abbrev pub refusal_or : Result (List ℕ) SpecFault → Option SpecFault → Option SpecFault
 refusal_or (Ok name) later = later
 refusal_or (Err fault) later = Some fault
@@ -85,6 +86,7 @@ abbrev pub first_refusal : List ℕ → List (List ℕ) → Option SpecFault
 first_refusal base [] = None
 first_refusal base (s ∷ ss) = refusal_or (resolve base s) (first_refusal base ss)
 
+-- a name before the later ones, where there is one
 abbrev pub name_and : Result (List ℕ) SpecFault → List (List ℕ) → List (List ℕ)
 name_and (Ok name) names = name ∷ names
 name_and (Err fault) names = names
@@ -121,6 +123,7 @@ analysis_of base m = record {
 abbrev pub if_few : Analysis → Result Analysis ScanFault
 if_few a = if nat_lt IMPORTS (length a.imports) then Err scan.TooManyImports else Ok a
 
+-- the fault of a specifier goes first
 abbrev pub if_all_mean : Option SpecFault → Result Analysis ScanFault → Result Analysis ScanFault
 if_all_mean None result = result
 if_all_mean (Some fault) result = Err (scan.Spec fault)
@@ -138,6 +141,7 @@ specifier_word specs.TooLong = words.SpecifierTooLong
 specifier_word specs.BadSegment = words.SpecifierBadSegment
 specifier_word specs.NoMemory = words.SpecifierEmpty
 
+-- the word of a fault of specifiers and imports
 abbrev pub scan_word : ScanFault → FaultWord
 scan_word (scan.Spec fault) = specifier_word fault
 scan_word scan.TooManyImports = words.TooManyImports
@@ -148,6 +152,7 @@ abbrev pub scan_outcome : Result Analysis ScanFault → Outcome
 scan_outcome (Ok a) = Good a
 scan_outcome (Err fault) = Bad (record { line = 0; col = 0; word = scan_word fault })
 
+-- the outcome of what a text reads as
 abbrev pub outcome_of : List ℕ → Result ModuleTree TextFault → Outcome
 outcome_of base (Ok m) = scan_outcome (analysed base m)
 outcome_of base (Err fault) = Bad fault

@@ -25,6 +25,7 @@ pub record Registration : Type 0 where
   pub deps : List (List ℕ)
   pub what : OnceTree
 
+-- what a registered handler stands for
 abbrev pub registration_of : Registered → Registration
 registration_of r = record { kind = r.kind; deps = r.deps; what = once_of r.what }
 
@@ -70,6 +71,7 @@ abbrev pub line_of : List Value → List ℕ
 line_of [] = []
 line_of (v ∷ vs) = written v ++ spaced vs
 
+-- one more line
 abbrev pub add_line : State → List Value → Progress
 add_line s vs = (record s { lines = s.lines ++ line_of vs ∷ [] }, None)
 
@@ -79,6 +81,7 @@ assign_slot n s v (Some (Val old)) = (record s { vars = with_entry n (Val v) s.v
 assign_slot n s v (Some Unset) = (s, Some (Uninitialised n))
 assign_slot n s v None = (s, Some (Uninitialised n))
 
+-- an assignment of a variable of the module
 abbrev pub assign : List ℕ → State → Value → Progress
 assign n s v = assign_slot n s v (entry_at n s.vars)
 
@@ -86,9 +89,11 @@ assign n s v = assign_slot n s v (entry_at n s.vars)
 abbrev pub keep : List ℕ → State → Value → Progress
 keep key s v = if has_room key s.bag then (record s { bag = with_entry key v s.bag }, None) else (s, Some BagFull)
 
+-- a fault with the value as text
 abbrev pub throw : State → Value → Progress
 throw s v = (s, Some (Thrown (written v)))
 
+-- one more invalidation
 abbrev pub add_invalidation : State → List ℕ → Progress
 add_invalidation s message = (record s { invalidations = s.invalidations ++ message ∷ [] }, None)
 
@@ -97,6 +102,7 @@ abbrev pub invalidate : Scope → State → Option ExprTree → Progress
 invalidate scope s None = add_invalidation s []
 invalidate scope s (Some e) = with_result s (value_of scope e) (λ v. add_invalidation s (written v))
 
+-- whether a parameter is a module
 abbrev pub is_module : Option ModParam → Bool
 is_module (Some (params.Mod exports)) = true
 is_module (Some params.Undef) = false
@@ -107,6 +113,7 @@ abbrev pub holds : Scope → CondTree → Result Bool EvalFault
 holds scope (tree.param place) = Ok (is_module (slice_get scope.mods place))
 holds scope (tree.value e) = value_of scope e >>= λ v. Ok (truth v)
 
+-- one statement, and statements in order up to the first fault
 abbrev mutual
   pub run : Context → StmtTree → State → Progress
   run c (tree.log es) s = with_result s (values_of (scope_of c s) es) (add_line s)
@@ -132,6 +139,7 @@ pub record Ran : Type 0 where
   pub invalidations : List (List ℕ)
   pub bag : List (List ℕ × Value)
 
+-- what stands after a handler's run
 abbrev pub ran_of : Progress → Ran
 ran_of (s, fault) = record { fault = fault; lines = s.lines; changes = s.changes; invalidations = s.invalidations; bag = s.bag }
 

@@ -9,6 +9,7 @@ use Rattle.hmr_types.specs.Results.{◌>>=◌}
 use Rattle.module_semantics.specs.Values.{number, text, negated, truth, with_right}
 use Rattle.module_semantics.specs.Scope.{Scope, read_name, read_bag, read_member}
 
+-- by cases on the expression; the left operand goes first
 abbrev pub value_of : Scope → ExprTree → Result Value EvalFault
 value_of s (tree.num n) = number (pos n)
 value_of s (tree.text t) = text t

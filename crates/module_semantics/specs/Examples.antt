@@ -20,6 +20,7 @@ use Rattle.module_semantics.specs.Modules.{Evaluated, module_run}
 abbrev pub alone : ExprTree → Result Value EvalFault
 alone e = value_of (record { vars = []; mods = []; bag = [] }) e
 
+-- the largest number
 abbrev pub largest : ExprTree
 largest = tree.num 9007199254740991
 
@@ -56,6 +57,7 @@ with_module exports = record { vars = []; mods = params.Mod exports ∷ []; bag 
 abbrev pub before : StmtTree
 before = tree.branch (tree.value (tree.num 1)) (stmts (tree.log (tree.text (codes "before") ∷ []) ∷ tree.bag_set (codes "k") (tree.num 2) ∷ tree.invalidate None ∷ [])) tree.no_stmts
 
+-- a line that a fault before it leaves out
 abbrev pub after : StmtTree
 after = tree.log (tree.text (codes "after") ∷ [])
 
@@ -79,9 +81,11 @@ module_with i =
     export_let (codes "a") (tree.num 1) ∷ tree.act before ∷ tree.dispose (tree.code nothing) ∷ i
     ∷ export_let (codes "b") (tree.num 2) ∷ tree.prune (tree.code nothing) ∷ []
 
+-- an import without names
 abbrev pub import : List ℕ → ItemTree
 import spec = tree.import spec []
 
+-- an accept of one dependency, without a callback
 abbrev pub accept : List ℕ → ItemTree
 accept spec = tree.deps false (spec ∷ []) None
 

@@ -16,6 +16,7 @@ use Rattle.module_semantics.specs.Bodies.{Registration, State, Context, Progress
 abbrev pub declare : List ℕ → State → Value → Progress
 declare n s v = (record s { vars = with_entry n (Val v) s.vars }, None)
 
+-- one more registered handler
 abbrev pub register : Kind → List (List ℕ) → OnceTree → State → Progress
 register kind deps what s = (record s { registered = s.registered ++ record { kind = kind; deps = deps; what = what } ∷ [] }, None)
 
@@ -29,6 +30,7 @@ abbrev pub register_deps : List (List ℕ) → Option HandlerTree → State → 
 register_deps specs None s = (s, None)
 register_deps specs (Some code) s = register Dep specs (tree.code code) s
 
+-- one item; an import, a bare accept and a decline do nothing
 abbrev pub item_run : Context → ItemTree → State → Progress
 item_run c (tree.import spec names) s = (s, None)
 item_run c (tree.declare exported mutable n e) s = with_result s (value_of (scope_of c s) e) (declare n s)
@@ -72,6 +74,7 @@ pub record Evaluated : Type 0 where
   pub registered : List Registration
   pub bag : List (List ℕ × Value)
 
+-- what stands after a module's evaluation
 abbrev pub evaluated_of : Progress → Evaluated
 evaluated_of (s, fault) = record { fault = fault; vars = s.vars; lines = s.lines; registered = s.registered; bag = s.bag }
 

@@ -22,6 +22,7 @@ name_value name (Some (Val v)) = Ok v
 name_value name (Some Unset) = Err (Uninitialised name)
 name_value name None = Err (Uninitialised name)
 
+-- what a name reads
 abbrev pub read_name : List ℕ → List (List ℕ × Slot) → Result Value EvalFault
 read_name name vars = name_value name (entry_at name vars)
 
@@ -30,6 +31,7 @@ abbrev pub bag_value : Option Value → Value
 bag_value (Some v) = v
 bag_value None = values.Undef
 
+-- what a key of the bag reads
 abbrev pub read_bag : List ℕ → List (List ℕ × Value) → Value
 read_bag key bag = bag_value (entry_at key bag)
 
@@ -43,6 +45,7 @@ export_value name None = Ok values.Undef
 abbrev pub no_module : Bool → Result Value EvalFault
 no_module safe = if safe then Ok values.Undef else Err UndefinedRead
 
+-- an export of a parameter
 abbrev pub member_of : Bool → List ℕ → Option ModParam → Result Value EvalFault
 member_of safe name (Some (params.Mod exports)) = export_value name (entry_at name exports)
 member_of safe name (Some params.Undef) = no_module safe

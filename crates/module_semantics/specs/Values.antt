@@ -39,6 +39,7 @@ added Undef (Num b) = Err NotNumber
 added Undef (Str t) = text (written Undef ++ t)
 added Undef Undef = Err NotNumber
 
+-- two numbers have a difference
 abbrev pub subtracted : Value → Value → Result Value EvalFault
 subtracted (Num a) (Num b) = number (a -ℤ b)
 subtracted (Num a) (Str t) = Err NotNumber
@@ -46,6 +47,7 @@ subtracted (Num a) Undef = Err NotNumber
 subtracted (Str s) b = Err NotNumber
 subtracted Undef b = Err NotNumber
 
+-- two numbers have a product
 abbrev pub multiplied : Value → Value → Result Value EvalFault
 multiplied (Num a) (Num b) = number (a *ℤ b)
 multiplied (Num a) (Str t) = Err NotNumber
@@ -53,6 +55,7 @@ multiplied (Num a) Undef = Err NotNumber
 multiplied (Str s) b = Err NotNumber
 multiplied Undef b = Err NotNumber
 
+-- a number has an opposite
 abbrev pub negated : Value → Result Value EvalFault
 negated (Num a) = number (neg_ℤ a)
 negated (Str s) = Err NotNumber
