@@ -1,6 +1,7 @@
 // What no clause says: that texts are lexed with ample memory, and what the definitions make of each
 // kind of token, of each fault and of the limit.
 use super::*;
+use std::alloc::{AllocError, Global};
 use std::test::Fail;
 
 #[derive(Clone, Copy)]
@@ -11,13 +12,55 @@ enum Expected<'a> {
     Punct(Punct),
 }
 
-fn is_kind(kind: &TokenKind, expected: &Expected<'_>) -> bool {
-    match (kind, expected) {
+/// The tokens of a text that is short enough for `lex`, or its fault.
+fn lexed(alloc: Global, text: &str) -> Option<Result<Vec<Token>, LexFault>> {
+    if text.len() > 65_536 {
+        return None;
+    }
+    Some(lex(alloc, text))
+}
+
+fn is_token(token: &Token, expected: &Expected<'_>, at: u32, len: u32) -> bool {
+    let is_kind = match (&token.kind, expected) {
         (TokenKind::Name(name), Expected::Name(text)) => name.as_str() == *text,
         (TokenKind::Number(number), Expected::Number(value)) => number == value,
         (TokenKind::Text(text), Expected::Text(value)) => text.as_str() == *value,
         (TokenKind::Punct(punct), Expected::Punct(mark)) => punct == mark,
         _ => false,
+    };
+    is_kind && token.at == at && token.len == len
+}
+
+fn has_one_token(alloc: Global, text: &str, expected: &Expected<'_>, at: u32, len: u32) -> bool {
+    match lexed(alloc, text) {
+        Some(Ok(tokens)) => match tokens.as_slice() {
+            [token] => is_token(token, expected, at, len),
+            _ => false,
+        },
+        _ => false,
+    }
+}
+
+fn has_fault(alloc: Global, text: &str, at: u32, kind: LexKind) -> bool {
+    match lexed(alloc, text) {
+        Some(Err(fault)) => fault == LexFault { at, kind },
+        _ => false,
+    }
+}
+
+/// What becomes of so many tokens of one byte and then `last`: how many tokens, or the fault at
+/// `last`.
+fn after_tokens(
+    alloc: Global,
+    count: u32,
+    last: &str,
+) -> Result<Option<Result<usize, LexKind>>, AllocError> {
+    let mut text = ";".repeat(alloc, count as usize)?;
+    text.push_str(last)?;
+    match lexed(alloc, &text) {
+        Some(Ok(tokens)) => Ok(Some(Ok(tokens.len()))),
+        Some(Err(fault)) if fault.at == count => Ok(Some(Err(fault.kind))),
+        _ => Ok(None),
     }
 }
 
@@ -59,14 +102,7 @@ fn tokens_faults_and_the_limit(rt: HostRuntime) -> Result<(), Fail> {
         ("?.", Expected::Punct(Punct::SafeDot), 0, 2),
         ("??", Expected::Punct(Punct::Nullish), 0, 2),
     ] {
-        assert!(rt; text.len() < 100);
-        let tokens = lex(alloc, text).expect(&rt, "one token");
-        assert!(rt; tokens.len() == 1, "{text}");
-        let token = &tokens[0];
-        assert!(rt;
-            is_kind(&token.kind, &expected) && token.at == at && token.len == len,
-            "{text}"
-        );
+        assert!(rt; has_one_token(alloc, text, &expected, at, len), "{text}");
     }
 
     for (text, at, kind) in [
@@ -87,26 +123,19 @@ fn tokens_faults_and_the_limit(rt: HostRuntime) -> Result<(), Fail> {
         ("'\\\n'", 1, LexKind::BadEscape),
         (" 9007199254740992a", 1, LexKind::NumberTooLarge),
     ] {
-        assert!(rt; text.len() < 100);
-        assert!(rt;
-            lex(alloc, text).err() == Some(LexFault { at, kind }),
-            "{text}"
-        );
+        assert!(rt; has_fault(alloc, text, at, kind), "{text}");
     }
 
     for (last, outcome) in [
-        (" // x", None),
-        (";", Some(LexKind::TooManyTokens)),
-        ("1a", Some(LexKind::TooManyTokens)),
-        ("#", Some(LexKind::BadByte)),
+        (" // x", Ok(32_768)),
+        (";", Err(LexKind::TooManyTokens)),
+        ("1a", Err(LexKind::TooManyTokens)),
+        ("#", Err(LexKind::BadByte)),
     ] {
-        let mut text = ";".repeat(alloc, 32_768)?;
-        text.push_str(last)?;
-        assert!(rt; text.len() < 40_000);
-        match lex(alloc, &text) {
-            Ok(tokens) => assert!(rt; outcome.is_none() && tokens.len() == 32_768, "{last}"),
-            Err(fault) => assert!(rt; outcome == Some(fault.kind) && fault.at == 32_768, "{last}"),
-        }
+        assert!(rt;
+            after_tokens(alloc, 32_768, last)? == Some(outcome),
+            "{last}"
+        );
     }
     Ok(())
 }
