@@ -1,6 +1,6 @@
 -- The number that digits write only grows with each digit.
 use Rattle.std.proofs.Common.{◌≡◌, ℕ, ◌+◌, ◌<◌, ◌≤◌, List, [], ◌∷◌, length, drop, get_or, fold, None, arith, sym, ap, ◌∙◌}
-use Rattle.std.specs.Prelude.{nat_le, false, if◌then◌else◌, Some}
+use Rattle.std.specs.Prelude.{nat_le, false}
 use Rattle.std.proofs.lemmas.Bool.Decides.{nat_tests}
 use Rattle.std.proofs.lemmas.List.{drop_more}
 use Rattle.play_text.specs.Script.{with_digit, digits_value, up_to}

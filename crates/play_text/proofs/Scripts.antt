@@ -9,14 +9,14 @@ use Rattle.hmr_types.specs.Results.{◌>>=◌}
 use Rattle.play_text.specs.declared.draft.Draft.{Draft}
 use Rattle.play_text.specs.declared.script.Script.{Script}
 use Rattle.play_text.specs.declared.script_fault.ScriptFault.{ScriptFault}
-use Rattle.play_text.specs.Script.{Line, cut_line, finished, is_line_end, line_read, lines_from, numbered, script_from}
+use Rattle.play_text.specs.Script.{cut_line, finished, is_line_end, line_read, lines_from, numbered, script_from}
 
 -- the script of what is left at a place of the text, in a line that began at another
 abbrev pub left_at : Draft → ℕ → List ℕ → ℕ → ℕ → Result Script ScriptFault
 left_at draft n text start at = script_from draft n (lines_from (take (at - start) (drop start text)) (drop at text))
 
 -- a byte of a line
-goes_on : (line : List ℕ) (b : ℕ) (rest : List ℕ) → is_line_end b ≡ false → lines_from line (b ∷ rest) ≡ lines_from (line ++ b ∷ []) rest
+pub goes_on : (line : List ℕ) (b : ℕ) (rest : List ℕ) → is_line_end b ≡ false → lines_from line (b ∷ rest) ≡ lines_from (line ++ b ∷ []) rest
 goes_on line b rest h = rw h refl
 
 -- the end of a line

@@ -1,5 +1,5 @@
 -- The text of every output line.
-use Rattle.std.specs.Prelude.{ℕ, List, [], ◌∷◌, ◌++◌, codes, decimal}
+use Rattle.std.specs.Prelude.{ℕ, List, ◌++◌, codes, decimal}
 use Rattle.std.specs.List.{flat_map}
 use Rattle.std.specs.Fmt.{signed_decimal}
 use Rattle.play_text.specs.Texts.{spaced, spaced_number, of_client, names_text, escaped, quoted, after_space}

@@ -7,6 +7,8 @@
 #![tactic(auto)]
 
 mod draft;
+mod line_forms;
+mod outcomes;
 mod pieces;
 mod rendering;
 mod script;
@@ -14,9 +16,14 @@ mod script_arguments;
 mod script_commands;
 mod script_fault;
 mod script_reader;
+mod spelling;
 mod word_texts;
 
 pub use rendering::render;
 pub use script::{Script, ScriptLine};
 pub use script_fault::{ScriptFault, ScriptKind, script_word};
 pub use script_reader::read_script;
+pub use spelling::spelling_is_read;
+
+#[cfg(test)]
+mod tests;

@@ -1,5 +1,5 @@
 use Rattle.play_text.proofs.Puts.{two_puts}
-use Rattle.play_text.proofs.rendering.put_eval_fault.Goals as goal
+use Rattle.play_text.proofs.outcomes.put_eval_fault.Goals as goal
 
 pub returns-in_ok-put-in-Uninitialised : goal.returns-in_ok-put-in-Uninitialised
 returns-in_ok-put-in-Uninitialised c =
