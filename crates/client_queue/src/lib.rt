@@ -1,13 +1,12 @@
-// A library with one function.
+//! What the server has in store for a client: the modules that were invalidated on its page, the
+//! faults that it isn't told of yet, and whether it gave a plan up.
+//!
+//! Stands on the vocabulary and on the definitions of the core. Keeps: the forced names rise by bytes,
+//! and so do the names of the notices, each once; a notice for which room was made isn't refused.
+//! Knows nothing of views, of plans or of messages.
 #![tactic(auto)]
 
-ghost use Rattle.std.specs.Prelude.{◌≡◌};
-ghost use Rattle.client_queue.specs.Echo.{echo_of};
+mod queue;
+mod sorted;
 
-// The `ensures` clause is the contract: what `echo` returns is `echo_of` of its argument, a definition
-// in `specs/Echo.antt`, which a caller's clause can cite too.
-pub fn echo(x: usize) -> usize
-    ensures { result ≡ echo_of x }
-{
-    x
-}
+pub use queue::ClientQueue;

@@ -6,12 +6,13 @@
 //! of versions.
 #![tactic(auto)]
 
+mod outcome;
 mod pairs;
 mod passing;
 mod reason;
 mod replaced;
-mod spread;
+mod spreading;
 mod trails;
 
-pub use reason::Reason;
-pub use spread::{Spread, spread};
+pub use outcome::{Reason, Spread};
+pub use spreading::spread;

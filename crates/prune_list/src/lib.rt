@@ -8,3 +8,6 @@
 mod pruning;
 
 pub use pruning::unreached;
+
+#[cfg(test)]
+mod tests;
