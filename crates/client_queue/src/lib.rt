@@ -1,0 +1,12 @@
+//! What the server has in store for a client: the modules that were invalidated on its page, the
+//! faults that it isn't told of yet, and whether it gave a plan up.
+//!
+//! Stands on the vocabulary and on the definitions of the core. Keeps: the forced names rise by bytes,
+//! and so do the names of the notices, each once; a notice for which room was made isn't refused.
+//! Knows nothing of views, of plans or of messages.
+#![tactic(auto)]
+
+mod queue;
+mod sorted;
+
+pub use queue::ClientQueue;

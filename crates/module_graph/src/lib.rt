@@ -1,0 +1,14 @@
+//! The modules of a page, and what imports lead to.
+//!
+//! Stands on the vocabulary and on the definitions of the core. Keeps: a [`View`] has one entry for a
+//! name, in order of entering, and contracts see it as the list of its entries. Knows nothing of
+//! changes, of roots or of clients.
+#![tactic(auto)]
+
+mod names;
+mod search;
+mod view;
+
+pub use names::{copy_of, has_name, rising};
+pub use search::{Edges, Imports, reached};
+pub use view::View;

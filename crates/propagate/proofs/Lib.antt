@@ -1,0 +1,4 @@
+mod Trailing
+mod Levels
+mod Onward
+mod Telling

@@ -1,0 +1,3 @@
+pub mod Passing
+pub mod Pairs
+pub mod Trails
