@@ -60,7 +60,7 @@ put_apart n e row rows true s d h = ap (λ k. are_distinct (k ∷ names_of rows)
 put_apart n e row rows false s d h =
     let p = both_true (not (has (names_of rows) row.0)) _ d in
     and_both (not (has (names_of (put_entry n e rows)) row.0)) _
-      (ap not (put_named n e rows row.0) ∙ neither (same_name n row.0) _ (turned (same_name n row.0) (λ t. sym s ∙ true_same row.0 n (sym (same_true n row.0 t)))) p.0) h
+    (ap not (put_named n e rows row.0) ∙ neither (same_name n row.0) _ (turned (same_name n row.0) (λ t. sym s ∙ true_same row.0 n (sym (same_true n row.0 t)))) p.0) h
   where
     turned : (b : Bool) → (b ≡ true → false ≡ true) → b ≡ false
     turned true f = absurd (false≢true (f refl))
@@ -111,8 +111,8 @@ importing_has n [] d m = refl
 importing_has n (row ∷ rows) d m =
     let q = both_true (not (has (names_of rows) row.0)) _ d in
     rows_import n row rows m (same_name row.0 m) (importing n row) refl refl
-      (λ s. gone _ (λ t. sym (not_true _ q.0) ∙ ap (has (names_of rows)) (same_true row.0 m s) ∙ kept_named (importing n) rows m t))
-      (importing_has n rows q.1 m)
+    (λ s. gone _ (λ t. sym (not_true _ q.0) ∙ ap (has (names_of rows)) (same_true row.0 m s) ∙ kept_named (importing n) rows m t))
+    (importing_has n rows q.1 m)
 
 pub importers_are : (n : Name) (rows : View) (out : List Name) → are_distinct (names_of rows) ≡ true → out ≡ sorted (names_of (filter (importing n) rows)) → (m : Name) → Contains out m ↔ (imports rows m n ≡ true)
 importers_are n rows out d e m =

@@ -132,5 +132,5 @@ pub deduped : (names moved : List Name) → IsPermutation names moved → IsSort
 deduped names moved p s = rising_is_sorted (dedup same_name moved) names
     (IsStrictlySortedBy-dedup nat_list_cmp_total (λ x y. texts_ties x y) moved s)
     (λ n. same_test _ _
-      (λ h. (has_is names n).0 (Contains-permutation _ _ n (IsPermutation-sym _ _ p) (Contains-from_dedup same_name moved n ((has_is (dedup same_name moved) n).1 h))))
-      (λ h. (has_is (dedup same_name moved) n).0 (Contains-dedup nat_list_eq_equiv same_true moved n (Contains-permutation _ _ n p ((has_is names n).1 h)))))
+    (λ h. (has_is names n).0 (Contains-permutation _ _ n (IsPermutation-sym _ _ p) (Contains-from_dedup same_name moved n ((has_is (dedup same_name moved) n).1 h))))
+    (λ h. (has_is (dedup same_name moved) n).0 (Contains-dedup nat_list_eq_equiv same_true moved n (Contains-permutation _ _ n p ((has_is names n).1 h)))))

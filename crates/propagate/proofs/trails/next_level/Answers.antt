@@ -11,5 +11,5 @@ pub loop-trail-preserved : goal.loop-trail-preserved
 loop-trail-preserved g c =
     let t = c.trail-item.result in
     levelled_more (g.G.Edges.edge c.args.graph.now) c.args.level.now c.args.before.now c.in_ok-next.next.items c.loop-trail.new.items c.loop-trail.trail-index t c.extend.new.level.items
-      c.loop-trail-test.true c.trail-item.is c.loop-trail.invariant c.in_ok-next.ensures
-      (subst (λ l. Extended c.loop-trail.new.items t.path.items l c.args.before.now c.extend.new.level.items) c.deref.ensures.value c.in_ok-extend.ensures)
+    c.loop-trail-test.true c.trail-item.is c.loop-trail.invariant c.in_ok-next.ensures
+    (subst (λ l. Extended c.loop-trail.new.items t.path.items l c.args.before.now c.extend.new.level.items) c.deref.ensures.value c.in_ok-extend.ensures)
