@@ -16,7 +16,8 @@ Row = Name × Entry
 
 -- an entry put where its name stands first
 
-set_parts : (xs : List Row) (i : ℕ) (y : Row) → i < length xs → slice_set xs i y ≡ take i xs ++ y ∷ drop (i + 1) xs
+-- a list with another element at a place
+pub set_parts : {X : Type 0} (xs : List X) (i : ℕ) (y : X) → i < length xs → slice_set xs i y ≡ take i xs ++ y ∷ drop (i + 1) xs
 set_parts xs i y h = sym (take-append-drop (i + 1) (slice_set xs i y)) ∙ ap (λ l. l ++ drop (i + 1) (slice_set xs i y)) (take_more_set xs i y h)
     ∙ append_assoc (take i xs) (y ∷ []) (drop (i + 1) (slice_set xs i y)) ∙ ap (λ l. take i xs ++ y ∷ l) (drop-set-lt (i + 1) xs i y (omega arith))
 
@@ -25,13 +26,6 @@ put_drop n e rows i d h b s = ap (put_entry n e) (drop_more rows i d h) ∙ ap (
 
 pub place_found : (n : Name) (e : Entry) (rows : View) (i : ℕ) (d : Row) → i < length rows → put_entry n e rows ≡ take i rows ++ put_entry n e (drop i rows) → same_name (get_or rows i d).0 n ≡ true → put_entry n e rows ≡ slice_set rows i (n, e)
 place_found n e rows i d h so_far s = so_far ∙ ap (λ l. take i rows ++ l) (put_drop n e rows i d h true s) ∙ sym (set_parts rows i (n, e) h)
-
-pub place_past : (n : Name) (e : Entry) (rows : View) (i : ℕ) (d : Row) → i < length rows → put_entry n e rows ≡ take i rows ++ put_entry n e (drop i rows) → same_name (get_or rows i d).0 n ≡ false → put_entry n e rows ≡ take (i + 1) rows ++ put_entry n e (drop (i + 1) rows)
-place_past n e rows i d h so_far s = so_far ∙ ap (λ l. take i rows ++ l) (put_drop n e rows i d h false s)
-    ∙ sym (append_assoc (take i rows) (get_or rows i d ∷ []) (put_entry n e (drop (i + 1) rows))) ∙ ap (λ l. l ++ put_entry n e (drop (i + 1) rows)) (sym (take_more rows i d h))
-
-pub place_none : (n : Name) (e : Entry) (rows : View) (i : ℕ) → length rows ≤ i → put_entry n e rows ≡ take i rows ++ put_entry n e (drop i rows) → put_entry n e rows ≡ rows ++ (n, e) ∷ []
-place_none n e rows i h so_far = so_far ∙ ap (λ l. l ++ put_entry n e (drop i rows)) (take_all i rows h) ∙ ap (λ l. rows ++ l) (at_drop_all (put_entry n e) rows i h)
 
 -- no two entries have one name
 
