@@ -1,15 +1,13 @@
 -- The entries of a view: where an entry is put, that no two have one name, and which import a name.
-use Rattle.std.proofs.Common.{◌≡◌, ◌↔◌, ◌⊎◌, inl, inr, ℕ, ◌<◌, ◌≤◌, ◌+◌, Bool, true, false, List, [], ◌∷◌, ◌++◌, length, take, drop, get_or, refl, ap, sym, ◌∙◌, arith, Contains}
-use Rattle.std.specs.Prelude.{slice_set, filter, not, ◌&&◌, ◌||◌, Option, Some, None, if◌then◌else◌, cond}
-use Rattle.std.proofs.Math.Path.{subst}
+use Rattle.std.proofs.Common.{◌≡◌, ◌↔◌, ℕ, ◌<◌, ◌+◌, Bool, true, false, List, [], ◌∷◌, ◌++◌, length, take, drop, get_or, refl, ap, sym, ◌∙◌, arith, Contains}
+use Rattle.std.specs.Prelude.{slice_set, filter, not, ◌||◌, Some, if◌then◌else◌, cond}
 use Rattle.std.proofs.lemmas.Bool.{false≢true}
-use Rattle.std.proofs.lemmas.List.{take_more, take_all, drop_more, take-append-drop, take_more_set, drop-set-lt, at_drop_all, append_assoc}
-use Rattle.core_model.specs.Names.{Name, same_name, has, at, names_of, sorted, without_all}
+use Rattle.std.proofs.lemmas.List.{drop_more, take-append-drop, take_more_set, drop-set-lt, append_assoc}
+use Rattle.core_model.specs.Names.{Name, same_name, has, at, names_of, sorted}
 use Rattle.core_model.specs.Transcript.{are_distinct}
 use Rattle.core_model.specs.View.{View, Entry, imports_of, imports}
-use Rattle.core_model.proofs.Naming.{same_true, true_same, has_is, both_true, and_both, not_true, not_from, cases_bool, sorted_has, or_right}
+use Rattle.core_model.proofs.Naming.{same_true, true_same, has_is, both_true, and_both, not_true, not_from, sorted_has, or_right}
 use Rattle.module_graph.specs.Entries.{put_entry, importing}
-use Prim.{⊥}
 
 abbrev pub Row : Type 0
 Row = Name × Entry
@@ -54,7 +52,7 @@ put_apart n e row rows true s d h = ap (λ k. are_distinct (k ∷ names_of rows)
 put_apart n e row rows false s d h =
     let p = both_true (not (has (names_of rows) row.0)) _ d in
     and_both (not (has (names_of (put_entry n e rows)) row.0)) _
-      (ap not (put_named n e rows row.0) ∙ neither (same_name n row.0) _ (turned (same_name n row.0) (λ t. sym s ∙ true_same row.0 n (sym (same_true n row.0 t)))) p.0) h
+    (ap not (put_named n e rows row.0) ∙ neither (same_name n row.0) _ (turned (same_name n row.0) (λ t. sym s ∙ true_same row.0 n (sym (same_true n row.0 t)))) p.0) h
   where
     turned : (b : Bool) → (b ≡ true → false ≡ true) → b ≡ false
     turned true f = absurd (false≢true (f refl))
@@ -105,8 +103,8 @@ importing_has n [] d m = refl
 importing_has n (row ∷ rows) d m =
     let q = both_true (not (has (names_of rows) row.0)) _ d in
     rows_import n row rows m (same_name row.0 m) (importing n row) refl refl
-      (λ s. gone _ (λ t. sym (not_true _ q.0) ∙ ap (has (names_of rows)) (same_true row.0 m s) ∙ kept_named (importing n) rows m t))
-      (importing_has n rows q.1 m)
+    (λ s. gone _ (λ t. sym (not_true _ q.0) ∙ ap (has (names_of rows)) (same_true row.0 m s) ∙ kept_named (importing n) rows m t))
+    (importing_has n rows q.1 m)
 
 pub importers_are : (n : Name) (rows : View) (out : List Name) → are_distinct (names_of rows) ≡ true → out ≡ sorted (names_of (filter (importing n) rows)) → (m : Name) → Contains out m ↔ (imports rows m n ≡ true)
 importers_are n rows out d e m =

@@ -7,7 +7,7 @@ use Rattle.core_model.specs.Names.{Name, has}
 use Rattle.core_model.specs.Paths.{Reaches}
 use Rattle.core_model.proofs.Naming.{has_is}
 use Rattle.core_model.proofs.Reaching.{reaches_on, reaches_start, reaches_within}
-use Rattle.module_graph.specs.Paths.{Extends, Adds}
+use Rattle.module_graph.specs.Paths.{Adds}
 
 -- Each known name is reached; the starts are known, and where the edges of the first at names lead.
 pub record Searched (edge : Name → Name → Bool) (starts known : List Name) (at : ℕ) : Type 0 where
@@ -31,7 +31,8 @@ searched_first edge starts known a = record {
   within = omega arith;
   sound = λ m h. reaches_start edge starts m (new_only starts m (a.only m h));
   begun = a.all;
-  closed = λ i m h e. absurd (omega (arith, h)); }
+  closed = λ i m h e. absurd (omega (arith, h));
+}
 
 -- a name that is known stands at a place below the length
 known_at : (edge : Name → Name → Bool) (starts known : List Name) (at : ℕ) → Searched edge starts known at → length known ≤ at → (n m : Name) → Contains known n → edge n m ≡ true → Contains known m
@@ -65,7 +66,8 @@ searched_more edge starts known next new at n s h is leads a = record {
   within = omega (arith, longer known next new a);
   sound = λ m c. sound_more edge starts known next new at n s h is leads m (a.only m c);
   begun = λ m c. contains_kept known next new a m (s.begun m c);
-  closed = λ i m l e. closed_more edge starts known next new at n s h is leads a i m (below_or_at i at l) e; }
+  closed = λ i m l e. closed_more edge starts known next new at n s h is leads a i m (below_or_at i at l) e;
+}
 
 kept_all : (cur xs : List Name) (x n : Name) → (Contains xs n → Contains cur n) → Contains cur x → Contains xs n ⊎ (x ≡ n) → Contains cur n
 kept_all cur xs x n f c (inl h) = f h
@@ -84,13 +86,15 @@ pub adds_kept : (old xs cur : List Name) (i : ℕ) (d : Name) → i < length xs 
 adds_kept old xs cur i d h a c = record {
   front = a.front;
   all = λ n k. kept_all cur (take i xs) (get_or xs i d) n (a.all n) c (Contains-push_cases (take i xs) (get_or xs i d) n (subst (λ l. Contains l n) (take_more xs i d h) k));
-  only = λ n k. kept_only old (take i xs) (get_or xs i d) (take (i + 1) xs) n (sym (take_more xs i d h)) (a.only n k); }
+  only = λ n k. kept_only old (take i xs) (get_or xs i d) (take (i + 1) xs) n (sym (take_more xs i d h)) (a.only n k);
+}
 
 pub adds_push : (old xs cur : List Name) (i : ℕ) (d : Name) → i < length xs → Adds old (take i xs) cur → Adds old (take (i + 1) xs) (cur ++ get_or xs i d ∷ [])
 adds_push old xs cur i d h a = record {
   front = record { more = a.front.more ++ get_or xs i d ∷ []; whole = ap (λ l. l ++ get_or xs i d ∷ []) a.front.whole ∙ append_assoc old a.front.more (get_or xs i d ∷ []) };
   all = λ n k. kept_all (cur ++ get_or xs i d ∷ []) (take i xs) (get_or xs i d) n (λ q. Contains-append_left cur _ n (a.all n q)) (Contains-push cur (get_or xs i d)) (Contains-push_cases (take i xs) (get_or xs i d) n (subst (λ l. Contains l n) (take_more xs i d h) k));
-  only = λ n k. push_only old (take i xs) cur (get_or xs i d) (take (i + 1) xs) n (sym (take_more xs i d h)) (a.only n) (Contains-push_cases cur (get_or xs i d) n k); }
+  only = λ n k. push_only old (take i xs) cur (get_or xs i d) (take (i + 1) xs) n (sym (take_more xs i d h)) (a.only n) (Contains-push_cases cur (get_or xs i d) n k);
+}
 
 -- a list in the place of an equal one
 pub has_same : (xs ys : List Name) → xs ≡ ys → (x : Name) → Contains xs x ↔ (has ys x ≡ true)

@@ -225,10 +225,7 @@ fn importers_in(
     Ok(names)
 }
 
-fn copy_of(
-    alloc: Global,
-    entries: &[(ModName, Entry)],
-) -> Result<Vec<(ModName, Entry)>, AllocError>
+fn copy_of(alloc: Global, entries: &[(ModName, Entry)]) -> Result<Vec<(ModName, Entry)>, AllocError>
     ensures { IfOk result (λ copy. copy.items ≡ entries.now) }
 {
     let mut copy = Vec::new(alloc);

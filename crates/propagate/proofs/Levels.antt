@@ -1,23 +1,21 @@
 -- A search by levels that keeps, for each name, its least path.
-use Rattle.std.proofs.Common.{◌≡◌, ◌↔◌, ◌⊎◌, inl, inr, ℕ, zero, suc, ◌+◌, ◌<◌, ◌≤◌, Bool, true, false, List, [], ◌∷◌, ◌++◌, length, take, drop, get_or, refl, ap, sym, ◌∙◌, arith, Contains}
-use Rattle.std.specs.Prelude.{HoldsAt, slice_set, MatchOption}
+use Rattle.std.proofs.Common.{◌≡◌, ◌⊎◌, inl, inr, ℕ, suc, ◌<◌, ◌≤◌, Bool, true, false, List, [], ◌∷◌, ◌++◌, length, refl, ap, sym, ◌∙◌, arith, Contains}
 use Prim.{⊥}
-use Rattle.std.specs.Ordering.{nat_cmp, is_lt, is_gt, ordering_then}
+use Rattle.std.specs.Ordering.{nat_cmp, is_gt, ordering_then}
 use Rattle.std.specs.Cmp.Lexicographic.{slice_cmp}
 use Rattle.std.specs.declared.cmp.Ordering.TheVariants.{Equal}
 use Rattle.std.proofs.Math.Path.{subst}
 use Rattle.std.proofs.lemmas.Cmp.{nat_list_cmp_total, tied_itself}
-use Rattle.std.proofs.lemmas.List.{take_more, length-append, append_assoc, get_or_default, get_or-set_same, get_or-set_other, length-set}
-use Rattle.std.proofs.lemmas.List.Elements.{Contains-append_left, Contains-push, Contains-push_cases, Contains-get_or}
+use Rattle.std.proofs.lemmas.List.{length-append}
 use Rattle.std.proofs.lemmas.Bool.{false≢true}
 use Rattle.core_model.specs.Names.{Name, has}
 use Rattle.core_model.specs.Paths.{Leads, IsPath, Reaches}
 use Rattle.core_model.specs.LeastPath.{path_cmp, NotAfter, AtMost, IsLeastPath}
 use Rattle.core_model.proofs.Naming.{has_is}
 use Rattle.core_model.proofs.Reaching.{path_on, reaches_within}
-use Rattle.core_model.proofs.LeastPaths.{itself, through, from_before, from_not_before}
+use Rattle.core_model.proofs.LeastPaths.{through}
 use Rattle.propagate.specs.declared.trails.Trail.{Trail}
-use Rattle.propagate.specs.Trails.{Covers, Puts, Grown, Extended, Follows, Levelled, Ends, AddsEnds, NoneBad, IsLeastBad}
+use Rattle.propagate.specs.Trails.{Covers, Grown, Extended, Follows, Levelled, Ends, AddsEnds, NoneBad, IsLeastBad}
 
 -- one more name at both ends changes nothing
 same_end : (p q : List Name) (m : Name) → length p ≡ length q → path_cmp (p ++ m ∷ []) (q ++ m ∷ []) ≡ path_cmp p q
@@ -95,7 +93,8 @@ spread_first edge starts bad level x = record {
   short = λ q m p h. absurd (no_path edge starts q m p h);
   closed = λ n m c e. absurd (omega (arith, c.1));
   begun = λ s c. inr (covers_ends level s (s ∷ []) (x.put s c refl));
-  fine = λ m c. absurd (omega (arith, c.1)); }
+  fine = λ m c. absurd (omega (arith, c.1));
+}
 
 -- one level more
 bool_cases : (b : Bool) → (b ≡ true) ⊎ (b ≡ false)
@@ -104,8 +103,9 @@ bool_cases false = inr refl
 
 sound_on : (edge : Name → Name → Bool) (starts before after : List Name) (level : List Trail) (turn : ℕ) → ((t : Trail) → Contains level t → IsPath edge starts t.path.items t.end × (length t.path.items ≡ suc turn)) → (u : Trail) → Follows edge level after u → IsPath edge starts u.path.items u.end × (length u.path.items ≡ suc (suc turn))
 sound_on edge starts before after level turn s u f = (
-    subst (λ l. IsPath edge starts l u.end) (sym f.longer) (path_on edge starts f.from.path.items f.from.end u.end (s f.from f.there).0 f.by),
-    omega (arith, ap length f.longer, length-append f.from.path.items (u.end ∷ []), (s f.from f.there).1))
+  subst (λ l. IsPath edge starts l u.end) (sym f.longer) (path_on edge starts f.from.path.items f.from.end u.end (s f.from f.there).0 f.by),
+  omega (arith, ap length f.longer, length-append f.from.path.items (u.end ∷ []), (s f.from f.there).1),
+)
 
 known_on : (bef : List Name) (level : List Trail) (after : List Name) (m : Name) → AddsEnds bef level after → Contains bef m ⊎ Ends level m → Contains after m
 known_on bef level after m a (inl c) = a.kept m c
@@ -115,8 +115,12 @@ cover_put : (edge : Name → Name → Bool) (starts after : List Name) (level ne
 cover_put edge starts after level new turn s l q init mid m whole len by c (inl k) = inl ((has_is after m).1 k)
 cover_put edge starts after level new turn s l q init mid m whole len by c (inr f) =
     let d : Covers new m (c.by.path.items ++ m ∷ []) = l.put c.by m c.there (ap (λ k. edge k m) c.same ∙ by) f in
-    inr (record { by = d.by; there = d.there; same = d.same;
-      low = through d.by.path.items (c.by.path.items ++ m ∷ []) q d.low (subst (NotAfter (c.by.path.items ++ m ∷ [])) (sym whole) (one_more c.by.path.items init m ((s c.by c.there).1 ∙ sym len) c.low)) })
+    inr (record {
+      by = d.by;
+      there = d.there;
+      same = d.same;
+      low = through d.by.path.items (c.by.path.items ++ m ∷ []) q d.low (subst (NotAfter (c.by.path.items ++ m ∷ [])) (sym whole) (one_more c.by.path.items init m ((s c.by c.there).1 ∙ sym len) c.low));
+    })
 
 cover_on : (edge : Name → Name → Bool) (starts bef after : List Name) (level new : List Trail) (turn : ℕ) → ((t : Trail) → Contains level t → IsPath edge starts t.path.items t.end × (length t.path.items ≡ suc turn)) → ((n m : Name) → Contains bef n → edge n m ≡ true → Contains bef m ⊎ Ends level m) → AddsEnds bef level after → Levelled edge level after new → (q init : List Name) (mid m : Name) → q ≡ init ++ m ∷ [] → length init ≡ suc turn → edge mid m ≡ true → Contains bef mid ⊎ Covers level mid init → Contains after m ⊎ Covers new m q
 cover_on edge starts bef after level new turn s closed a l q init mid m whole len by (inl c) = inl (known_on bef level after m a (closed mid m c by))
@@ -150,12 +154,13 @@ spread_more edge starts bad bef after level new s none a l = record {
   turn = suc s.turn;
   sound = λ u c. sound_on edge starts bef after level s.turn s.sound u (l.only u c);
   cover = λ q m p h. let b : BackPath edge starts q m = back_path edge starts q m s.turn p h in
-    let len : length b.init ≡ suc s.turn = omega (arith, h, ap length b.whole, length-append b.init (m ∷ [])) in
-    cover_on edge starts bef after level new s.turn s.sound s.closed a l q b.init b.mid m b.whole len b.by (s.cover b.init b.mid b.is len);
+      let len : length b.init ≡ suc s.turn = omega (arith, h, ap length b.whole, length-append b.init (m ∷ [])) in
+      cover_on edge starts bef after level new s.turn s.sound s.closed a l q b.init b.mid m b.whole len b.by (s.cover b.init b.mid b.is len);
   short = λ q m p h. short_case edge starts bad bef after level s a q m p (short_or (length q) s.turn h);
   closed = λ n m c by. closed_on edge bef after level new s.closed a l n m by (a.only n c);
   begun = λ k c. inl (known_on bef level after k a (s.begun k c));
-  fine = λ m c. fine_on bad level bef m s.fine none (a.only m c); }
+  fine = λ m c. fine_on bad level bef m s.fine none (a.only m c);
+}
 
 -- at the end nothing more is reached
 only_before : (bef : List Name) (level : List Trail) (m : Name) → length level ≤ 0 → Contains bef m ⊎ Ends level m → Contains bef m
@@ -183,4 +188,5 @@ spread_found edge starts bad bef level t s w = record {
   end = t.end;
   is = (s.sound t w.there).0;
   badly = w.badly;
-  least = λ q m p b. least_case edge starts bad bef level s t w (s.sound t w.there).1 q m p b (three (length q) s.turn); }
+  least = λ q m p b. least_case edge starts bad bef level s t w (s.sound t w.there).1 q m p b (three (length q) s.turn);
+}

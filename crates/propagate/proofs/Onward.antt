@@ -2,7 +2,6 @@
 use Rattle.std.proofs.Common.{◌≡◌, ◌↔◌, ◌⊎◌, inl, inr, ℕ, zero, suc, ◌<◌, ◌≤◌, ◌+◌, Bool, true, false, List, [], ◌∷◌, ◌++◌, length, take, get_or, refl, ap, sym, ◌∙◌, arith, Contains}
 use Rattle.std.specs.Prelude.{filter, slice_get, ◌-◌, ◌&&◌, ◌||◌, not, Option, Some, None, option_map, IfSome, IfNone, if◌then◌else◌}
 use Rattle.std.specs.List.{list_any}
-use Rattle.std.proofs.Math.Path.{subst}
 use Rattle.std.proofs.lemmas.List.{take_more}
 use Rattle.std.proofs.lemmas.List.Folds.{list_any-append}
 use Prim.{⊥}
@@ -34,7 +33,7 @@ is_test b names m h = same_test (has names m) b (λ t. h.0 ((has_is names m).1 t
 pub passed_is : (view : View) (forced : List Name) (n : Name) (importers names : List Name) → ((m : Name) → Contains importers m ↔ (imports view m n ≡ true)) → names ≡ filter (lets_pass view forced n) importers → (m : Name) → Contains names m ↔ (passes view forced n m ≡ true)
 passed_is view forced n importers names is e m =
     let same : has names m ≡ passes view forced n m = ap (λ l. has l m) e ∙ filtered_has (lets_pass view forced n) importers m ∙ ap (λ b. lets_pass view forced n m && b) (is_test (imports view m n) importers m (is m))
-        ∙ sym (and_turn (imports view m n) (not (accepts view m n)) (not (self_accepts view n) || has forced n)) in
+    ∙ sym (and_turn (imports view m n) (not (accepts view m n)) (not (self_accepts view n) || has forced n)) in
     ((λ c. sym same ∙ (has_is names m).0 c), (λ h. (has_is names m).1 (same ∙ h)))
 
 or_false : (b : Bool) → (b || false) ≡ b
@@ -63,8 +62,9 @@ passed_back : (view : View) (changed forced firsts : List Name) → ((m : Name) 
 passed_back view changed forced firsts is m [] p l = absurd p
 passed_back view changed forced firsts is m (s ∷ []) p l = absurd (omega (arith, l))
 passed_back view changed forced firsts is m (s ∷ (k ∷ rest)) p l = record {
-    path = k ∷ rest;
-    is = ((has_is firsts k).1 (is k ∙ any_from (λ n. passes view forced n k) (changed ++ forced) s ((has_is (changed ++ forced) s).0 p.0) p.1.0), p.1.1) }
+  path = k ∷ rest;
+  is = ((has_is firsts k).1 (is k ∙ any_from (λ n. passes view forced n k) (changed ++ forced) s ((has_is (changed ++ forced) s).0 p.0) p.1.0), p.1.1);
+}
 
 pub replaced_rising : (view : View) (changed forced : List Name) → IsRising (replaced_of view changed forced)
 replaced_rising view changed forced = sorted_rising (changed ++ filter (λ m. list_any (λ n. passes view forced n m) (spread_of view changed forced)) (names_of view))

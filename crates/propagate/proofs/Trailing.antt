@@ -1,20 +1,14 @@
 -- Trails put into a level, and the least of them.
-use Rattle.std.proofs.Common.{◌≡◌, ◌↔◌, ◌⊎◌, inl, inr, ℕ, zero, suc, ◌+◌, ◌<◌, ◌≤◌, Bool, true, false, List, [], ◌∷◌, ◌++◌, length, take, drop, get_or, refl, ap, sym, ◌∙◌, arith, Contains}
-use Rattle.std.specs.Prelude.{HoldsAt, slice_set, MatchOption}
+use Rattle.std.proofs.Common.{◌≡◌, ◌↔◌, ◌⊎◌, inl, inr, ℕ, ◌+◌, ◌<◌, Bool, true, false, List, [], ◌∷◌, ◌++◌, length, take, get_or, refl, ap, sym, ◌∙◌, arith, Contains}
+use Rattle.std.specs.Prelude.{HoldsAt, slice_set}
 use Prim.{⊥}
-use Rattle.std.specs.Ordering.{nat_cmp, is_lt, is_gt, ordering_then}
-use Rattle.std.specs.Cmp.Lexicographic.{slice_cmp}
-use Rattle.std.specs.declared.cmp.Ordering.TheVariants.{Equal}
+use Rattle.std.specs.Ordering.{is_lt}
 use Rattle.std.proofs.Math.Path.{subst}
-use Rattle.std.proofs.lemmas.Cmp.{nat_list_cmp_total, tied_itself}
-use Rattle.std.proofs.lemmas.List.{take_more, length-append, append_assoc, get_or_default, get_or-set_same, get_or-set_other, length-set}
+use Rattle.std.proofs.lemmas.List.{take_more, length-append, get_or_default, get_or-set_same, get_or-set_other, length-set}
 use Rattle.std.proofs.lemmas.List.Elements.{Contains-append_left, Contains-push, Contains-push_cases, Contains-get_or}
 use Rattle.std.proofs.lemmas.Bool.{false≢true}
 use Rattle.core_model.specs.Names.{Name, has}
-use Rattle.core_model.specs.Paths.{Leads, IsPath, Reaches}
-use Rattle.core_model.specs.LeastPath.{path_cmp, NotAfter, AtMost, IsLeastPath}
-use Rattle.core_model.proofs.Naming.{has_is}
-use Rattle.core_model.proofs.Reaching.{path_on, reaches_within}
+use Rattle.core_model.specs.LeastPath.{path_cmp, NotAfter}
 use Rattle.core_model.proofs.LeastPaths.{itself, through, from_before, from_not_before}
 use Rattle.propagate.specs.declared.trails.Trail.{Trail}
 use Rattle.propagate.specs.Trails.{Covers, Puts, Grown, Extended, Follows, Levelled, Ends, AddsEnds, NoneBad, IsLeastBad}
@@ -27,14 +21,16 @@ pub puts_new : (old : List Trail) (t : Trail) → Puts old t (old ++ t ∷ [])
 puts_new old t = record {
   kept = λ e p c. covers_weaker old (old ++ t ∷ []) e p (λ u k. Contains-append_left old (t ∷ []) u k) c;
   put = record { by = t; there = Contains-push old t; same = refl; low = itself t.path.items };
-  only = λ u k. Contains-push_cases old t u k; }
+  only = λ u k. Contains-push_cases old t u k;
+}
 
 -- put: one with this end that is no later is there
 pub puts_none : (old : List Trail) (t : Trail) (i : ℕ) → i < length old → HoldsAt (λ u. u.end ≡ t.end) old i → is_lt (path_cmp t.path.items (get_or old i t).path.items) ≡ false → Puts old t old
 puts_none old t i h same late = record {
   kept = λ e p c. c;
   put = record { by = get_or old i t; there = Contains-get_or old i t h; same = same t; low = from_not_before t.path.items (get_or old i t).path.items late };
-  only = λ u k. inl k; }
+  only = λ u k. inl k;
+}
 
 same_or_not : (i k : ℕ) → (k ≡ i) ⊎ (k ≡ i → ⊥)
 same_or_not i k = grind arith
@@ -47,12 +43,17 @@ covers_set : (old : List Trail) (t : Trail) (i : ℕ) → i < length old → Hol
 covers_set old t i h same early e p c (inl q) =
     let at : get_or old i t ≡ c.by = get_or_default old i t c.by h ∙ ap (λ k. get_or old k c.by) (sym q) ∙ c.there.2 in
     record {
-      by = t; there = set_here old t i h;
+      by = t;
+      there = set_here old t i h;
       same = sym (same t) ∙ ap (λ u. u.end) at ∙ c.same;
-      low = through t.path.items c.by.path.items p (subst (λ u. NotAfter t.path.items u.path.items) at (from_before t.path.items (get_or old i t).path.items early)) c.low; }
+      low = through t.path.items c.by.path.items p (subst (λ u. NotAfter t.path.items u.path.items) at (from_before t.path.items (get_or old i t).path.items early)) c.low;
+    }
 covers_set old t i h same early e p c (inr q) = record {
-      by = c.by; there = (c.there.0, omega (arith, c.there.1, length-set {A = Trail} old i t), get_or-set_other old i c.there.0 t c.by q ∙ c.there.2);
-      same = c.same; low = c.low; }
+  by = c.by;
+  there = (c.there.0, omega (arith, c.there.1, length-set {A = Trail} old i t), get_or-set_other old i c.there.0 t c.by q ∙ c.there.2);
+  same = c.same;
+  low = c.low;
+}
 
 only_set : (old : List Trail) (t : Trail) (i : ℕ) → i < length old → (u : Trail) (k : Contains (slice_set old i t) u) → (k.0 ≡ i) ⊎ (k.0 ≡ i → ⊥) → Contains old u ⊎ (t ≡ u)
 only_set old t i h u k (inl q) = inr (sym (get_or-set_same old i t u h) ∙ ap (λ j. get_or (slice_set old i t) j u) (sym q) ∙ k.2)
@@ -62,7 +63,8 @@ pub puts_set : (old : List Trail) (t : Trail) (i : ℕ) → i < length old → H
 puts_set old t i h same early = record {
   kept = λ e p c. covers_set old t i h same early e p c (same_or_not i c.there.0);
   put = record { by = t; there = set_here old t i h; same = refl; low = itself t.path.items };
-  only = λ u k. only_set old t i h u k (same_or_not i k.0); }
+  only = λ u k. only_set old t i h u k (same_or_not i k.0);
+}
 
 -- extend
 pub extends_none : (old : List Trail) (path before : List Name) → Extended old path [] before old
@@ -97,7 +99,8 @@ pub extends_kept : (old : List Trail) (path next before : List Name) (cur : List
 extends_kept old path next before cur i d h s known = record {
   kept = s.kept;
   put = λ m c f. known_or cur path (take i next) before (get_or next i d) m (s.put m) (λ e. absurd (false≢true (sym e ∙ known))) (take_cases next i d m h c) f;
-  only = λ u k. grown_more old path (take i next) (take (i + 1) next) before u (λ m c. take_in next i d m h c) (s.only u k); }
+  only = λ u k. grown_more old path (take i next) (take (i + 1) next) before u (λ m c. take_in next i d m h c) (s.only u k);
+}
 
 pub put_only : (old : List Trail) (path next before : List Name) (cur : List Trail) (t u : Trail) → ((v : Trail) → Contains cur v → Contains old v ⊎ Grown path next before v) → Contains next t.end → has before t.end ≡ false → t.path.items ≡ path ++ t.end ∷ [] → Contains cur u ⊎ (t ≡ u) → Contains old u ⊎ Grown path next before u
 put_only old path next before cur t u f named fresh longer (inl k) = f u k
@@ -107,10 +110,11 @@ pub extends_more : (old : List Trail) (path next before : List Name) (cur : List
 extends_more old path next before cur t new i d h s fresh end longer p = record {
   kept = λ e q c. p.kept e q (s.kept e q c);
   put = λ m c f. known_or new path (take i next) before (get_or next i d) m (λ k g. p.kept m (path ++ m ∷ []) (s.put m k g))
-    (λ g. subst (λ k. Covers new k (path ++ get_or next i d ∷ [])) end (subst (λ l. Covers new t.end l) longer p.put)) (take_cases next i d m h c) f;
+      (λ g. subst (λ k. Covers new k (path ++ get_or next i d ∷ [])) end (subst (λ l. Covers new t.end l) longer p.put)) (take_cases next i d m h c) f;
   only = λ u k. put_only old path (take (i + 1) next) before cur t u
-    (λ v j. grown_more old path (take i next) (take (i + 1) next) before v (λ m c. take_in next i d m h c) (s.only v j))
-    (subst (Contains (take (i + 1) next)) (sym end) (take_last next i d h)) (ap (has before) end ∙ fresh) (longer ∙ ap (λ k. path ++ k ∷ []) (sym end)) (p.only u k); }
+      (λ v j. grown_more old path (take i next) (take (i + 1) next) before v (λ m c. take_in next i d m h c) (s.only v j))
+      (subst (Contains (take (i + 1) next)) (sym end) (take_last next i d h)) (ap (has before) end ∙ fresh) (longer ∙ ap (λ k. path ++ k ∷ []) (sym end)) (p.only u k);
+}
 
 -- the next level, a trail further
 pub levelled_none : (edge : Name → Name → Bool) (before : List Name) → Levelled edge [] before []
@@ -131,7 +135,8 @@ follows_more edge level before next cur i t h at s leads u (inr g) =
 pub levelled_more : (edge : Name → Name → Bool) (level : List Trail) (before next : List Name) (cur : List Trail) (i : ℕ) (t : Trail) (new : List Trail) → i < length level → t ≡ get_or level i t → Levelled edge (take i level) before cur → ((m : Name) → Contains next m ↔ (edge t.end m ≡ true)) → Extended cur t.path.items next before new → Levelled edge (take (i + 1) level) before new
 levelled_more edge level before next cur i t new h at s leads x = record {
   put = λ u m k e f. level_put edge level before next cur i t new at s leads x u m (take_cases level i t u h k) e f;
-  only = λ u k. follows_more edge level before next cur i t h at s leads u (x.only u k); }
+  only = λ u k. follows_more edge level before next cur i t h at s leads u (x.only u k);
+}
 
 -- the ends that are known
 pub ends_none : (old : List Name) → AddsEnds old [] old
@@ -157,7 +162,8 @@ ends_more old level cur i t h at a = record {
   kept = λ m c. Contains-append_left cur (t.end ∷ []) m (a.kept m c);
   all = λ m e. ends_cases level i t m e old cur at a.all (take_cases level i t e.by h e.there);
   only = λ m c. ends_only level i t m old cur h at (a.only m) (Contains-push_cases cur t.end m c);
-  long = omega (arith, a.long, length-append cur (t.end ∷ []), ap length (take_more level i t h), length-append (take i level) (get_or level i t ∷ [])); }
+  long = omega (arith, a.long, length-append cur (t.end ∷ []), ap length (take_more level i t h), length-append (take i level) (get_or level i t ∷ []));
+}
 
 -- the least of a level, a trail further
 none_or : (bad : Name → Bool) (level : List Trail) (t u : Trail) → NoneBad bad level → bad t.end ≡ false → Contains level u ⊎ (t ≡ u) → bad u.end ≡ false
@@ -194,4 +200,3 @@ new_or bad level b t u s l (inr e) w = subst (λ v. NotAfter t.path.items v.path
 
 pub least_new : (bad : Name → Bool) (level : List Trail) (b t : Trail) → IsLeastBad bad level b → bad t.end ≡ true → is_lt (path_cmp t.path.items b.path.items) ≡ true → IsLeastBad bad (level ++ t ∷ []) t
 least_new bad level b t s w l = record { there = Contains-push level t; badly = w; least = λ u c. new_or bad level b t u s (from_before t.path.items b.path.items l) (Contains-push_cases level t u c) }
-

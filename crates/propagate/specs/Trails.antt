@@ -64,4 +64,3 @@ pub record IsLeastBad (bad : Name → Bool) (level : List Trail) (t : Trail) : T
   pub there : Contains level t
   pub badly : bad t.end ≡ true
   pub least : (u : Trail) → Contains level u → bad u.end ≡ true → NotAfter t.path.items u.path.items
-

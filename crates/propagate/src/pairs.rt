@@ -81,11 +81,7 @@ fn tell_each(
 }
 
 // What a boundary may be told of.
-fn own_and_accepted(
-    alloc: Global,
-    view: &View,
-    name: &ModName,
-) -> Result<Vec<ModName>, AllocError>
+fn own_and_accepted(alloc: Global, view: &View, name: &ModName) -> Result<Vec<ModName>, AllocError>
     ensures { IfOk result (λ names. names.items ≡ own_and_accepted view.now name.now) }
 {
     let mut names = Vec::new(alloc);

@@ -1,13 +1,14 @@
 // Worked pages. A module is written as its name's letter, what it imports, what it accepts by name,
 // and `s` where it accepts itself or `d` where it declines, with colons between.
+ghost use Rattle.std.specs.Prelude.{◌≡◌, IsTrue, Contains, true};
+ghost use Rattle.core_model.specs.Names.{Name, has};
+
 use super::*;
 use hmr_types::{Analysis, ModName, Sequence};
 use module_graph::{View, has_name};
 use std::alloc::{AllocError, Global};
 use std::slice;
 use std::test::Fail;
-ghost use Rattle.std.specs.Prelude.{◌≡◌, IsTrue, Contains, true};
-ghost use Rattle.core_model.specs.Names.{Name, has};
 
 fn names(alloc: Global, letters: &str) -> Result<Vec<ModName>, AllocError> {
     let mut names = Vec::new(alloc);

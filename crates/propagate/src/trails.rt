@@ -150,11 +150,7 @@ fn add_ends(before: &mut Vec<ModName>, level: &[Trail]) -> Result<(), AllocError
 }
 
 // The better of the best so far and one more.
-fn better<'a, B: Ends>(
-    ends: &B,
-    best: Option<&'a Trail>,
-    trail: &'a Trail,
-) -> Option<&'a Trail>
+fn better<'a, B: Ends>(ends: &B, best: Option<&'a Trail>, trail: &'a Trail) -> Option<&'a Trail>
     ensures { (level : List Trail) → MatchOption best.entry (NoneBad (B.bad ends.now) level) (λ t. IsLeastBad (B.bad ends.now) level t.now)
         → MatchOption result (NoneBad (B.bad ends.now) (level ++ trail.now ∷ [])) (λ t. IsLeastBad (B.bad ends.now) (level ++ trail.now ∷ []) t.now) }
 {

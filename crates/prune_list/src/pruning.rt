@@ -13,11 +13,7 @@ use std::alloc::{AllocError, Global};
 
 /// The names of the view that no list of imports from a root reaches, rising by bytes, each once. It
 /// looks at each reached module once, and then through the view.
-pub fn unreached(
-    alloc: Global,
-    view: &View,
-    roots: &[ModName],
-) -> Result<Vec<ModName>, AllocError>
+pub fn unreached(alloc: Global, view: &View, roots: &[ModName]) -> Result<Vec<ModName>, AllocError>
     ensures rising { IfOk result (λ names. IsStrictlySortedBy (slice_cmp nat_cmp) names.items) }
     ensures exact { IfOk result (λ names. (n : Name) → Contains names.items n ↔ IsDropped view.now roots.now n) }
     ensures computed { IfOk result (λ names. names.items ≡ dropped_of view.now roots.now) }

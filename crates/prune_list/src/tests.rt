@@ -46,7 +46,10 @@ fn what_no_root_reaches_is_pruned(rt: HostRuntime) -> Result<(), Fail> {
     for (page, roots, want) in rows {
         let view = view_of(alloc, page)?;
         let roots = names(alloc, roots)?;
-        assert!(rt; unreached(alloc, &view, &roots)? == names(alloc, want)?, "{page}");
+        assert!(rt;
+            unreached(alloc, &view, &roots)? == names(alloc, want)?,
+            "{page}"
+        );
     }
     Ok(())
 }

@@ -13,11 +13,11 @@ returns-in-Ok-clause-rising c =
     let n = c.args.name in
     let f = c.args.fault in
     row_rises n f c.args.rows.now.items (slice_set c.args.rows.now.items c.in-Ok.place (n, f))
-      (sym (subst (λ (l : List (Name × TextFault)). put_row n f l ≡ slice_set l c.in-Ok.place (n, f)) c.deref.ensures.value (c.in-Ok.ensures.there f)))
+    (sym (subst (λ (l : List (Name × TextFault)). put_row n f l ≡ slice_set l c.in-Ok.place (n, f)) c.deref.ensures.value (c.in-Ok.ensures.there f)))
 
 pub returns-in_ok-insert-in-Err-clause-rising : goal.returns-in_ok-insert-in-Err-clause-rising
 returns-in_ok-insert-in-Err-clause-rising c =
     let n = c.args.name in
     let f = c.args.fault in
     row_rises n f c.args.rows.now.items c.insert.new.self.items
-      (c.in_ok-insert-in-Err.ensures.items ∙ sym (subst (λ (l : List (Name × TextFault)). put_row n f l ≡ insert l c.in-Err.place (n, f)) c.deref.ensures.value (c.in-Err.ensures.free f)))
+    (c.in_ok-insert-in-Err.ensures.items ∙ sym (subst (λ (l : List (Name × TextFault)). put_row n f l ≡ insert l c.in-Err.place (n, f)) c.deref.ensures.value (c.in-Err.ensures.free f)))

@@ -17,8 +17,9 @@ loop-name-preserved c =
     let x = c.name-item.result in
     let cur = c.loop-name.known.items in
     elim c.if-not-has_name.branch [
-    then-not-has_name+in_ok-copy+in_ok-push w ↦ subst (Adds _ _) (sym (ap (λ v. v.items) w.known-is ∙ w.in_ok-push.ensures.items ∙ ap (λ k. cur ++ k ∷ []) (w.in_ok-copy.ensures ∙ c.name-item.is)))
-      (adds_push _ xs cur i x c.loop-name-test.true c.loop-name.invariant)
-  | else-not-has_name w ↦ subst (Adds _ _) (sym (ap (λ v. v.items) w.known-is))
-      (adds_kept _ xs cur i x c.loop-name-test.true c.loop-name.invariant
-        (subst (Contains cur) c.name-item.is ((has_is cur x).1 (sym (c.has_name.ensures ∙ ap (λ l. has l x) c.deref.ensures.value) ∙ w.if-not-has_name.false)))) ]
+      | then-not-has_name+in_ok-copy+in_ok-push w ↦ subst (Adds _ _) (sym (ap (λ v. v.items) w.known-is ∙ w.in_ok-push.ensures.items ∙ ap (λ k. cur ++ k ∷ []) (w.in_ok-copy.ensures ∙ c.name-item.is)))
+          (adds_push _ xs cur i x c.loop-name-test.true c.loop-name.invariant)
+      | else-not-has_name w ↦ subst (Adds _ _) (sym (ap (λ v. v.items) w.known-is))
+          (adds_kept _ xs cur i x c.loop-name-test.true c.loop-name.invariant
+          (subst (Contains cur) c.name-item.is ((has_is cur x).1 (sym (c.has_name.ensures ∙ ap (λ l. has l x) c.deref.ensures.value) ∙ w.if-not-has_name.false))))
+    ]

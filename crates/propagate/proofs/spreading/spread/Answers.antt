@@ -35,9 +35,9 @@ returns-clause-pairs c =
     let changed = c.args.changed.now in
     let forced = c.args.forced.now in
     subst (λ (l : List (Name × Name)). (m n : Name) → Contains l (m, n) ↔ IsPair view changed forced m n) (sym (c.from_vec-2.ensures ∙ c.in_ok-pairs.ensures))
-      (pairs_are view changed forced c.deref.result.now
-        (subst (λ (l : List Name). (m : Name) → Contains l m ↔ IsReplaced view changed forced m) (sym (c.deref.ensures.value ∙ c.in_ok-replaced.ensures)) (replaced_are view changed forced))
-        c.requires.changed c.requires.forced)
+    (pairs_are view changed forced c.deref.result.now
+    (subst (λ (l : List Name). (m : Name) → Contains l m ↔ IsReplaced view changed forced m) (sym (c.deref.ensures.value ∙ c.in_ok-replaced.ensures)) (replaced_are view changed forced))
+    c.requires.changed c.requires.forced)
 
 pub returns-clause-pairs_rising : goal.returns-clause-pairs_rising
 returns-clause-pairs_rising c = subst (IsStrictlySortedBy pair_cmp) (sym (c.from_vec-2.ensures ∙ c.in_ok-pairs.ensures)) (pairs_rise c.args.view.now c.deref.result.now c.args.forced.now)

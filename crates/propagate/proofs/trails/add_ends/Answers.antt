@@ -9,4 +9,4 @@ loop-trail-init c = ends_none _
 
 pub loop-trail-preserved : goal.loop-trail-preserved
 loop-trail-preserved c = subst (AddsEnds c.args.before.now.items (take (c.loop-trail.trail-index + 1) c.args.level.now)) (sym (c.in_ok-push.ensures.items ∙ ap (λ k. c.loop-trail.before.items ++ k ∷ []) c.in_ok-end.ensures))
-  (ends_more c.args.before.now.items c.args.level.now c.loop-trail.before.items c.loop-trail.trail-index c.trail-item.result c.loop-trail-test.true c.trail-item.is c.loop-trail.invariant)
+    (ends_more c.args.before.now.items c.args.level.now c.loop-trail.before.items c.loop-trail.trail-index c.trail-item.result c.loop-trail-test.true c.trail-item.is c.loop-trail.invariant)

@@ -20,8 +20,9 @@ loop-name-preserved c =
     let x = c.name-item.result in
     let is = c.name-item.is in
     elim c.if-not-has_name.branch [
-    then-not-has_name+in_ok-trail+in_ok-put w ↦ subst (Extended old path (take (i + 1) next) before) (sym (ap (λ v. v.items) w.level-is))
-      (extends_more old path next before cur w.in_ok-trail.trail w.put.new.level.items i x c.loop-name-test.true c.loop-name.invariant
-        (ap (has before) (sym is) ∙ sym c.has_name.ensures ∙ w.if-not-has_name.true) (w.in_ok-trail.ensures.end ∙ is) (w.in_ok-trail.ensures.path ∙ ap (λ k. path ++ k ∷ []) is) w.in_ok-put.ensures)
-  | else-not-has_name w ↦ subst (Extended old path (take (i + 1) next) before) (sym (ap (λ v. v.items) w.level-is))
-      (extends_kept old path next before cur i x c.loop-name-test.true c.loop-name.invariant (ap (has before) (sym is) ∙ sym c.has_name.ensures ∙ w.if-not-has_name.false)) ]
+      | then-not-has_name+in_ok-trail+in_ok-put w ↦ subst (Extended old path (take (i + 1) next) before) (sym (ap (λ v. v.items) w.level-is))
+          (extends_more old path next before cur w.in_ok-trail.trail w.put.new.level.items i x c.loop-name-test.true c.loop-name.invariant
+          (ap (has before) (sym is) ∙ sym c.has_name.ensures ∙ w.if-not-has_name.true) (w.in_ok-trail.ensures.end ∙ is) (w.in_ok-trail.ensures.path ∙ ap (λ k. path ++ k ∷ []) is) w.in_ok-put.ensures)
+      | else-not-has_name w ↦ subst (Extended old path (take (i + 1) next) before) (sym (ap (λ v. v.items) w.level-is))
+          (extends_kept old path next before cur i x c.loop-name-test.true c.loop-name.invariant (ap (has before) (sym is) ∙ sym c.has_name.ensures ∙ w.if-not-has_name.false))
+    ]

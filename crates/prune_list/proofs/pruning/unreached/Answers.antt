@@ -1,4 +1,4 @@
-use Rattle.std.proofs.Common.{◌≡◌, ◌↔◌, List, sym, ◌∙◌, ap, Contains}
+use Rattle.std.proofs.Common.{◌↔◌, List, sym, ◌∙◌, ap, Contains}
 use Rattle.std.specs.Prelude.{filter, not}
 use Rattle.std.specs.Cmp.Lexicographic.{slice_cmp}
 use Rattle.std.specs.List.Sorted.{IsStrictlySortedBy}
@@ -6,7 +6,7 @@ use Rattle.std.specs.Ordering.{nat_cmp}
 use Rattle.std.proofs.Math.Path.{subst}
 use Rattle.core_model.specs.Names.{Name, has, names_of, sorted}
 use Rattle.core_model.specs.Paths.{Reaches}
-use Rattle.core_model.specs.View.{imports, dropped_of, IsDropped, reached_in}
+use Rattle.core_model.specs.View.{imports, IsDropped}
 use Rattle.core_model.proofs.Views.{dropped_are}
 use Rattle.module_graph.proofs.Sorting.{sorted_rising}
 use Rattle.prune_list.proofs.Leftovers.{left_is}
@@ -19,8 +19,8 @@ pub returns-clause-computed : goal.returns-clause-computed
 returns-clause-computed c =
     let known = c.in_ok-known.known.items in
     left_is c.args.view.now c.args.roots.now known c.in_ok-unreached.unreached.items
-      (subst (λ v. (m : Name) → Contains known m ↔ Reaches (imports v) c.args.roots.now m) c.of.ensures c.in_ok-known.ensures)
-      (c.in_ok-unreached.ensures ∙ ap sorted (c.in_ok-left.ensures ∙ ap (filter (λ n. not (has c.deref-2.result.now n))) (c.deref.ensures.value ∙ c.in_ok-names.ensures.names) ∙ ap (λ l. filter (λ n. not (has l n)) (names_of c.args.view.now)) c.deref-2.ensures.value))
+    (subst (λ v. (m : Name) → Contains known m ↔ Reaches (imports v) c.args.roots.now m) c.of.ensures c.in_ok-known.ensures)
+    (c.in_ok-unreached.ensures ∙ ap sorted (c.in_ok-left.ensures ∙ ap (filter (λ n. not (has c.deref-2.result.now n))) (c.deref.ensures.value ∙ c.in_ok-names.ensures.names) ∙ ap (λ l. filter (λ n. not (has l n)) (names_of c.args.view.now)) c.deref-2.ensures.value))
 
 pub returns-clause-exact : goal.returns-clause-exact
 returns-clause-exact c = subst (λ (out : List Name). (n : Name) → Contains out n ↔ IsDropped c.args.view.now c.args.roots.now n) (sym (returns-clause-computed c)) (dropped_are c.args.view.now c.args.roots.now)

@@ -19,5 +19,5 @@ returns-clause-exact c =
     let n = c.args.name.now in
     let names = c.in_ok-names.names.items in
     subst (λ (v : View). (m : Name) → Contains names m ↔ (imports v m n ≡ true)) c.self.view_is
-      (importers_are n c.self.inside.entries.items names c.self.invariant
-        (c.in_ok-names.ensures ∙ ap sorted (c.in_ok-found.ensures ∙ ap (λ (r : View). names_of (filter (importing n) r)) c.deref.ensures.value)))
+    (importers_are n c.self.inside.entries.items names c.self.invariant
+    (c.in_ok-names.ensures ∙ ap sorted (c.in_ok-found.ensures ∙ ap (λ (r : View). names_of (filter (importing n) r)) c.deref.ensures.value)))

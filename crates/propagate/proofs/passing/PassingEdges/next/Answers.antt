@@ -1,4 +1,4 @@
-use Rattle.std.proofs.Common.{sym, ap, ◌∙◌}
+use Rattle.std.proofs.Common.{ap, ◌∙◌}
 use Rattle.std.specs.Prelude.{filter}
 use Rattle.propagate.specs.Passing.{lets_pass}
 use Rattle.propagate.proofs.Onward.{passed_is}
@@ -9,4 +9,4 @@ returns c =
     let view = c.args.self.now.view.now in
     let forced = c.args.self.now.forced.now in
     passed_is view forced c.args.name.now c.in_ok-importers.importers.items c.in_ok-names.names.items c.in_ok-importers.ensures.exact
-      (c.in_ok-names.ensures ∙ ap (filter (lets_pass view forced c.args.name.now)) c.deref.ensures.value)
+    (c.in_ok-names.ensures ∙ ap (filter (lets_pass view forced c.args.name.now)) c.deref.ensures.value)
