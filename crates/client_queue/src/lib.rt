@@ -10,3 +10,6 @@ mod queue;
 mod sorted;
 
 pub use queue::ClientQueue;
+
+#[cfg(test)]
+mod tests;

@@ -1,22 +1,21 @@
 -- The entries of a view: where an entry is put, that no two have one name, and which import a name.
-use Rattle.std.proofs.Common.{◌≡◌, ◌↔◌, ◌⊎◌, inl, inr, ℕ, ◌<◌, ◌≤◌, ◌+◌, Bool, true, false, List, [], ◌∷◌, ◌++◌, length, take, drop, get_or, refl, ap, sym, ◌∙◌, arith, Contains}
-use Rattle.std.specs.Prelude.{slice_set, filter, not, ◌&&◌, ◌||◌, Option, Some, None, if◌then◌else◌, cond}
-use Rattle.std.proofs.Math.Path.{subst}
+use Rattle.std.proofs.Common.{◌≡◌, ◌↔◌, ℕ, ◌<◌, ◌+◌, Bool, true, false, List, [], ◌∷◌, ◌++◌, length, take, drop, get_or, refl, ap, sym, ◌∙◌, arith, Contains}
+use Rattle.std.specs.Prelude.{slice_set, filter, not, ◌||◌, Some, if◌then◌else◌, cond}
 use Rattle.std.proofs.lemmas.Bool.{false≢true}
-use Rattle.std.proofs.lemmas.List.{take_more, take_all, drop_more, take-append-drop, take_more_set, drop-set-lt, at_drop_all, append_assoc}
-use Rattle.core_model.specs.Names.{Name, same_name, has, at, names_of, sorted, without_all}
+use Rattle.std.proofs.lemmas.List.{drop_more, take-append-drop, take_more_set, drop-set-lt, append_assoc}
+use Rattle.core_model.specs.Names.{Name, same_name, has, at, names_of, sorted}
 use Rattle.core_model.specs.Transcript.{are_distinct}
 use Rattle.core_model.specs.View.{View, Entry, imports_of, imports}
-use Rattle.core_model.proofs.Naming.{same_true, true_same, has_is, both_true, and_both, not_true, not_from, cases_bool, sorted_has, or_right}
+use Rattle.core_model.proofs.Naming.{same_true, true_same, has_is, both_true, and_both, not_true, not_from, sorted_has, or_right}
 use Rattle.module_graph.specs.Entries.{put_entry, importing}
-use Prim.{⊥}
 
 abbrev pub Row : Type 0
 Row = Name × Entry
 
 -- an entry put where its name stands first
 
-set_parts : (xs : List Row) (i : ℕ) (y : Row) → i < length xs → slice_set xs i y ≡ take i xs ++ y ∷ drop (i + 1) xs
+-- a list with another element at a place
+pub set_parts : {X : Type 0} (xs : List X) (i : ℕ) (y : X) → i < length xs → slice_set xs i y ≡ take i xs ++ y ∷ drop (i + 1) xs
 set_parts xs i y h = sym (take-append-drop (i + 1) (slice_set xs i y)) ∙ ap (λ l. l ++ drop (i + 1) (slice_set xs i y)) (take_more_set xs i y h)
     ∙ append_assoc (take i xs) (y ∷ []) (drop (i + 1) (slice_set xs i y)) ∙ ap (λ l. take i xs ++ y ∷ l) (drop-set-lt (i + 1) xs i y (omega arith))
 
@@ -25,13 +24,6 @@ put_drop n e rows i d h b s = ap (put_entry n e) (drop_more rows i d h) ∙ ap (
 
 pub place_found : (n : Name) (e : Entry) (rows : View) (i : ℕ) (d : Row) → i < length rows → put_entry n e rows ≡ take i rows ++ put_entry n e (drop i rows) → same_name (get_or rows i d).0 n ≡ true → put_entry n e rows ≡ slice_set rows i (n, e)
 place_found n e rows i d h so_far s = so_far ∙ ap (λ l. take i rows ++ l) (put_drop n e rows i d h true s) ∙ sym (set_parts rows i (n, e) h)
-
-pub place_past : (n : Name) (e : Entry) (rows : View) (i : ℕ) (d : Row) → i < length rows → put_entry n e rows ≡ take i rows ++ put_entry n e (drop i rows) → same_name (get_or rows i d).0 n ≡ false → put_entry n e rows ≡ take (i + 1) rows ++ put_entry n e (drop (i + 1) rows)
-place_past n e rows i d h so_far s = so_far ∙ ap (λ l. take i rows ++ l) (put_drop n e rows i d h false s)
-    ∙ sym (append_assoc (take i rows) (get_or rows i d ∷ []) (put_entry n e (drop (i + 1) rows))) ∙ ap (λ l. l ++ put_entry n e (drop (i + 1) rows)) (sym (take_more rows i d h))
-
-pub place_none : (n : Name) (e : Entry) (rows : View) (i : ℕ) → length rows ≤ i → put_entry n e rows ≡ take i rows ++ put_entry n e (drop i rows) → put_entry n e rows ≡ rows ++ (n, e) ∷ []
-place_none n e rows i h so_far = so_far ∙ ap (λ l. l ++ put_entry n e (drop i rows)) (take_all i rows h) ∙ ap (λ l. rows ++ l) (at_drop_all (put_entry n e) rows i h)
 
 -- no two entries have one name
 

@@ -7,7 +7,7 @@ use Rattle.core_model.specs.Names.{Name, has}
 use Rattle.core_model.specs.Paths.{Reaches}
 use Rattle.core_model.proofs.Naming.{has_is}
 use Rattle.core_model.proofs.Reaching.{reaches_on, reaches_start, reaches_within}
-use Rattle.module_graph.specs.Paths.{Extends, Adds}
+use Rattle.module_graph.specs.Paths.{Adds}
 
 -- Each known name is reached; the starts are known, and where the edges of the first at names lead.
 pub record Searched (edge : Name → Name → Bool) (starts known : List Name) (at : ℕ) : Type 0 where

@@ -1,5 +1,5 @@
 -- Lists of names that rise: there is one with given names, and it is the sorted list of them.
-use Rattle.std.proofs.Common.{◌≡◌, ◌⊎◌, inl, inr, Bool, true, false, List, [], ◌∷◌, refl, ap, sym, ◌∙◌, arith, Contains}
+use Rattle.std.proofs.Common.{◌≡◌, ◌⊎◌, inl, inr, Bool, true, false, List, [], ◌∷◌, refl, ap, sym, ◌∙◌}
 use Rattle.std.specs.Prelude.{◌||◌, IsPermutation, IsSorted, if◌then◌else◌}
 use Rattle.std.specs.List.{AllByRecursion, dedup}
 use Rattle.std.specs.List.Sorted.{IsStrictlySortedBy}
@@ -16,7 +16,7 @@ use Rattle.std.proofs.lemmas.List.Kept.{IsStrictlySortedBy-dedup, Contains-dedup
 use Rattle.std.proofs.lemmas.List.Sorted.{Contains-permutation, IsPermutation-sym}
 use Prim.{⊥}
 use Rattle.core_model.specs.Names.{Name, same_name, has, put_name, sorted}
-use Rattle.core_model.proofs.Naming.{same_true, true_same, has_is, or_cases, or_left, or_right, cases_bool, same_test, put_has, sorted_has}
+use Rattle.core_model.proofs.Naming.{same_true, true_same, has_is, or_cases, or_left, or_right, same_test, put_has, sorted_has}
 
 -- each name is below the next
 abbrev pub IsRising : List Name → Type 0

@@ -1,5 +1,5 @@
 -- The modules of a page as a list of entries, in order of entering.
-use Rattle.std.specs.Prelude.{Bool, List, [], ◌∷◌, if◌then◌else◌}
+use Rattle.std.specs.Prelude.{Bool, [], ◌∷◌, if◌then◌else◌}
 use Rattle.core_model.specs.Names.{Name, same_name, has}
 use Rattle.core_model.specs.View.{View, Entry}
 

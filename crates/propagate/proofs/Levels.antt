@@ -1,23 +1,21 @@
 -- A search by levels that keeps, for each name, its least path.
-use Rattle.std.proofs.Common.{◌≡◌, ◌↔◌, ◌⊎◌, inl, inr, ℕ, zero, suc, ◌+◌, ◌<◌, ◌≤◌, Bool, true, false, List, [], ◌∷◌, ◌++◌, length, take, drop, get_or, refl, ap, sym, ◌∙◌, arith, Contains}
-use Rattle.std.specs.Prelude.{HoldsAt, slice_set, MatchOption}
+use Rattle.std.proofs.Common.{◌≡◌, ◌⊎◌, inl, inr, ℕ, suc, ◌<◌, ◌≤◌, Bool, true, false, List, [], ◌∷◌, ◌++◌, length, refl, ap, sym, ◌∙◌, arith, Contains}
 use Prim.{⊥}
-use Rattle.std.specs.Ordering.{nat_cmp, is_lt, is_gt, ordering_then}
+use Rattle.std.specs.Ordering.{nat_cmp, is_gt, ordering_then}
 use Rattle.std.specs.Cmp.Lexicographic.{slice_cmp}
 use Rattle.std.specs.declared.cmp.Ordering.TheVariants.{Equal}
 use Rattle.std.proofs.Math.Path.{subst}
 use Rattle.std.proofs.lemmas.Cmp.{nat_list_cmp_total, tied_itself}
-use Rattle.std.proofs.lemmas.List.{take_more, length-append, append_assoc, get_or_default, get_or-set_same, get_or-set_other, length-set}
-use Rattle.std.proofs.lemmas.List.Elements.{Contains-append_left, Contains-push, Contains-push_cases, Contains-get_or}
+use Rattle.std.proofs.lemmas.List.{length-append}
 use Rattle.std.proofs.lemmas.Bool.{false≢true}
 use Rattle.core_model.specs.Names.{Name, has}
 use Rattle.core_model.specs.Paths.{Leads, IsPath, Reaches}
 use Rattle.core_model.specs.LeastPath.{path_cmp, NotAfter, AtMost, IsLeastPath}
 use Rattle.core_model.proofs.Naming.{has_is}
 use Rattle.core_model.proofs.Reaching.{path_on, reaches_within}
-use Rattle.core_model.proofs.LeastPaths.{itself, through, from_before, from_not_before}
+use Rattle.core_model.proofs.LeastPaths.{through}
 use Rattle.propagate.specs.declared.trails.Trail.{Trail}
-use Rattle.propagate.specs.Trails.{Covers, Puts, Grown, Extended, Follows, Levelled, Ends, AddsEnds, NoneBad, IsLeastBad}
+use Rattle.propagate.specs.Trails.{Covers, Grown, Extended, Follows, Levelled, Ends, AddsEnds, NoneBad, IsLeastBad}
 
 -- one more name at both ends changes nothing
 same_end : (p q : List Name) (m : Name) → length p ≡ length q → path_cmp (p ++ m ∷ []) (q ++ m ∷ []) ≡ path_cmp p q

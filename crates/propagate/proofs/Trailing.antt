@@ -1,20 +1,14 @@
 -- Trails put into a level, and the least of them.
-use Rattle.std.proofs.Common.{◌≡◌, ◌↔◌, ◌⊎◌, inl, inr, ℕ, zero, suc, ◌+◌, ◌<◌, ◌≤◌, Bool, true, false, List, [], ◌∷◌, ◌++◌, length, take, drop, get_or, refl, ap, sym, ◌∙◌, arith, Contains}
-use Rattle.std.specs.Prelude.{HoldsAt, slice_set, MatchOption}
+use Rattle.std.proofs.Common.{◌≡◌, ◌↔◌, ◌⊎◌, inl, inr, ℕ, ◌+◌, ◌<◌, Bool, true, false, List, [], ◌∷◌, ◌++◌, length, take, get_or, refl, ap, sym, ◌∙◌, arith, Contains}
+use Rattle.std.specs.Prelude.{HoldsAt, slice_set}
 use Prim.{⊥}
-use Rattle.std.specs.Ordering.{nat_cmp, is_lt, is_gt, ordering_then}
-use Rattle.std.specs.Cmp.Lexicographic.{slice_cmp}
-use Rattle.std.specs.declared.cmp.Ordering.TheVariants.{Equal}
+use Rattle.std.specs.Ordering.{is_lt}
 use Rattle.std.proofs.Math.Path.{subst}
-use Rattle.std.proofs.lemmas.Cmp.{nat_list_cmp_total, tied_itself}
-use Rattle.std.proofs.lemmas.List.{take_more, length-append, append_assoc, get_or_default, get_or-set_same, get_or-set_other, length-set}
+use Rattle.std.proofs.lemmas.List.{take_more, length-append, get_or_default, get_or-set_same, get_or-set_other, length-set}
 use Rattle.std.proofs.lemmas.List.Elements.{Contains-append_left, Contains-push, Contains-push_cases, Contains-get_or}
 use Rattle.std.proofs.lemmas.Bool.{false≢true}
 use Rattle.core_model.specs.Names.{Name, has}
-use Rattle.core_model.specs.Paths.{Leads, IsPath, Reaches}
-use Rattle.core_model.specs.LeastPath.{path_cmp, NotAfter, AtMost, IsLeastPath}
-use Rattle.core_model.proofs.Naming.{has_is}
-use Rattle.core_model.proofs.Reaching.{path_on, reaches_within}
+use Rattle.core_model.specs.LeastPath.{path_cmp, NotAfter}
 use Rattle.core_model.proofs.LeastPaths.{itself, through, from_before, from_not_before}
 use Rattle.propagate.specs.declared.trails.Trail.{Trail}
 use Rattle.propagate.specs.Trails.{Covers, Puts, Grown, Extended, Follows, Levelled, Ends, AddsEnds, NoneBad, IsLeastBad}
@@ -92,6 +86,14 @@ take_last xs i d h = subst (λ l. Contains l (get_or xs i d)) (sym (take_more xs
 
 take_cases : {X : Type 0} (xs : List X) (i : ℕ) (d m : X) → i < length xs → Contains (take (i + 1) xs) m → Contains (take i xs) m ⊎ (get_or xs i d ≡ m)
 take_cases xs i d m h c = Contains-push_cases (take i xs) (get_or xs i d) m (subst (λ l. Contains l m) (take_more xs i d h) c)
+
+-- a name further, all that were met so far are listed
+pub among_more : (listed names : List Name) (i : ℕ) (x : Name) → i < length names → x ≡ get_or names i x → ((n : Name) → Contains (take i names) n → has listed n ≡ true) → has listed x ≡ true → (n : Name) → Contains (take (i + 1) names) n → has listed n ≡ true
+among_more listed names i x h is f t n c = either (take_cases names i x n h c)
+  where
+    either : Contains (take i names) n ⊎ (get_or names i x ≡ n) → has listed n ≡ true
+    either (inl k) = f n k
+    either (inr e) = subst (λ m. has listed m ≡ true) (is ∙ e) t
 
 pub extends_kept : (old : List Trail) (path next before : List Name) (cur : List Trail) (i : ℕ) (d : Name) → i < length next → Extended old path (take i next) before cur → has before (get_or next i d) ≡ true → Extended old path (take (i + 1) next) before cur
 extends_kept old path next before cur i d h s known = record {

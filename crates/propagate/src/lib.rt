@@ -16,3 +16,6 @@ mod trails;
 
 pub use outcome::{Reason, Spread};
 pub use spreading::spread;
+
+#[cfg(test)]
+mod tests;

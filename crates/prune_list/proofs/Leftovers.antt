@@ -1,5 +1,5 @@
 -- What a search leaves over is what is dropped.
-use Rattle.std.proofs.Common.{◌≡◌, ◌↔◌, Bool, true, List, ap, sym, ◌∙◌, Contains}
+use Rattle.std.proofs.Common.{◌≡◌, ◌↔◌, Bool, List, ap, sym, ◌∙◌, Contains}
 use Rattle.std.specs.Prelude.{filter, not, ◌&&◌}
 use Rattle.core_model.specs.Names.{Name, has, names_of, sorted}
 use Rattle.core_model.specs.Paths.{Reaches}

@@ -1,4 +1,4 @@
-use Rattle.std.proofs.Common.{ℕ, get_or, List, [], sym, ap, ◌∙◌, arith, ◌≡◌}
+use Rattle.std.proofs.Common.{[], arith}
 use Rattle.std.proofs.Math.Path.{subst}
 use Rattle.std.proofs.lemmas.List.{get_or_read}
 use Rattle.module_graph.specs.Paths.{Adds}

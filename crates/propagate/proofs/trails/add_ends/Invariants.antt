@@ -1,4 +1,4 @@
-use Rattle.std.proofs.Common.{ℕ, take}
+use Rattle.std.proofs.Common.{take}
 use Rattle.propagate.specs.Trails.{AddsEnds}
 use Rattle.propagate.proofs.trails.add_ends.Given as goal
 

@@ -1,11 +1,10 @@
-use Rattle.std.proofs.Common.{ℕ, sym, ◌∙◌, ◌≡◌, true, false, List}
+use Rattle.std.proofs.Common.{sym, ◌∙◌, ◌≡◌, true, false}
 use Rattle.std.specs.Prelude.{MatchOption}
 use Rattle.std.specs.Ordering.{is_lt}
 use Rattle.core_model.specs.LeastPath.{path_cmp}
 use Rattle.std.proofs.Math.Path.{subst}
-use Rattle.propagate.specs.declared.trails.Trail.{Trail}
 use Rattle.propagate.specs.Trails.{NoneBad, IsLeastBad}
-use Rattle.propagate.proofs.Trailing.{least_first, least_good, least_kept, least_new}
+use Rattle.propagate.proofs.Trailing.{least_first, least_kept, least_new}
 use Rattle.propagate.proofs.trails.better.Goals as goal
 
 pub returns-then-is_before : goal.returns-then-is_before

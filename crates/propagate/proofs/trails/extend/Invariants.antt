@@ -1,4 +1,4 @@
-use Rattle.std.proofs.Common.{ℕ, take}
+use Rattle.std.proofs.Common.{take}
 use Rattle.propagate.specs.Trails.{Extended}
 use Rattle.propagate.proofs.trails.extend.Given as goal
 

@@ -1,4 +1,4 @@
-use Rattle.std.proofs.Common.{ℕ, take}
+use Rattle.std.proofs.Common.{take}
 use Rattle.std.specs.Prelude.{MatchOption}
 use Rattle.propagate.specs.Trails.{NoneBad, IsLeastBad}
 use Rattle.propagate.proofs.trails.least_bad.Given as goal

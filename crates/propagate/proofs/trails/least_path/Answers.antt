@@ -1,4 +1,4 @@
-use Rattle.std.proofs.Common.{ℕ, sym, ap, ◌∙◌, ◌≡◌, [], arith}
+use Rattle.std.proofs.Common.{sym, ◌∙◌, [], arith}
 use Rattle.std.proofs.Math.Path.{subst}
 use Rattle.propagate.specs.Trails.{Extended, IsLeastBad, NoneBad, AddsEnds, Levelled}
 use Rattle.core_model.specs.LeastPath.{IsLeastPath}

@@ -1,4 +1,4 @@
-use Rattle.std.proofs.Common.{ℕ, ◌^◌, ◌-◌}
+use Rattle.std.proofs.Common.{◌^◌, ◌-◌}
 use Rattle.std.specs.Prelude.{vec_len}
 use Rattle.propagate.proofs.Levels.{Spreading}
 use Rattle.propagate.proofs.trails.least_path.Given as goal

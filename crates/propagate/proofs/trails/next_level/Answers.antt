@@ -1,4 +1,4 @@
-use Rattle.std.proofs.Common.{ℕ, sym, take, ◌+◌, []}
+use Rattle.std.proofs.Common.{sym, []}
 use Rattle.std.proofs.Math.Path.{subst}
 use Rattle.propagate.specs.Trails.{Extended, Levelled}
 use Rattle.propagate.proofs.Trailing.{levelled_none, levelled_more}

@@ -1,4 +1,4 @@
-use Rattle.std.proofs.Common.{ℕ, take}
+use Rattle.std.proofs.Common.{take}
 use Rattle.propagate.specs.Trails.{Levelled}
 use Rattle.propagate.proofs.trails.next_level.Given as goal
 

@@ -1,4 +1,4 @@
-use Rattle.std.proofs.Common.{ℕ, sym, ◌∙◌, ap, get_or, ◌≡◌, ◌++◌, ◌<◌, length, true, false}
+use Rattle.std.proofs.Common.{sym, ◌∙◌, ap, get_or, ◌≡◌, ◌<◌, length, true, false}
 use Rattle.std.specs.Prelude.{HoldsAt}
 use Rattle.std.specs.Ordering.{is_lt}
 use Rattle.core_model.specs.LeastPath.{path_cmp}

@@ -1,4 +1,4 @@
-use Rattle.std.proofs.Common.{◌≡◌, ◌↔◌, List, sym, ◌∙◌, ap, Contains}
+use Rattle.std.proofs.Common.{◌↔◌, List, sym, ◌∙◌, ap, Contains}
 use Rattle.std.specs.Prelude.{filter, not}
 use Rattle.std.specs.Cmp.Lexicographic.{slice_cmp}
 use Rattle.std.specs.List.Sorted.{IsStrictlySortedBy}
@@ -6,7 +6,7 @@ use Rattle.std.specs.Ordering.{nat_cmp}
 use Rattle.std.proofs.Math.Path.{subst}
 use Rattle.core_model.specs.Names.{Name, has, names_of, sorted}
 use Rattle.core_model.specs.Paths.{Reaches}
-use Rattle.core_model.specs.View.{imports, dropped_of, IsDropped, reached_in}
+use Rattle.core_model.specs.View.{imports, IsDropped}
 use Rattle.core_model.proofs.Views.{dropped_are}
 use Rattle.module_graph.proofs.Sorting.{sorted_rising}
 use Rattle.prune_list.proofs.Leftovers.{left_is}
