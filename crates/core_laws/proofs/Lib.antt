@@ -1,0 +1,14 @@
+pub mod Looking
+pub mod Givens
+pub mod Rows
+pub mod Times
+pub mod Requesting
+pub mod Events
+pub mod Freshness
+pub mod Staying
+pub mod Numbers
+pub mod Isolation
+pub mod Settling
+pub mod Batches
+pub mod Replying
+pub mod Trying

@@ -1,0 +1,77 @@
+-- What stays while a plan is under way.
+use Rattle.std.proofs.Common.{◌≡◌, ℕ, true, false, List, refl, ap, sym, ◌∙◌}
+use Rattle.std.specs.Prelude.{Option, Some, None, is_some}
+use Rattle.std.proofs.lemmas.Bool.{false≢true}
+use Rattle.core_model.specs.Names.{Name}
+use Rattle.core_model.specs.Sources.{Sources, Change, edit, result, EditAnswer, job, same, removed, refused, edit_answer, ResultAnswer, serve, refuse, late, result_answer}
+use Rattle.core_model.specs.Page.{Plan}
+use Rattle.core_model.specs.Client.{Client, is_held, dropped, reason, replaced, pairs, first_notice, told_of_edit, told_of_result}
+use Rattle.core_model.specs.Asking.{AskRow, row_plan, row_notice, row_loaded, row_dropped, row_held, row_reason, row_replaced, ask_row, asked}
+use Rattle.core_model.specs.Requests.{Request, ask, fetch, applied_as, aborted, invalidate, FetchRow, text, not_yet, broken, missing, fetch_row, fetched, AppliedRow, unfetched, mismatch, done, applied_row, after_applied, fetched_in, applied_in, aborted_in, invalidated_in, heard}
+use Rattle.core_model.specs.Core.{told_of}
+use Rattle.core_laws.specs.Facts.{SamePage}
+
+same_page : (c : Client) → SamePage c c
+same_page c = record { loaded = refl; view = refl; forced = refl }
+
+no_plan : (o : Option Plan) (q : Plan) → o ≡ None → o ≡ Some q → false ≡ true
+no_plan o q e f = ap is_some (sym e ∙ f)
+
+fetched_same : (row : FetchRow) (p : Plan) (n : Name) (c : Client) → SamePage c (fetched row p n c)
+fetched_same (text s) p n c = record { loaded = refl; view = refl; forced = refl }
+fetched_same not_yet p n c = same_page c
+fetched_same (broken fault) p n c = same_page c
+fetched_same missing p n c = same_page c
+
+applied_same : (row : AppliedRow) (roots : List Name) (p q : Plan) (c : Client) → (after_applied row roots p c).page.plan ≡ Some q → SamePage c (after_applied row roots p c)
+applied_same (unfetched n) roots p q c e = same_page c
+applied_same (mismatch n told kept) roots p q c e = same_page c
+applied_same done roots p q c e = absurd (false≢true (ap is_some e))
+
+module _ (roots : List Name) (i : ℕ) (s : Sources) (c : Client) (q : Plan) where
+  in_fetch : (n : Name) (plan : Option Plan) → SamePage c (fetched_in plan s n c).0
+  in_fetch n None = same_page c
+  in_fetch n (Some p) = fetched_same (fetch_row s n) p n c
+
+  in_applied : (table : List (Name × ℕ)) (plan : Option Plan) → (applied_in plan roots table c).0.page.plan ≡ Some q → SamePage c (applied_in plan roots table c).0
+  in_applied table None e = same_page c
+  in_applied table (Some p) e = applied_same (applied_row roots p c.page.view table) roots p q c e
+
+  in_aborted : (plan : Option Plan) → (aborted_in plan c).0.page.plan ≡ Some q → SamePage c (aborted_in plan c).0
+  in_aborted None e = same_page c
+  in_aborted (Some p) e = absurd (false≢true (ap is_some e))
+
+  in_invalidated : (n : Name) (v : ℕ) (p : Plan) (plan : Option Plan) → plan ≡ Some p → SamePage c (invalidated_in plan n v c).0
+  in_invalidated n v p None e = absurd (false≢true (ap is_some e))
+  in_invalidated n v p (Some k) e = same_page c
+
+  in_turn : (p : Plan) (plan : Option Plan) → plan ≡ Some p → (row : AskRow) → SamePage c (asked (row_plan plan row) s c)
+  in_turn p None e row = absurd (false≢true (ap is_some e))
+  in_turn p (Some k) e row = same_page c
+
+  in_ask : (p : Plan) → c.page.plan ≡ Some p → SamePage c (asked (ask_row roots s c) s c)
+  in_ask p e = in_turn p c.page.plan e (row_notice (first_notice c) (row_loaded c.page.loaded (is_held s c) (row_dropped (dropped roots c) (row_held (is_held s c) (row_reason (reason roots s c) (row_replaced (replaced s c) (pairs s c)))))))
+
+  -- a request after which a plan is still under way leaves the page
+  pub plan_stays : (r : Request) (p : Plan) → c.page.plan ≡ Some p → (heard roots i s c r).0.page.plan ≡ Some q → SamePage c (heard roots i s c r).0
+  plan_stays ask p e f = in_ask p e
+  plan_stays (fetch n) p e f = in_fetch n c.page.plan
+  plan_stays (applied_as table) p e f = in_applied table c.page.plan f
+  plan_stays aborted p e f = in_aborted c.page.plan f
+  plan_stays (invalidate n v) p e f = in_invalidated n v p c.page.plan e
+
+edit_same : (answer : EditAnswer) (n : Name) (c : Client) → (told_of_edit answer n c).page ≡ c.page
+edit_same (job v) n c = refl
+edit_same same n c = refl
+edit_same (removed v) n c = refl
+edit_same (refused w) n c = refl
+
+result_same : (answer : ResultAnswer) (n : Name) (c : Client) → (told_of_result answer n c).page ≡ c.page
+result_same (serve a) n c = refl
+result_same (refuse f) n c = refl
+result_same late n c = refl
+
+-- an edit or a result leaves the page
+pub change_stays : (s : Sources) (ch : Change) (c : Client) → (told_of s ch c).page ≡ c.page
+change_stays s (edit n t) c = edit_same (edit_answer s n t) n c
+change_stays s (result n t o v) c = result_same (result_answer s n t o v) n c

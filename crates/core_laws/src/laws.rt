@@ -1,0 +1,109 @@
+// Laws of the core, for every list of events.
+ghost use Rattle.std.specs.Prelude.{◌≡◌, ◌↔◌, ℕ, ◌==◌, true, false, List, [], ◌∷◌, Some, None, is_some, IfSome};
+ghost use Rattle.hmr_types.specs.declared.analysis.Analysis.{Analysis};
+ghost use Rattle.hmr_types.specs.declared.analysis.Outcome.{Outcome};
+ghost use Rattle.hmr_types.specs.declared.words.ReloadCause.{ReloadCause};
+ghost use Rattle.core_model.specs.declared.message.ServerMsg.TheVariants as msg;
+ghost use Rattle.core_model.specs.Sent.{IsReloadSent};
+ghost use Rattle.core_model.specs.Names.{Name, at};
+ghost use Rattle.core_model.specs.Sources.{Sources, Text, Change, serve, result_answer, sources_after};
+ghost use Rattle.core_model.specs.FreshLoad.{Served};
+ghost use Rattle.core_model.specs.Spread.{IsReloadWanted, reason_of, cause_of};
+ghost use Rattle.core_model.specs.View.{View, differs, declines};
+ghost use Rattle.core_model.specs.Page.{Plan};
+ghost use Rattle.core_model.specs.Client.{Client};
+ghost use Rattle.core_model.specs.Requests.{Request, ask, heard, to_client};
+ghost use Rattle.core_model.specs.Core.{Core, Event, connect, request, disconnect, client_at, told_of, changes_of, step, core_after, replay, replies};
+ghost use Rattle.core_laws.specs.Given.{given};
+ghost use Rattle.core_laws.specs.Facts.{SourcesFacts, ClientFacts, IsClosed, IsServed, SamePage};
+ghost use Rattle.core_laws.specs.Fresh.{IsUpToDate, IsFreshLoad};
+ghost use Rattle.core_laws.specs.Reloading.{IsFullReload, IsReloadDue};
+ghost use Rattle.core_laws.specs.Settled.{AllAreGood, of_source, of_serving};
+ghost use Rattle.core_laws.specs.Batch.{Turn, IsBatch, changed_by};
+ghost use Rattle.core_laws.specs.Isolated.{AreNumbered, concerns, without_others, replies_without_others};
+
+/// Every list of events keeps the facts. Of the sources: each is of a counted edit, and is served where
+/// its result was good. Of each connected client: a loaded page holds every root and every import of
+/// its modules, and one that isn't loaded is empty; each module has the analysis that its version was
+/// served with; a forced module accepts itself; a load is of a page that isn't loaded, a reload or an
+/// update of a loaded one of which nothing is dropped; an update replaces all that a change passes on
+/// to; and where nothing was served or removed since a plan began, all that it fetched is what is
+/// served, and all that it keeps.
+pub fn facts_are_kept()
+    ensures sources { (past : List Change) → SourcesFacts (given past) (sources_after past) }
+    ensures clients { (roots : List Name) (past : List Event) (i : ℕ) → IfSome (client_at (core_after roots past).clients i) (ClientFacts roots (given (changes_of past)) (core_after roots past).sources) }
+{}
+
+/// A version of a module is served once at most, and the analysis that it was served with stays known.
+pub fn version_is_served_once()
+    ensures once { (past : List Change) (n : Name) (t : Text) (o : Outcome) (v : ℕ) (a : Analysis) → result_answer (sources_after past) n t o v ≡ serve a → given past n v ≡ None }
+    ensures stays { (past : List Change) (ch : Change) (n : Name) (v : ℕ) (a : Analysis) → given past n v ≡ Some a → given (ch ∷ past) n v ≡ Some a }
+{}
+
+/// A module of a page whose version is the served one is what is served, and so is a module that was
+/// fetched for the plan under way.
+pub fn version_decides_the_module()
+    ensures view { (roots : List Name) (past : List Event) (i : ℕ) (n : Name) → IfSome (client_at (core_after roots past).clients i) (λ c. differs (at c.page.view n) (at (core_after roots past).sources.served n) ≡ false → IsServed (at c.page.view n) (at (core_after roots past).sources.served n)) }
+    ensures staged { (roots : List Name) (past : List Event) (i : ℕ) (n : Name) → IfSome (client_at (core_after roots past).clients i) (λ c. IfSome c.page.plan (λ p. differs (at p.staged n) (at (core_after roots past).sources.served n) ≡ false → IsServed (at p.staged n) (at (core_after roots past).sources.served n))) }
+{}
+
+/// While a plan is under way the page's modules and its forced names stay: a request after which a
+/// plan is still under way leaves them, and so does each edit and each result.
+pub fn page_stays_during_a_plan()
+    ensures request { (roots : List Name) (i : ℕ) (s : Sources) (c : Client) (r : Request) (p q : Plan) → c.page.plan ≡ Some p → (heard roots i s c r).0.page.plan ≡ Some q → SamePage c (heard roots i s c r).0 }
+    ensures change { (s : Sources) (ch : Change) (c : Client) → (told_of s ch c).page ≡ c.page }
+{}
+
+/// A loaded page with nothing changed and nothing dropped is exactly a fresh load of what is served:
+/// the same modules in the same order, at the same versions; and the fresh load misses nothing.
+pub fn caught_up_is_fresh()
+    ensures { (roots : List Name) (past : List Event) (i : ℕ) → IfSome (client_at (core_after roots past).clients i) (λ c. IsUpToDate roots (core_after roots past).sources c → IsFreshLoad roots (core_after roots past).sources c) }
+{}
+
+/// An Ask of a connected client is answered by a full reload exactly where no plan is under way, no
+/// notice waits, the page is loaded, nothing is dropped, the client isn't held, and an unaccepted path
+/// ends badly: at a module that declines, or at a root that doesn't accept itself or is forced. What is
+/// told is the least such path, and which of the two its end is.
+pub fn full_reload_is_answered_exactly()
+    ensures exactly { (roots : List Name) (core : Core) (i : ℕ) (c : Client) → client_at core.clients i ≡ Some c → IsFullReload (step roots core (request i ask)).1 ↔ IsReloadDue roots core.sources c }
+    ensures told { (roots : List Name) (core : Core) (i : ℕ) (c : Client) (cause : ReloadCause) (path : List Name) → client_at core.clients i ≡ Some c → ((step roots core (request i ask)).1 ≡ to_client (msg.FullReload cause path)) ↔ ((cause ≡ cause_of c.page.view path) × IsReloadSent roots core.sources c path) }
+{}
+
+/// Each connected client has one record, under a number that was given.
+pub fn clients_are_numbered()
+    ensures { (roots : List Name) (past : List Event) → AreNumbered (core_after roots past) }
+{}
+
+/// A request of one client leaves the record of every other client as it was; and so does a client
+/// that goes, and one that comes.
+pub fn clients_leave_one_another()
+    ensures request { (roots : List Name) (core : Core) (i j : ℕ) (r : Request) → (i == j) ≡ false → client_at (step roots core (request i r)).0.clients j ≡ client_at core.clients j }
+    ensures disconnect { (roots : List Name) (core : Core) (i j : ℕ) → (i == j) ≡ false → client_at (step roots core (disconnect i)).0.clients j ≡ client_at core.clients j }
+    ensures connect { (roots : List Name) (past : List Event) (j : ℕ) → is_some (client_at (core_after roots past).clients j) ≡ true → client_at (core_after roots (connect ∷ past)).clients j ≡ client_at (core_after roots past).clients j }
+{}
+
+/// Leaving out all requests of other clients changes nothing in a client's record, nothing in the
+/// sources, and no reply: neither to the client, nor to an edit, a result, or a client that comes or
+/// goes. `record`, `sources` and `reply` say it of what came before, the newest event first;
+/// `replayed` and `replies` of events in their order.
+pub fn requests_of_others_change_nothing()
+    ensures record { (roots : List Name) (d : ℕ) (past : List Event) → client_at (core_after roots (without_others d past)).clients d ≡ client_at (core_after roots past).clients d }
+    ensures sources { (roots : List Name) (d : ℕ) (past : List Event) → (core_after roots (without_others d past)).sources ≡ (core_after roots past).sources }
+    ensures reply { (roots : List Name) (d : ℕ) (past : List Event) (event : Event) → concerns d event ≡ true → (step roots (core_after roots (without_others d past)) event).1 ≡ (step roots (core_after roots past) event).1 }
+    ensures replayed { (roots : List Name) (d : ℕ) (events : List Event) → client_at (replay roots (without_others d events)).clients d ≡ client_at (replay roots events).clients d }
+    ensures replies { (roots : List Name) (d : ℕ) (past events : List Event) → replies roots (core_after roots past) (without_others d events) ≡ replies_without_others d roots (core_after roots past) events }
+{}
+
+/// Where no job is outstanding and no current source was refused, what is served of each name is its
+/// current source: the same version and the same text, and nothing where there is none.
+pub fn good_sources_are_served()
+    ensures { (roots : List Name) (past : List Event) → AllAreGood (core_after roots past).sources → (n : Name) → of_serving (at (core_after roots past).sources.served n) ≡ of_source (at (core_after roots past).sources.current n) }
+{}
+
+/// Changes that are applied one by one, none of which wants a reload, want none when they come all at
+/// once. The view holds each root and each import and is as served, no module of it declines, and
+/// nothing is forced.
+pub fn batch_wants_no_reload()
+    ensures wanted { (roots : List Name) (served : Served) (view : View) (turns : List Turn) → IsClosed roots view → ((n : Name) → IsServed (at view n) (at served n)) → ((n : Name) → declines view n ≡ false) → IsBatch roots served view turns → IsReloadWanted view roots (changed_by turns) [] → ⊥ }
+    ensures computed { (roots : List Name) (served : Served) (view : View) (turns : List Turn) → IsClosed roots view → ((n : Name) → IsServed (at view n) (at served n)) → ((n : Name) → declines view n ≡ false) → IsBatch roots served view turns → reason_of view roots (changed_by turns) [] ≡ None }
+{}
