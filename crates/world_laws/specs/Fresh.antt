@@ -1,0 +1,34 @@
+-- What a caught-up client holds, and what it shows of it.
+use Rattle.std.specs.Prelude.{◌≡◌, ℕ, List, [], ◌++◌, map, Option, Some, None, ⊤}
+use Rattle.hmr_types.specs.declared.out_line.OutLine.{OutLine}
+use Rattle.core_model.specs.Names.{Name}
+use Rattle.core_model.specs.FreshLoad.{Served, fresh_table, missing_of}
+use Rattle.core_model.specs.Core.{client_at}
+use Rattle.core_model.specs.Client.{Client}
+use Rattle.client_model.specs.Runtime.{Runtime}
+use Rattle.client_model.specs.Printing.{table, module_line, stale_line}
+use Rattle.world_model.specs.World.{World}
+use Rattle.world_model.specs.CaughtUp.{IsCaughtUp}
+
+-- the client's modules with their versions are those of a fresh load, in its order, and the fresh load
+-- misses nothing
+pub record HoldsFreshLoad (roots : List Name) (served : Served) (r : Runtime) : Type 0 where
+  pub table : table r ≡ fresh_table served roots
+  pub nothing_missing : missing_of served roots ≡ []
+
+-- the same of a client and its record, where the client is caught up
+abbrev pub IsFreshAt : List Name → World → Option Client → Option Runtime → Type 0
+IsFreshAt roots w c None = ⊤
+IsFreshAt roots w None (Some r) = ⊤
+IsFreshAt roots w (Some c) (Some r) = IsCaughtUp roots w.core.sources c r → HoldsFreshLoad roots w.core.sources.served r
+
+-- each client that is caught up holds a fresh load
+abbrev pub AreFresh : List Name → World → Type 0
+AreFresh roots w = (i : ℕ) → IsFreshAt roots w (client_at w.core.clients i) (client_at w.clients i)
+
+-- the lines are those of the modules of a fresh load, and behind them stale edges alone; and the fresh
+-- load misses nothing
+pub record ShowFreshLoad (roots : List Name) (served : Served) (lines : List OutLine) : Type 0 where
+  pub stale : List (Name × Name)
+  pub lines_are : lines ≡ map module_line (fresh_table served roots) ++ map stale_line stale
+  pub nothing_missing : missing_of served roots ≡ []
