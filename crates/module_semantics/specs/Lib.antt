@@ -28,3 +28,5 @@ pub mod Analysis
 pub mod Progress
 pub mod Examples
 pub mod CanonTokens
+pub mod CanonItems
+pub mod Fitting

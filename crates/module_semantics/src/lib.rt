@@ -1,6 +1,6 @@
 //! The meaning of module texts, as definitions and laws: what the tokens of a text are, which texts
 //! read as which module, what the first fault of the others is, what the one canonical text of a
-//! module is, what its analysis tells, and what its evaluation gives.
+//! module is and that it reads back, what its analysis tells, and what its evaluation gives.
 //!
 //! Stands on the vocabulary alone. Nothing of it runs: each public function has an empty body, and its
 //! clauses are laws or worked examples of the definitions in specs/. Keeps: each definition that
@@ -10,6 +10,7 @@
 
 mod analysis_examples;
 mod analysis_laws;
+mod canon;
 mod evaluation;
 mod evaluation_examples;
 mod evaluation_laws;
@@ -22,6 +23,7 @@ pub use analysis_examples::{
     first_specifier_is_the_fault, imports_are_few, names_come_once_in_order,
 };
 pub use analysis_laws::{analyses_are_well_made, memory_is_never_meant};
+pub use canon::{canon_reads_back, only_what_fits_is_read};
 pub use evaluation::{Env, ModParam, Registered};
 pub use evaluation_examples::{
     faults_of_bodies, faults_of_modules, handlers_register_in_order, imports_stand_still,
