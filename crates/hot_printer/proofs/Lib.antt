@@ -1,0 +1,4 @@
+pub mod Blocks
+pub mod Params
+pub mod Puts
+pub mod Rows

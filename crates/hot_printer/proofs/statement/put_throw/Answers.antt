@@ -1,0 +1,5 @@
+use Rattle.hot_printer.proofs.Puts.{four_puts}
+use Rattle.hot_printer.proofs.statement.put_throw.Goals as goal
+
+pub returns : goal.returns
+returns c = four_puts _ _ _ _ _ _ _ _ _ _ c.in_ok-put_indent.ensures c.in_ok-put.ensures c.in_ok-put_expr.ensures c.put-2.ensures
