@@ -1,0 +1,27 @@
+-- What is said of `import.meta.hot`.
+use Rattle.std.proofs.Common.{◌≡◌, List, Ok, refl, sym, ◌∙◌, subst}
+use Rattle.module_semantics.specs.Token.{LineToken}
+use Rattle.module_semantics.specs.Raw.{RawItem}
+use Rattle.module_semantics.specs.Readers.{end}
+use Rattle.module_semantics.specs.Reading.{Inner, hot_top}
+use Rattle.hot_grammar.specs.declared.grammar_fault.GrammarFault.{GrammarFault}
+use Rattle.hot_grammar.specs.Parts.{hot_front, told_hot}
+use Rattle.hot_grammar.specs.Reads.{Stops, past}
+use Rattle.hot_grammar.proofs.Chains.{bind_stops, later_stops, hot_goes, hot_stops}
+
+-- a call at the top
+pub top_read : (i : Inner) (ts r s u : List LineToken) (x : RawItem) → hot_front ts ≡ Ok (past r) → told_hot i r ≡ Ok (x, s) → end s ≡ Ok (past u) → hot_top i ts ≡ Ok (x, u)
+unfolding hot_top
+top_read i ts r s u x front item stop = rw (hot_goes (told_hot i) ts r front ∙ item, stop) refl
+
+pub top_front_stops : (e : GrammarFault) (i : Inner) (ts : List LineToken) → Stops e (hot_front ts) → Stops e (hot_top i ts)
+unfolding hot_top
+top_front_stops e i ts h = bind_stops e _ _ (bind_stops e _ _ (hot_stops e (told_hot i) ts h))
+
+pub top_item_stops : (e : GrammarFault) (i : Inner) (ts r : List LineToken) → hot_front ts ≡ Ok (past r) → Stops e (told_hot i r) → Stops e (hot_top i ts)
+unfolding hot_top
+top_item_stops e i ts r front h = bind_stops e _ _ (bind_stops e _ _ (subst (Stops e) (sym (hot_goes (told_hot i) ts r front)) h))
+
+pub top_end_stops : (e : GrammarFault) (i : Inner) (ts r s : List LineToken) (x : RawItem) → hot_front ts ≡ Ok (past r) → told_hot i r ≡ Ok (x, s) → Stops e (end s) → Stops e (hot_top i ts)
+unfolding hot_top
+top_end_stops e i ts r s x front item h = bind_stops e _ _ (later_stops e (x, s) _ _ (hot_goes (told_hot i) ts r front ∙ item) (bind_stops e _ _ h))
