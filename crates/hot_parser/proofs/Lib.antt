@@ -1,0 +1,6 @@
+pub mod Bytes
+pub mod Earlier
+pub mod Firsts
+pub mod Locals
+pub mod Meant
+pub mod Rows

@@ -1,0 +1,11 @@
+use Rattle.std.proofs.Common.{◌≡◌, [], None, drop, map, take}
+use Rattle.hot_grammar.specs.Raw.{name_at_of}
+use Rattle.module_semantics.specs.NameRules.{names_of}
+use Rattle.hot_parser.specs.Firsts.{repeated_first}
+use Rattle.hot_parser.specs.Told.{told}
+use Rattle.hot_parser.proofs.names.repeated.Given as goal
+
+-- what was found, and what is left, tell the first of all
+abbrev pub invariant-loop-place : goal.invariant-loop-place
+invariant-loop-place l =
+    repeated_first (names_of (map name_at_of (take l.place l.names))) (told l.found) (map name_at_of (drop l.place l.names)) ≡ repeated_first [] None (map name_at_of l.names)

@@ -1,0 +1,6 @@
+pub mod Alone
+pub mod Firsts
+pub mod Rows
+pub mod Syntax
+pub mod Told
+pub mod Within

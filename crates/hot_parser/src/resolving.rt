@@ -1,0 +1,300 @@
+// The tree of a module, of what the grammar tells. What a name means hangs on where it stands: in a
+// callback of `dispose` or `prune` the keys of its parameter are those of the bag, and in one of `accept`
+// a parameter is told by its place.
+ghost use Rattle.std.specs.Prelude.{◌≡◌, IfOk, map};
+ghost use Rattle.hmr_types.specs.Syntax.{binary};
+ghost use Rattle.hmr_types.specs.Tree.{cond_of, expr_of, handler_of, item_of, module_of, once_of, stmt_of, stmts_of};
+ghost use Rattle.hot_grammar.specs.Raw.{name_at_of, operation_of, raw_expr_of, raw_handler_of, raw_import_of, raw_item_of, raw_items_of, raw_once_of, raw_stmt_of, raw_stmts_of};
+ghost use Rattle.module_semantics.specs.NameRules.{names_of};
+ghost use Rattle.module_semantics.specs.Resolving.{accept_tree, cond_tree, expr_tree, handler_tree, import_name, item_tree, member_tree, module_tree, name_cond, once_handler_tree, once_tree, place_of, stmt_tree, stmts_tree};
+ghost use Rattle.hot_parser.specs.Rows.{rowed};
+ghost use Rattle.hot_parser.specs.Within.{within_of};
+
+use crate::alone::alone;
+use crate::within::{Within, has_param};
+use hmr_types::{
+    Cond, Expr, HandlerCode, ImportName, Item, Module, Name, Once, Op, Sequence, Stmt,
+};
+use hot_grammar::{NameAt, RawExpr, RawHandler, RawImport, RawItem, RawOnce, RawStmt};
+use std::alloc::{AllocError, Global};
+
+/// The tree of what the grammar tells of a module. It takes time and memory in proportion to it, but
+/// that a parameter is looked up among those of its callback.
+pub fn module_tree(alloc: Global, items: &[RawItem]) -> Result<Module, AllocError>
+    ensures exact { IfOk result (λ tree. module_of tree ≡ module_tree (raw_items_of items.now)) }
+{
+    let mut tree = Vec::new(alloc);
+    for item in items {
+        tree.push(item_tree(alloc, item)?)?;
+    }
+    Ok(Module { items: tree })
+}
+
+fn item_tree(alloc: Global, item: &RawItem) -> Result<Item, AllocError>
+    ensures { IfOk result (λ tree. item_of tree ≡ item_tree (raw_item_of item.now)) }
+{
+    match item {
+        RawItem::Import { spec, names } => Ok(Item::Import {
+            spec: spec.clone()?,
+            names: import_names(alloc, names)?,
+        }),
+        RawItem::Declare {
+            exported,
+            mutable,
+            name,
+            value,
+        } => Ok(Item::Declare {
+            exported: *exported,
+            mutable: *mutable,
+            name: name.name.clone()?,
+            value: expr_tree(alloc, &Within::Outside, value)?,
+        }),
+        RawItem::Act(stmt) => Ok(Item::Do(stmt_tree(alloc, &Within::Outside, stmt)?)),
+        RawItem::Own(None) => Ok(Item::Own(None)),
+        RawItem::Own(Some(once)) => Ok(Item::Own(Some(accept_tree(alloc, once)?))),
+        RawItem::Deps { list, specs, call } => Ok(Item::Deps {
+            list: *list,
+            specs: Sequence::from_vec(specs.clone()?),
+            call: match call {
+                None => None,
+                Some(code) => Some(handler_tree(alloc, code)?),
+            },
+        }),
+        RawItem::Dispose(once) => Ok(Item::Dispose(once_tree(alloc, once)?)),
+        RawItem::Prune(once) => Ok(Item::Prune(once_tree(alloc, once)?)),
+        RawItem::Decline => Ok(Item::Decline),
+    }
+}
+
+fn import_names(alloc: Global, names: &[RawImport]) -> Result<Sequence<ImportName>, AllocError>
+    ensures { IfOk result (λ tree. tree ≡ map import_name (map raw_import_of names.now)) }
+{
+    let mut tree = Vec::new(alloc);
+    for name in names {
+        tree.push(ImportName {
+            exported: name.exported.clone()?,
+            local: name.local.name.clone()?,
+        })?;
+    }
+    Ok(Sequence::from_vec(tree))
+}
+
+/// What `accept` of the module itself takes.
+fn accept_tree(alloc: Global, once: &RawOnce) -> Result<Once, AllocError>
+    ensures { IfOk result (λ tree. once_of tree ≡ accept_tree (raw_once_of once.now)) }
+{
+    match once {
+        RawOnce::Code(code) => Ok(Once::Code(handler_tree(alloc, code)?)),
+        RawOnce::Host(label) => Ok(Once::Host(label.clone()?)),
+    }
+}
+
+/// What `dispose` and `prune` take.
+fn once_tree(alloc: Global, once: &RawOnce) -> Result<Once, AllocError>
+    ensures { IfOk result (λ tree. once_of tree ≡ once_tree (raw_once_of once.now)) }
+{
+    match once {
+        RawOnce::Code(code) => Ok(Once::Code(once_handler_tree(alloc, code)?)),
+        RawOnce::Host(label) => Ok(Once::Host(label.clone()?)),
+    }
+}
+
+/// A callback of `accept`, which keeps its parameters.
+fn handler_tree(alloc: Global, code: &RawHandler) -> Result<HandlerCode, AllocError>
+    ensures { IfOk result (λ tree. handler_of tree ≡ handler_tree (raw_handler_of code.now)) }
+{
+    Ok(HandlerCode {
+        params: param_names(alloc, &code.params)?,
+        body: stmts_tree(alloc, &Within::Accept(&code.params), &code.body)?,
+    })
+}
+
+/// A callback of `dispose` or `prune`, whose parameter is forgotten.
+fn once_handler_tree(alloc: Global, code: &RawHandler) -> Result<HandlerCode, AllocError>
+    ensures { IfOk result (λ tree. handler_of tree ≡ once_handler_tree (raw_handler_of code.now)) }
+{
+    Ok(HandlerCode {
+        params: Sequence::new(alloc),
+        body: stmts_tree(alloc, &Within::Once(&code.params), &code.body)?,
+    })
+}
+
+fn param_names(alloc: Global, params: &[NameAt]) -> Result<Sequence<Name>, AllocError>
+    ensures { IfOk result (λ names. names ≡ names_of (map name_at_of params.now)) }
+{
+    let mut names = Vec::new(alloc);
+    for param in params {
+        names.push(param.name.clone()?)?;
+    }
+    Ok(Sequence::from_vec(names))
+}
+
+#[cycle(stmts)]
+fn stmts_tree(
+    alloc: Global,
+    within: &Within<'_>,
+    stmts: &[RawStmt],
+) -> Result<Vec<Stmt>, AllocError>
+    ensures { IfOk result (λ tree. stmts_of tree.items ≡ stmts_tree (within_of within.now) (raw_stmts_of stmts.now)) }
+{
+    let mut tree = Vec::new(alloc);
+    for stmt in stmts {
+        tree.push(stmt_tree(alloc, within, stmt)?)?;
+    }
+    Ok(tree)
+}
+
+#[cycle(stmts)]
+fn stmt_tree(alloc: Global, within: &Within<'_>, stmt: &RawStmt) -> Result<Stmt, AllocError>
+    ensures { IfOk result (λ tree. stmt_of tree ≡ stmt_tree (within_of within.now) (raw_stmt_of stmt.now)) }
+{
+    match stmt {
+        RawStmt::Log(es) => Ok(Stmt::Log(exprs_tree(alloc, within, es)?)),
+        RawStmt::Assign(name, e) => Ok(Stmt::Assign(
+            name.name.clone()?,
+            expr_tree(alloc, within, e)?,
+        )),
+        RawStmt::Set(_, key, e) => Ok(Stmt::BagSet(key.clone()?, expr_tree(alloc, within, e)?)),
+        RawStmt::SetBag(key, e) => Ok(Stmt::BagSet(key.clone()?, expr_tree(alloc, within, e)?)),
+        RawStmt::Throw(e) => Ok(Stmt::Throw(expr_tree(alloc, within, e)?)),
+        RawStmt::Invalidate(_, None) => Ok(Stmt::Invalidate(None)),
+        RawStmt::Invalidate(_, Some(e)) => {
+            Ok(Stmt::Invalidate(Some(expr_tree(alloc, within, e)?)))
+        }
+        RawStmt::Branch(condition, first, second) => Ok(Stmt::If(
+            cond_tree(alloc, within, condition)?,
+            stmts_tree(alloc, within, first)?,
+            stmts_tree(alloc, within, second)?,
+        )),
+    }
+}
+
+/// The condition of an `if`.
+fn cond_tree(alloc: Global, within: &Within<'_>, e: &RawExpr) -> Result<Cond, AllocError>
+    ensures { IfOk result (λ tree. cond_of tree ≡ cond_tree (within_of within.now) (raw_expr_of e.now)) }
+{
+    match alone(e) {
+        Some(name) => name_cond(within, name),
+        None => Ok(Cond::Value(expr_tree(alloc, within, e)?)),
+    }
+}
+
+/// A name alone, as the whole condition of an `if`.
+fn name_cond(within: &Within<'_>, name: &NameAt) -> Result<Cond, AllocError>
+    ensures { IfOk result (λ tree. cond_of tree ≡ name_cond (within_of within.now) name.now.name) }
+{
+    match within {
+        Within::Accept(params) => {
+            if has_param(params, &name.name) {
+                return Ok(Cond::Param(place_of(params, &name.name)?));
+            }
+            Ok(Cond::Value(Expr::Name(name.name.clone()?)))
+        }
+        Within::Outside | Within::Once(_) => Ok(Cond::Value(Expr::Name(name.name.clone()?))),
+    }
+}
+
+/// The place of a parameter, from 0: their number, where it is none.
+#[tactic(auto, unfolding(module_semantics::specs::Resolving::place_of))]
+fn place_of(params: &[NameAt], name: &Name) -> Result<u32, AllocError>
+    ensures { IfOk result (λ place. place ≡ place_of name.now (names_of (map name_at_of params.now))) }
+{
+    let mut place = 0u32;
+    for param in params {
+        if *name == param.name {
+            return Ok(place);
+        }
+        place = place.checked_add(1).ok_or(AllocError)?;
+    }
+    Ok(place)
+}
+
+fn exprs_tree(alloc: Global, within: &Within<'_>, es: &[RawExpr]) -> Result<Vec<Expr>, AllocError>
+    ensures { IfOk result (λ tree. map expr_of tree.items ≡ map (expr_tree (within_of within.now)) (map raw_expr_of es.now)) }
+{
+    let mut tree = Vec::new(alloc);
+    for e in es {
+        tree.push(expr_tree(alloc, within, e)?)?;
+    }
+    Ok(tree)
+}
+
+#[cycle(exprs)]
+fn expr_tree(alloc: Global, within: &Within<'_>, e: &RawExpr) -> Result<Expr, AllocError>
+    ensures { IfOk result (λ tree. expr_of tree ≡ expr_tree (within_of within.now) (raw_expr_of e.now)) }
+{
+    match e {
+        RawExpr::Num(n) => Ok(Expr::Num(*n)),
+        RawExpr::Text(text) => Ok(Expr::Text(text.clone()?)),
+        RawExpr::Undefined => Ok(Expr::Undefined),
+        RawExpr::Name(name) => Ok(Expr::Name(name.name.clone()?)),
+        RawExpr::Bag(key) => Ok(Expr::Bag(key.clone()?)),
+        RawExpr::Member { base, safe, key } => member_tree(within, base, *safe, key),
+        RawExpr::Neg(a) => Ok(Expr::Neg(boxed_tree(alloc, within, a)?)),
+        RawExpr::Row(first, rest) => {
+            let first = expr_tree(alloc, within, first)?;
+            row_tree(alloc, within, rest, first)
+        }
+        RawExpr::Choose(condition, first, second) => Ok(Expr::Choose(
+            boxed_tree(alloc, within, condition)?,
+            boxed_tree(alloc, within, first)?,
+            boxed_tree(alloc, within, second)?,
+        )),
+    }
+}
+
+#[cycle(exprs)]
+fn boxed_tree(alloc: Global, within: &Within<'_>, e: &RawExpr) -> Result<Box<Expr>, AllocError>
+    ensures { IfOk result (λ tree. expr_of tree.value ≡ expr_tree (within_of within.now) (raw_expr_of e.now)) }
+{
+    Ok(Box::new(alloc, expr_tree(alloc, within, e)?)?)
+}
+
+/// A row of operators behind its first operand, which group to the left.
+#[cycle(exprs)]
+fn row_tree(
+    alloc: Global,
+    within: &Within<'_>,
+    rest: &[(Op, RawExpr)],
+    first: Expr,
+) -> Result<Expr, AllocError>
+    ensures { IfOk result (λ tree. expr_of tree ≡ rowed (within_of within.now) (expr_of first) (map operation_of rest.now)) }
+{
+    let mut tree = first;
+    for (op, right) in rest {
+        let right = expr_tree(alloc, within, right)?;
+        tree = joined(alloc, *op, tree, right)?;
+    }
+    Ok(tree)
+}
+
+/// Two operands with their operator.
+fn joined(alloc: Global, op: Op, left: Expr, right: Expr) -> Result<Expr, AllocError>
+    ensures { IfOk result (λ e. expr_of e ≡ binary op (expr_of left) (expr_of right)) }
+{
+    Ok(Expr::Binary(op, Box::new(alloc, left)?, Box::new(alloc, right)?))
+}
+
+/// A key of what a name is.
+fn member_tree(
+    within: &Within<'_>,
+    base: &NameAt,
+    safe: bool,
+    key: &Name,
+) -> Result<Expr, AllocError>
+    ensures { IfOk result (λ tree. expr_of tree ≡ member_tree (within_of within.now) (name_at_of base.now) safe key.now) }
+{
+    match within {
+        Within::Outside => Ok(Expr::Member {
+            param: 0,
+            safe,
+            name: key.clone()?,
+        }),
+        Within::Once(_) => Ok(Expr::Bag(key.clone()?)),
+        Within::Accept(params) => Ok(Expr::Member {
+            param: place_of(params, &base.name)?,
+            safe,
+            name: key.clone()?,
+        }),
+    }
+}
