@@ -1,0 +1,4 @@
+pub mod Analysing
+pub mod Firsts
+pub mod Items
+pub mod Meanings

@@ -1,0 +1,5 @@
+pub mod Analysing
+pub mod Fault
+pub mod Links
+pub mod Scanning
+pub mod Transform
