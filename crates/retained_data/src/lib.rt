@@ -1,14 +1,17 @@
 //! The data that a module leaves for the next instance of its name.
 //!
 //! It stands on the vocabulary and on the meaning of module texts, whose words for entries it keeps.
-//! Keeps: a [`Bag`] has at most 64 keys, all different, in the order in which they came. Knows nothing
-//! of modules, of evaluation or of clients.
+//! Keeps: a [`Bag`] has at most 64 keys, all different, in the order in which they came; a step of
+//! [`Bags`] at one name leaves the bag of every other. Knows nothing of evaluation, of instances or of
+//! clients.
 #![tactic(auto)]
 
 mod bag;
+mod bags;
 mod entries;
 #[cfg(test)]
 mod tests;
 
 pub use bag::{Bag, BagFault};
+pub use bags::Bags;
 pub use entries::{entry_at, put_entry};

@@ -1,0 +1,4 @@
+pub mod Held
+pub mod Shelf
+pub mod Handler
+pub mod Handlers
