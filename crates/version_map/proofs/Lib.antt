@@ -1,0 +1,4 @@
+mod Counting
+mod Onces
+mod Rows
+mod Standing

@@ -1,0 +1,4 @@
+pub mod Entries
+pub mod Inside
+pub mod Standing
+pub mod Changes
