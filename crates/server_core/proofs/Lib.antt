@@ -1,0 +1,4 @@
+mod Reaching
+mod Rows
+mod Same
+mod Saying
