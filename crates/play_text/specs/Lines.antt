@@ -2,7 +2,8 @@
 use Rattle.std.specs.Prelude.{ℕ, List, ◌++◌, codes, decimal}
 use Rattle.std.specs.List.{flat_map}
 use Rattle.std.specs.Fmt.{signed_decimal}
-use Rattle.play_text.specs.Texts.{spaced, spaced_number, of_client, names_text, escaped, quoted, after_space}
+use Rattle.play_script.specs.Texts.{spaced, spaced_number}
+use Rattle.play_text.specs.Texts.{of_client, names_text, escaped, quoted, after_space}
 use Rattle.play_text.specs.Words.{fault_word, refusal_word, plan_word, cause_word, place_word, kind_word, state_word, end_word, status_word, ending_word}
 use Rattle.hmr_types.specs.declared.analysis.TextFault.{TextFault}
 use Rattle.hmr_types.specs.declared.out_line.OutLine.{OutLine}

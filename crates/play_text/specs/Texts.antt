@@ -1,14 +1,7 @@
 -- Names and texts as they stand in a line.
 use Rattle.std.specs.Prelude.{ℕ, List, [], ◌∷◌, ◌++◌, codes, decimal, ◌==◌, if◌then◌else◌}
 use Rattle.std.specs.List.{flat_map}
-
--- a word behind a space
-abbrev pub spaced : List ℕ → List ℕ
-spaced text = codes " " ++ text
-
--- a number behind a space
-abbrev pub spaced_number : ℕ → List ℕ
-spaced_number n = codes " " ++ decimal n
+use Rattle.play_script.specs.Texts.{spaced}
 
 -- the number of a client and a word
 abbrev pub of_client : ℕ → List ℕ → List ℕ

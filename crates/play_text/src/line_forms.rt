@@ -1,7 +1,8 @@
 // The forms of the lines, each put by one small function.
 ghost use Rattle.std.specs.Prelude.{◌≡◌, ◌++◌, OnOk, decimal};
 ghost use Rattle.hmr_types.specs.declared.out_line.OutLine.TheVariants as lines;
-ghost use Rattle.play_text.specs.Texts.{after_space, names_text, of_client, spaced};
+ghost use Rattle.play_script.specs.Texts.{spaced};
+ghost use Rattle.play_text.specs.Texts.{after_space, names_text, of_client};
 ghost use Rattle.play_text.specs.Lines.{body_text};
 
 use crate::outcomes::{

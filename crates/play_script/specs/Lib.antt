@@ -1,0 +1,4 @@
+pub mod Texts
+pub mod Script
+pub mod Spelling
+pub mod Asked

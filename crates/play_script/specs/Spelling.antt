@@ -1,0 +1,80 @@
+-- The canonical spelling of a script, and which scripts have one.
+use Rattle.std.specs.Prelude.{◌≡◌, ℕ, ◌∷◌, ◌++◌, length, Bool, true, not, ◌&&◌, nat_le, nat_lt, List, [], codes, map}
+use Rattle.std.specs.List.{flat_map, list_all, list_any}
+use Rattle.std.specs.Str.{is_utf8}
+use Rattle.hmr_types.specs.ModName.{is_name, is_text}
+use Rattle.hmr_types.specs.declared.limits.TheConstants.{LARGEST_CLIENT, LARGEST_NUMBER, ROOTS, SCRIPT_LINE_BYTES}
+use Rattle.play_script.specs.declared.script_line.ScriptLine.{ScriptLine}
+use Rattle.play_script.specs.declared.script_line.ScriptLine.TheVariants as lines
+use Rattle.play_script.specs.Texts.{spaced, spaced_number}
+use Rattle.play_script.specs.Script.{Contents, Line, is_empty, lines_from}
+
+-- the line of a command
+abbrev pub command_text : ScriptLine → List ℕ
+command_text lines.Quiet = codes "quiet"
+command_text (lines.Edit name text) = codes "edit" ++ spaced name
+command_text (lines.Remove name) = codes "remove" ++ spaced name
+command_text lines.SettleAll = codes "settle"
+command_text (lines.Settle name version) = codes "settle" ++ spaced name ++ spaced_number version
+command_text lines.Open = codes "open"
+command_text (lines.Close client) = codes "close" ++ spaced_number client
+command_text (lines.Turn client) = codes "turn" ++ spaced_number client
+command_text (lines.Turns client most) = codes "turns" ++ spaced_number client ++ spaced_number most
+command_text (lines.Show client) = codes "show" ++ spaced_number client
+command_text (lines.Values client) = codes "values" ++ spaced_number client
+command_text (lines.Fates client) = codes "fates" ++ spaced_number client
+command_text lines.Fresh = codes "fresh"
+
+-- the lines of a command's text, each behind `|`
+abbrev pub text_lines : ScriptLine → List (List ℕ)
+text_lines (lines.Edit name text) = map (λ line. codes "|" ++ line.bytes) (lines_from [] text)
+text_lines line = []
+
+-- the lines of a command
+abbrev pub command_lines : ScriptLine → List (List ℕ)
+command_lines line = command_text line ∷ text_lines line
+
+-- the lines of a script: its roots, then its commands
+abbrev pub script_lines : Contents → List (List ℕ)
+script_lines script = map (λ name. codes "root" ++ spaced name) script.roots ++ flat_map command_lines script.lines
+
+-- lines, each with LF
+abbrev pub ended_by_lf : List (List ℕ) → List ℕ
+ended_by_lf [] = []
+ended_by_lf (line ∷ more) = line ++ (codes "\n" ++ ended_by_lf more)
+
+-- the canonical spelling of a script
+abbrev pub spelling : Contents → List ℕ
+spelling script = ended_by_lf (script_lines script)
+
+-- a number from 1 to the most
+abbrev pub in_range : ℕ → ℕ → Bool
+in_range most n = nat_lt 0 n && nat_le n most
+
+-- a line of an edit's text, which stands in a script behind `|`
+abbrev pub fits : Line → Bool
+fits line = line.ended && is_utf8 line.bytes && nat_lt (length line.bytes) SCRIPT_LINE_BYTES
+
+-- a command whose names are names, whose numbers are in their range, and whose text is lines that fit
+abbrev pub is_writable : ScriptLine → Bool
+is_writable (lines.Edit name text) = is_name name && list_all fits (lines_from [] text)
+is_writable (lines.Remove name) = is_name name
+is_writable (lines.Settle name version) = is_name name && in_range LARGEST_NUMBER version
+is_writable (lines.Close client) = in_range LARGEST_CLIENT client
+is_writable (lines.Turn client) = in_range LARGEST_CLIENT client
+is_writable (lines.Turns client most) = in_range LARGEST_CLIENT client && in_range LARGEST_CLIENT most
+is_writable (lines.Show client) = in_range LARGEST_CLIENT client
+is_writable (lines.Values client) = in_range LARGEST_CLIENT client
+is_writable (lines.Fates client) = in_range LARGEST_CLIENT client
+is_writable line = true
+
+-- roots behind others: names, none of them an earlier one, and at most 16 in all
+abbrev pub are_roots : List (List ℕ) → List (List ℕ) → Bool
+are_roots before [] = true
+are_roots before (name ∷ more) = is_name name && nat_lt (length before) ROOTS && not (list_any (λ root. is_text root name) before) && are_roots (before ++ name ∷ []) more
+
+-- a script that has a spelling
+pub record HasSpelling (script : Contents) : Type 0 where
+  pub roots : are_roots [] script.roots ≡ true
+  pub lines : list_all is_writable script.lines ≡ true
+  pub some_root : is_empty script.roots ≡ true → is_empty script.lines ≡ true

@@ -1,0 +1,89 @@
+// The words after a command's first: names, and numbers in their range.
+ghost use Rattle.std.specs.Prelude.{◌≡◌, ◌≤◌, IfOk, IfSome, map};
+ghost use Rattle.std.specs.List.{list_all};
+ghost use Rattle.hmr_types.specs.ModName.{between};
+ghost use Rattle.play_script.specs.Script.{Gives, named, number, number_of, up_to, digits_value, is_digit, with_digit, one_word};
+
+use crate::fault::{Refusal, ScriptKind};
+use hmr_types::limits::{LARGEST_CLIENT, LARGEST_NUMBER};
+use hmr_types::{ClientId, ModName, NameFault, Ver};
+use std::alloc::Global;
+
+/// The one word that there is to be.
+pub fn only_word<'a>(words: &[&'a [u8]]) -> Result<&'a [u8], Refusal>
+    ensures { Gives (λ word. word.now) result (one_word (map (λ w. w.now) words.now)) }
+{
+    match words {
+        [word] => Ok(*word),
+        _ => Err(Refusal::Fault(ScriptKind::WordCount)),
+    }
+}
+
+/// The name that a word is.
+pub fn read_name(alloc: Global, word: &[u8]) -> Result<ModName, Refusal>
+    ensures { Gives (λ name. name) result (named word.now) }
+{
+    match ModName::read(alloc, word) {
+        Ok(name) => Ok(name),
+        Err(NameFault::NotAName) => Err(Refusal::Fault(ScriptKind::BadName)),
+        Err(NameFault::NoMemory) => Err(Refusal::NoMemory),
+    }
+}
+
+/// The number of a client, or of turns, that a word is.
+pub fn read_count(word: &[u8]) -> Result<u32, Refusal>
+    ensures { Gives (λ n. n) result (number LARGEST_CLIENT word.now) }
+{
+    let number = read_number(word, u64::from(LARGEST_CLIENT))?;
+    Ok(number as u32)
+}
+
+/// The version that a word is.
+pub fn read_version(word: &[u8]) -> Result<Ver, Refusal>
+    ensures { Gives (λ n. n) result (number LARGEST_NUMBER word.now) }
+{
+    read_number(word, LARGEST_NUMBER)
+}
+
+fn read_number(word: &[u8], most: u64) -> Result<u64, Refusal>
+    requires { most ≤ 9007199254740991 }
+    ensures number { Gives (λ n. n) result (number most word.now) }
+    ensures range { IfOk result (λ n. n ≤ most) }
+{
+    match number_of(word, most) {
+        Some(number) => Ok(number),
+        None => Err(Refusal::Fault(ScriptKind::BadNumber)),
+    }
+}
+
+fn number_of(word: &[u8], most: u64) -> Option<u64>
+    requires { most ≤ 9007199254740991 }
+    ensures number { result ≡ number_of most word.now }
+    ensures range { IfSome result (λ n. n ≤ most) }
+{
+    match word {
+        [b'1'..=b'9', rest @ ..] if are_digits(rest) => value_of(word, most),
+        _ => None,
+    }
+}
+
+fn are_digits(bytes: &[u8]) -> bool
+    ensures { result ≡ list_all is_digit bytes.now }
+{
+    bytes.iter().all(|b| b.is_ascii_digit())
+}
+
+fn value_of(digits: &[u8], most: u64) -> Option<u64>
+    requires { most ≤ 9007199254740991 }
+    ensures number { result ≡ up_to most (digits_value digits.now) }
+    ensures range { IfSome result (λ n. n ≤ most) }
+{
+    let mut value: u64 = 0;
+    for digit in digits {
+        value = value * 10 + u64::from(digit.saturating_sub(b'0'));
+        if value > most {
+            return None;
+        }
+    }
+    Some(value)
+}

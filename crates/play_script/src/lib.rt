@@ -1,0 +1,28 @@
+//! Scripts: the roots of a page and its commands, as the bytes of a script say them.
+//!
+//! Stands on the vocabulary. Keeps: [`read_script`] is the definition `script_of`, the first fault of
+//! bytes that are no script included, and a [`Script`] keeps its text and no command: the commands are
+//! read from the text, one by one, as [`Commands::next`] is asked for them. Knows nothing of worlds,
+//! clients or versions, and nothing of what a command writes.
+#![tactic(auto)]
+
+mod arguments;
+mod commands;
+mod draft;
+mod fault;
+mod first_line;
+mod reader;
+mod script;
+mod script_line;
+mod spelling;
+mod words;
+
+pub use commands::Commands;
+pub use fault::{ScriptFault, ScriptKind, script_word};
+pub use reader::read_script;
+pub use script::Script;
+pub use script_line::ScriptLine;
+pub use spelling::spelling_is_read;
+
+#[cfg(test)]
+mod tests;
