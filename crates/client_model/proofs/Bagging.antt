@@ -1,37 +1,28 @@
 -- The bags that a client keeps are those that what happened left.
 use Rattle.std.proofs.Common.{◌≡◌, ℕ, Bool, true, false, List, [], ◌∷◌, ◌++◌, refl, ap, sym, ◌∙◌}
-use Rattle.std.specs.Prelude.{fold, map, not, Option, Some, None, if◌then◌else◌}
+use Rattle.std.specs.Prelude.{fold, map, Option, Some, None, if◌then◌else◌}
 use Rattle.std.proofs.lemmas.List.Sums.{fold-append}
 use Rattle.hmr_types.specs.Syntax as syntax
 use Rattle.hmr_types.specs.Syntax.{OnceTree}
-use Rattle.hmr_types.specs.declared.analysis.Outcome.{Outcome}
-use Rattle.hmr_types.specs.declared.analysis.Outcome.TheVariants.{Good, Bad}
-use Rattle.hmr_types.specs.declared.words.PlanKind.TheVariants.{Update}
 use Rattle.hmr_types.specs.declared.words.FaultPlace.{FaultPlace}
 use Rattle.hmr_types.specs.declared.words.FaultPlace.TheVariants as place
-use Rattle.hmr_types.specs.declared.out_line.OutLine.TheVariants as line
 use Rattle.hmr_types.specs.declared.words.InstanceFate.{InstanceFate}
-use Rattle.core_model.specs.declared.message.ClientMsg.{ClientMsg}
-use Rattle.core_model.specs.declared.message.ClientMsg.TheVariants as request_is
 use Rattle.core_model.specs.declared.message.ServerMsg.{ServerMsg}
-use Rattle.core_model.specs.declared.message.ServerMsg.TheVariants as msg
-use Rattle.core_model.specs.Names.{Name, same_name, has, at, with_row, sorted}
+use Rattle.core_model.specs.Names.{Name, same_name, has, at, with_row}
 use Rattle.core_model.specs.Sources.{Text}
-use Rattle.core_model.specs.Page.{Plan, given_up}
+use Rattle.core_model.specs.Page.{Plan}
+use Rattle.core_model.proofs.Naming.{true_same}
 use Rattle.core_model.proofs.Tables.{at_without, at_with_row}
 use Rattle.client_model.specs.Language.{Language, Bag, Ran, Evaluated, Registered}
 use Rattle.client_model.specs.Instance.{Instance, Handler, Deed, code, host, numbered, places_of, places_from, is_held, disposes, prunes}
 use Rattle.client_model.specs.Journal.{Journal, bag_after, bag_left, dropped, registered, no_host}
-use Rattle.client_model.specs.Runtime.{Runtime, Cause, Did, nothing, and_then, for_each, write, bag_or_empty, bag_of}
+use Rattle.client_model.specs.Runtime.{Runtime, Did, and_then, for_each, bag_or_empty, bag_of}
 use Rattle.client_model.specs.Running.{no_arguments, did_run, run_each, drop_each, end_instance, give_up_bag}
-use Rattle.client_model.specs.Making.{Registry, Birth, is_displaced_by, new_handler, without_first, with_handler, with_host, register_once, make_unrun, make_evaluated, evaluate, register_in, make_run, make, has_failed_link}
+use Rattle.client_model.specs.Making.{Registry, Birth, is_displaced_by, new_handler, without_first, with_handler, with_host, register_once, make_evaluated, evaluate, register_in, make}
 use Rattle.client_model.specs.Applying.{live_of, finish, apply, prune_instance, leave_page, prune}
-use Rattle.client_model.specs.Answering.{begin, accept_line, pair_of, start_update, stage, stage_in, apply_in, write_cause, abort_in, done, refused, answered}
-use Rattle.client_model.specs.Requesting.{request, cause_by}
-use Rattle.client_model.specs.Expecting.{is_answer, request_place, answer_place}
-use Rattle.core_model.proofs.Naming.{true_same}
-use Rattle.client_model.proofs.Acts.{IsKept, before_finish, kept_applying, kept_pruning, kept_lines}
-use Rattle.client_model.specs.Taking.{take, runtime_after, journal_of, did_take, unchanged_by, stop, is_too_many, unexpected, is_stopped, Taking}
+use Rattle.client_model.specs.Taking.{take, runtime_after, journal_of}
+use Rattle.client_model.proofs.Acts.{IsKept, before_finish, kept_applying, kept_pruning, by_make}
+use Rattle.client_model.proofs.Takes.{AreLines, Quiet, IsTaken, lines_by, take_does}
 
 -- what a client does leaves each name the bag that what happened left of the one before
 abbrev pub Keeps : Runtime → Did → Type 0
@@ -41,8 +32,8 @@ Keeps r did = (n : Name) → bag_of did.0 n ≡ fold (bag_after n) (bag_of r n) 
 abbrev Silent : Journal → Type 0
 Silent journal = (n : Name) (bag : Bag) → fold (bag_after n) bag journal ≡ bag
 
-pub keeps_then : (r : Runtime) (did : Did) (next : Runtime → Did) → Keeps r did → ((s : Runtime) → Keeps s (next s)) → Keeps r (and_then did next)
-keeps_then r did next h k n = k did.0 n ∙ ap (λ bag. fold (bag_after n) bag (next did.0).1) (h n) ∙ sym (fold-append (bag_after n) (bag_of r n) did.1 (next did.0).1)
+pub keeps_then : (r : Runtime) (did : Did) (next : Runtime → Did) → Keeps r did → Keeps did.0 (next did.0) → Keeps r (and_then did next)
+keeps_then r did next h k n = k n ∙ ap (λ bag. fold (bag_after n) bag (next did.0).1) (h n) ∙ sym (fold-append (bag_after n) (bag_of r n) did.1 (next did.0).1)
 
 silent_then : (a b : Journal) → Silent a → Silent b → Silent (a ++ b)
 silent_then a b h k n bag = fold-append (bag_after n) bag a b ∙ k n (fold (bag_after n) bag a) ∙ h n bag
@@ -55,11 +46,11 @@ some_bag : (b : Bool) (bag : Bag) (o : Option Bag) → bag_or_empty (if b then S
 some_bag true bag o = refl
 some_bag false bag o = refl
 
-no_bag : (b : Bool) (o : Option Bag) → bag_or_empty (if b then None else o) ≡ (if b then [] else bag_or_empty o)
+pub no_bag : (b : Bool) (o : Option Bag) → bag_or_empty (if b then None else o) ≡ (if b then [] else bag_or_empty o)
 no_bag true o = refl
 no_bag false o = refl
 
-bag_put : (m : Name) (bag : Bag) (bags : List (Name × Bag)) (n : Name) → bag_or_empty (at (with_row m bag bags) n) ≡ (if same_name m n then bag else bag_or_empty (at bags n))
+pub bag_put : (m : Name) (bag : Bag) (bags : List (Name × Bag)) (n : Name) → bag_or_empty (at (with_row m bag bags) n) ≡ (if same_name m n then bag else bag_or_empty (at bags n))
 bag_put m bag bags n = ap bag_or_empty (at_with_row m bag bags n) ∙ some_bag (same_name m n) bag (at bags n)
 
 -- Handlers.
@@ -98,15 +89,11 @@ all_silent k m (entry ∷ entries) g s = all_silent k m entries (register_once e
 keeps_evaluated : (b : Birth) (e : Evaluated) (g : Registry) (r : Runtime) → Silent g.journal → Keeps r (make_evaluated b (bag_of r b.name) e g r)
 keeps_evaluated b e g r s n = bag_put b.name e.bag r.bags n ∙ sym (s n _)
 
-keeps_if : (b : Bool) (r : Runtime) (did other : Did) → Keeps r did → Keeps r other → Keeps r (if b then did else other)
-keeps_if true r did other h k = h
-keeps_if false r did other h k = k
-
 keeps_make : (language : Language) (b : Birth) (r : Runtime) → Keeps r (make language b r)
-keeps_make language b r = keeps_if (has_failed_link r.instances b.links) r (make_unrun b r) (make_run language b r) (λ n. refl)
+keeps_make language b r = by_make (Keeps r) language b r (λ n. refl)
     (keeps_evaluated b (evaluate language b r) (register_in b (evaluate language b r) r) r (all_silent b.number b.name (evaluate language b r).registered (record { handlers = []; shelf = r.shelf; journal = [] }) (λ n bag. refl)))
 
-bags_kept : IsKept Keeps
+pub bags_kept : IsKept Keeps
 bags_kept = record {
   nothing = λ r n. refl;
   after = keeps_then;
@@ -119,99 +106,32 @@ bags_kept = record {
   wrote = λ l r n. refl;
 }
 
+-- Messages.
+
+lines_silent : (journal : Journal) → AreLines journal → Silent journal
+lines_silent journal lines n bag = lines_by (λ told. fold (bag_after n) bag told ≡ bag) refl (λ l told same. same) journal lines
+
+pub keeps_quiet : (r : Runtime) (did : Did) → Quiet r did → Keeps r did
+keeps_quiet r did q n = ap (λ bags. bag_of (record r { bags = bags }) n) q.bags ∙ sym (lines_silent did.1 q.lines n (bag_of r n))
+
 module _ (language : Language) where
   keeps_apply : (p : Plan) (r : Runtime) → Keeps r (apply language p r)
-  keeps_apply p r = keeps_then r (before_finish Keeps bags_kept language p r) (finish p) (kept_applying Keeps bags_kept language p r) (λ s n. refl)
+  keeps_apply p r = keeps_then r (before_finish language p r) (finish p) (kept_applying Keeps bags_kept language p r) (λ n. refl)
 
   keeps_prune : (names : List Name) (r : Runtime) → Keeps r (prune language names r)
-  keeps_prune names r = keeps_then r (for_each (prune_instance language) (live_of (has names) r) r) (leave_page names) (kept_pruning Keeps bags_kept language names r) (λ s n. refl)
+  keeps_prune names r = keeps_then r (for_each (prune_instance language) (live_of (has names) r) r) (leave_page names) (kept_pruning Keeps bags_kept language names r) (λ n. refl)
 
-  -- Answers.
-
-  keeps_update : (replaced : List Name) (pairs : List (Name × Name)) (r : Runtime) → Keeps r (start_update replaced pairs r)
-  keeps_update replaced pairs r =
-      let first : Did = write (line.Update r.client (sorted replaced)) r in
-      let telling : Runtime → Did = for_each (λ pair s. write (accept_line s.client pair) s) pairs in
-      keeps_then r (and_then first telling) (λ s. nothing (begin Update replaced pairs s))
-      (keeps_then r first telling (λ n. refl) (kept_lines Keeps bags_kept (λ pair s. accept_line s.client pair) pairs))
-      (λ s n. refl)
-
-  keeps_stage : (o : Outcome) (p : Plan) (m : Name) (v : ℕ) (t : Text) (r : Runtime) → Keeps r (stage o p m v t r)
-  keeps_stage (Good a) p m v t r = λ n. refl
-  keeps_stage (Bad fault) p m v t r = λ n. refl
-
-  keeps_stage_in : (p : Option Plan) (m : Name) (v : ℕ) (t : Text) (r : Runtime) → Keeps r (stage_in p language m v t r)
-  keeps_stage_in None m v t r = λ n. refl
-  keeps_stage_in (Some p) m v t r = keeps_stage (language.transformed m t) p m v t r
-
-  keeps_apply_in : (p : Option Plan) (r : Runtime) → Keeps r (apply_in p language r)
-  keeps_apply_in None r = λ n. refl
-  keeps_apply_in (Some p) r = keeps_apply p r
-
-  keeps_cause : (cause : Option Cause) (r : Runtime) → Keeps r (write_cause cause r)
-  keeps_cause None r = λ n. refl
-  keeps_cause (Some cause) r = λ n. refl
-
-  keeps_abort_in : (p : Option Plan) (r : Runtime) → Keeps r (abort_in p language r)
-  keeps_abort_in None r = λ n. refl
-  keeps_abort_in (Some p) r = keeps_then r (write_cause (cause_by r.cause language p r) r) (λ s. nothing (record s { page = given_up s.page; texts = []; pairs = []; cause = None })) (keeps_cause (cause_by r.cause language p r) r) (λ s n. refl)
-
-  keeps_done : (asked : ClientMsg) (r : Runtime) → Keeps r (done asked language r)
-  keeps_done (request_is.Hello format) r = λ n. refl
-  keeps_done request_is.Ask r = λ n. refl
-  keeps_done (request_is.Fetch m) r = λ n. refl
-  keeps_done (request_is.Applied table) r = keeps_apply_in r.page.plan r
-  keeps_done (request_is.Aborted cause m from x) r = keeps_abort_in r.page.plan r
-  keeps_done (request_is.Invalidate m v message) r = λ n. refl
-  keeps_done request_is.Bye r = λ n. refl
-
-  keeps_refused : (asked : ClientMsg) (r : Runtime) → Keeps r (refused asked r)
-  keeps_refused (request_is.Hello format) r = λ n. refl
-  keeps_refused request_is.Ask r = λ n. refl
-  keeps_refused (request_is.Fetch m) r = λ n. refl
-  keeps_refused (request_is.Applied table) r = λ n. refl
-  keeps_refused (request_is.Aborted cause m from x) r = λ n. refl
-  keeps_refused (request_is.Invalidate m v message) r = λ n. refl
-  keeps_refused request_is.Bye r = λ n. refl
-
-  keeps_answered : (asked : ClientMsg) (m : ServerMsg) (r : Runtime) → Keeps r (answered language asked m r)
-  keeps_answered asked (msg.Connected client roots) r = λ n. refl
-  keeps_answered asked (msg.Update replaced updates) r = keeps_update replaced (map pair_of updates) r
-  keeps_answered asked (msg.Prune paths) r = keeps_prune paths r
-  keeps_answered asked (msg.FullReload cause path) r = λ n. refl
-  keeps_answered asked (msg.Error m row column word) r = λ n. refl
-  keeps_answered asked (msg.Broken m row column word) r = λ n. refl
-  keeps_answered asked msg.Idle r = λ n. refl
-  keeps_answered asked msg.Done r = keeps_done asked r
-  keeps_answered asked (msg.Text m v t) r = keeps_stage_in r.page.plan m v t r
-  keeps_answered asked (msg.Missing m) r = λ n. refl
-  keeps_answered asked (msg.NotYet m) r = λ n. refl
-  keeps_answered asked (msg.Refused number m told kept) r = keeps_refused asked r
-
-  -- Messages.
-
-  -- taking a message leaves each name the bag that what happened left
-  abbrev KeepsTaking : Runtime → Taking → Type 0
-  KeepsTaking r taking = Keeps r (taking.after, taking.journal)
-
-  taking_if : (b : Bool) (r : Runtime) (taking other : Taking) → KeepsTaking r taking → KeepsTaking r other → KeepsTaking r (if b then taking else other)
-  taking_if true r taking other h k = h
-  taking_if false r taking other h k = k
-
-  keeps_take : (r : Runtime) (m : ServerMsg) → KeepsTaking r (take language r m)
-  keeps_take r m =
-      let asked : ClientMsg = request language r in
-      let did : Taking = did_take (answered language asked m r) in
-      let not_answering : Taking = unchanged_by (unexpected (request_place asked) (answer_place m)) r in
-      let filled : Taking = if is_too_many asked m r then stop r else did in
-      taking_if r.stopped r (unchanged_by is_stopped r) (if not (is_answer r.page.loaded asked m) then not_answering else filled) (λ n. refl)
-      (taking_if (not (is_answer r.page.loaded asked m)) r not_answering filled (λ n. refl)
-      (taking_if (is_too_many asked m r) r (stop r) did (λ n. refl) (keeps_answered asked m r)))
+  bags_taken : IsTaken language Keeps
+  bags_taken = record {
+    quiet = keeps_quiet;
+    prunes = λ names r none loaded. keeps_prune names r;
+    applies = λ p r e due counted. keeps_apply p r;
+  }
 
   -- a client's bags are those that all that happened left
   pub bags_are : (shelf : List (Text × ℕ)) (past : List ServerMsg) (n : Name) → bag_of (runtime_after language shelf past) n ≡ bag_left (journal_of language shelf past) n
   bags_are shelf [] n = refl
-  bags_are shelf (m ∷ past) n = keeps_take (runtime_after language shelf past) m n
+  bags_are shelf (m ∷ past) n = take_does language Keeps bags_taken (runtime_after language shelf past) m n
       ∙ ap (λ bag. fold (bag_after n) bag (take language (runtime_after language shelf past) m).journal) (bags_are shelf past n)
       ∙ sym (fold-append (bag_after n) [] (journal_of language shelf past) (take language (runtime_after language shelf past) m).journal)
 

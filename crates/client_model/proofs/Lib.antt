@@ -1,4 +1,6 @@
 pub mod Walking
 pub mod Acts
+pub mod Needs
+pub mod Takes
 pub mod Bagging
 pub mod Staying

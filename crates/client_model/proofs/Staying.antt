@@ -1,10 +1,9 @@
 -- What a client does with its instances leaves its page, its roots and its number as they were.
-use Rattle.std.proofs.Common.{◌≡◌, Bool, true, false, refl, ◌∙◌}
-use Rattle.std.specs.Prelude.{if◌then◌else◌}
+use Rattle.std.proofs.Common.{◌≡◌, refl, ◌∙◌}
 use Rattle.client_model.specs.Language.{Language}
 use Rattle.client_model.specs.Runtime.{Runtime, Did, and_then}
-use Rattle.client_model.specs.Making.{Birth, make, make_run, make_unrun, has_failed_link}
-use Rattle.client_model.proofs.Acts.{IsKept}
+use Rattle.client_model.specs.Making.{Birth, make}
+use Rattle.client_model.proofs.Acts.{IsKept, by_make}
 
 pub record Stays (r : Runtime) (did : Did) : Type 0 where
   pub page : did.0.page ≡ r.page
@@ -12,15 +11,11 @@ pub record Stays (r : Runtime) (did : Did) : Type 0 where
   pub client : did.0.client ≡ r.client
   pub stopped : did.0.stopped ≡ r.stopped
 
-pub stays : (r : Runtime) (did : Did) (next : Runtime → Did) → Stays r did → ((s : Runtime) → Stays s (next s)) → Stays r (and_then did next)
-stays r did next h k = record { page = (k did.0).page ∙ h.page; roots = (k did.0).roots ∙ h.roots; client = (k did.0).client ∙ h.client; stopped = (k did.0).stopped ∙ h.stopped }
-
-stays_if : (b : Bool) (r : Runtime) (did other : Did) → Stays r did → Stays r other → Stays r (if b then did else other)
-stays_if true r did other h k = h
-stays_if false r did other h k = k
+pub stays : (r : Runtime) (did : Did) (next : Runtime → Did) → Stays r did → Stays did.0 (next did.0) → Stays r (and_then did next)
+stays r did next h k = record { page = k.page ∙ h.page; roots = k.roots ∙ h.roots; client = k.client ∙ h.client; stopped = k.stopped ∙ h.stopped }
 
 stays_made : (language : Language) (b : Birth) (r : Runtime) → Stays r (make language b r)
-stays_made language b r = stays_if (has_failed_link r.instances b.links) r (make_unrun b r) (make_run language b r)
+stays_made language b r = by_make (Stays r) language b r
     (record { page = refl; roots = refl; client = refl; stopped = refl })
     (record { page = refl; roots = refl; client = refl; stopped = refl })
 

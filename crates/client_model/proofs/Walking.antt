@@ -8,31 +8,14 @@ use Rattle.core_model.specs.Paths.{Reaches}
 use Rattle.core_model.specs.Rounds.{IsOver}
 use Rattle.core_model.specs.View.{View, imported_of}
 use Rattle.core_model.specs.Page.{Plan, plan_imports}
-use Rattle.core_model.proofs.Naming.{cases_bool, same_true, true_same, has_is, or_cases, or_left, or_right, has_append}
+use Rattle.core_model.proofs.Naming.{cases_bool, same_true, true_same, has_is, or_cases, or_left, or_right, has_append, has_more, more_left, more_last, more_cases}
 use Rattle.core_model.proofs.Reaching.{reaches_on, reaches_start, reaches_within}
 use Rattle.core_model.proofs.Planning.{plan_over}
 use Rattle.client_model.specs.Order.{Walked, met_too, left_too, visit, walk, depth_of, next_of, walked, fetch_order, evaluation_order}
 
--- one more name at the end
-has_more : (names : List Name) (n m : Name) → has (names ++ n ∷ []) m ≡ (has names m || (same_name n m || false))
-has_more names n m = has_append names (n ∷ []) m
-
-more_left : (names : List Name) (n m : Name) → has names m ≡ true → has (names ++ n ∷ []) m ≡ true
-more_left names n m h = has_more names n m ∙ or_left (has names m) _ h
-
-more_last : (names : List Name) (n : Name) → has (names ++ n ∷ []) n ≡ true
-more_last names n = has_more names n n ∙ or_right (has names n) _ (or_left (same_name n n) false (true_same n n refl))
-
 or_false : (b : Bool) → (b || false) ≡ true → b ≡ true
 or_false true h = h
 or_false false h = h
-
-more_cases : (names : List Name) (n m : Name) → has (names ++ n ∷ []) m ≡ true → (has names m ≡ true) ⊎ (n ≡ m)
-more_cases names n m h = by (or_cases (has names m) _ (sym (has_more names n m) ∙ h))
-  where
-    by : (has names m ≡ true) ⊎ ((same_name n m || false) ≡ true) → (has names m ≡ true) ⊎ (n ≡ m)
-    by (inl a) = inl a
-    by (inr b) = inr (same_true n m (or_false (same_name n m) b))
 
 -- What is met is reached.
 

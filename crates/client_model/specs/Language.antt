@@ -1,14 +1,17 @@
 -- What a client needs of the module language: five functions. Everything else here holds whatever
 -- they are.
-use Rattle.std.specs.Prelude.{ℕ, List, map, Option, Some, None}
+use Rattle.std.specs.Prelude.{◌≡◌, ℕ, true, List, map, Option, Some, None}
+use Rattle.std.specs.List.{list_all}
+use Rattle.hmr_types.specs.declared.analysis.Analysis.{Analysis}
 use Rattle.hmr_types.specs.declared.analysis.Outcome.{Outcome}
+use Rattle.hmr_types.specs.declared.analysis.Outcome.TheVariants.{Good}
 use Rattle.hmr_types.specs.declared.value.Value.{Value}
 use Rattle.hmr_types.specs.declared.value.Slot.{Slot}
 use Rattle.hmr_types.specs.declared.value.Slot.TheVariants.{Unset}
 use Rattle.hmr_types.specs.declared.value.EvalFault.{EvalFault}
 use Rattle.hmr_types.specs.declared.words.Kind.{Kind}
 use Rattle.hmr_types.specs.Syntax.{HandlerTree, OnceTree}
-use Rattle.core_model.specs.Names.{Name, at}
+use Rattle.core_model.specs.Names.{Name, has, at}
 use Rattle.core_model.specs.Sources.{Text}
 
 -- the data that a module keeps from instance to instance: its keys, in the order in which they came
@@ -73,3 +76,7 @@ pub record Language : Type 0 where
 -- each dependency with a name that is imported from it
 abbrev pub links_of : Language → Name → Text → List (Name × Name)
 links_of language n t = map (λ b. (b.dependency, b.exported)) (language.bindings n t)
+
+-- each binding of a module's text is from one of the module's imports
+abbrev pub BindsImports : Language → Type 0
+BindsImports language = (n : Name) (t : Text) (a : Analysis) → language.transformed n t ≡ Good a → list_all (λ b. has a.imports b.dependency) (language.bindings n t) ≡ true

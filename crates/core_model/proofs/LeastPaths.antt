@@ -16,7 +16,7 @@ use Rattle.core_model.specs.Names.{Name, same_name, has}
 use Rattle.core_model.specs.Paths.{Leads, IsPath, Reaches}
 use Rattle.core_model.specs.Rounds.{touched, on_new, rounds, IsOver}
 use Rattle.core_model.specs.LeastPath.{path_cmp, NotAfter, AtMost, IsLeastPath, lesser, least, least_from, or_next, shortest, least_path_of}
-use Rattle.core_model.proofs.Naming.{same_true, has_is, filtered_has, both_true, and_both, or_cases, or_right, has_append, any_is, Found}
+use Rattle.core_model.proofs.Naming.{same_true, has_is, filtered_has, both_true, and_both, or_cases, has_append, any_is, Found, head_has, tail_has}
 use Rattle.core_model.proofs.Reaching.{path_on, rounds_are}
 
 paths_total : IsTotalOrder path_cmp
@@ -114,17 +114,11 @@ some_weaker : (P Q : List Name → Type 0) (o : Option (List Name)) → ((p : Li
 some_weaker P Q None f h = tt
 some_weaker P Q (Some p) f h = f p h
 
-head_there : (n : Name) (ns : List Name) → has (n ∷ ns) n ≡ true
-head_there n ns = (has_is (n ∷ ns) n).0 (0, omega arith, refl)
-
-tail_there : (n : Name) (ns : List Name) (m : Name) → has ns m ≡ true → has (n ∷ ns) m ≡ true
-tail_there n ns m h = or_right (same_name n m) (has ns m) h
-
 some_least : (edge : Name → Name → Bool) (bad : Name → Bool) (k : ℕ) (f : Name → Option (List Name)) → ((n : Name) → IfSome (f n) (IsFrom edge bad k n)) → (ns : List Name) → IfSome (least f ns) (IsFromOne edge bad k ns)
 some_least edge bad k f each [] = tt
 some_least edge bad k f each (n ∷ ns) = some_lesser (IsFromOne edge bad k (n ∷ ns)) (f n) (least f ns)
-    (some_weaker _ _ (f n) (λ p h. record { first = n; there = head_there n ns; is = h }) (each n))
-    (some_weaker (IsFromOne edge bad k ns) _ (least f ns) (λ p h. record { first = h.first; there = tail_there n ns h.first h.there; is = h.is }) (some_least edge bad k f each ns))
+    (some_weaker _ _ (f n) (λ p h. record { first = n; there = head_has n ns; is = h }) (each n))
+    (some_weaker (IsFromOne edge bad k ns) _ (least f ns) (λ p h. record { first = h.first; there = tail_has n ns h.first h.there; is = h.is }) (some_least edge bad k f each ns))
 
 from_more : (edge : Name → Name → Bool) (names : List Name) (bad : Name → Bool) (k : ℕ) (n : Name) (p : List Name) → IsFromOne edge bad k (filter (edge n) names) p → IsFrom edge bad (suc k) n (n ∷ p)
 from_more edge names bad k n p h = record {

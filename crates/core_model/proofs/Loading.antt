@@ -11,7 +11,7 @@ use Rattle.core_model.proofs.Naming.{sorted_has}
 use Rattle.core_model.proofs.Reaching.{rounds_are}
 use Rattle.core_model.proofs.Tables.{listed_in, listed_over, at_collect}
 
-imports_listed : (o : Option Serving) (m : Name) → has (imports_in o) m ≡ true → has (listed_in (λ (s : Serving). s.analysis.imports) o) m ≡ true
+pub imports_listed : (o : Option Serving) (m : Name) → has (imports_in o) m ≡ true → has (listed_in (λ (s : Serving). s.analysis.imports) o) m ≡ true
 imports_listed None m h = h
 imports_listed (Some s) m h = h
 

@@ -1,6 +1,6 @@
 -- Names in lists: the test for a name, and what filters, joins and sorting keep.
 use Rattle.std.proofs.Common.{◌≡◌, ◌↔◌, ◌⊎◌, inl, inr, suc, Bool, true, false, List, [], ◌∷◌, ◌++◌, refl, ap, sym, ◌∙◌, arith, Contains}
-use Rattle.std.specs.Prelude.{filter, ◌&&◌, ◌||◌, not, if◌then◌else◌}
+use Rattle.std.specs.Prelude.{filter, ◌&&◌, ◌||◌, not, if◌then◌else◌, Some, None, is_some}
 use Rattle.std.specs.List.{list_any}
 use Rattle.std.specs.Cmp.{IsEquivalence}
 use Rattle.std.specs.Cmp.Lexicographic.{slice_cmp, bytes_decides}
@@ -9,8 +9,9 @@ use Rattle.std.proofs.Math.Bool.{or_assoc}
 use Rattle.std.proofs.lemmas.Bool.{false≢true}
 use Rattle.std.proofs.lemmas.Cmp.{nat_list_eq_equiv}
 use Rattle.std.proofs.lemmas.Map.Views.{any-filter_same, Contains-from_any, list_any-from_Contains}
+use Rattle.std.proofs.lemmas.Option.{same_Some}
 use Prim.{⊥}
-use Rattle.core_model.specs.Names.{Name, same_name, has, put_name, sorted}
+use Rattle.core_model.specs.Names.{Name, same_name, has, put_name, sorted, first_of}
 
 pub cases_bool : (b : Bool) → (b ≡ true) ⊎ (b ≡ false)
 cases_bool true = inl refl
@@ -46,6 +47,22 @@ pub not_from : (b : Bool) → (b ≡ true → ⊥) → not b ≡ true
 not_from true f = absurd (f refl)
 not_from false f = refl
 
+pub true_from : (b : Bool) → (not b ≡ true → ⊥) → b ≡ true
+true_from true f = refl
+true_from false f = absurd (f refl)
+
+pub false_from : (b : Bool) → (b ≡ true → ⊥) → b ≡ false
+false_from true f = absurd (f refl)
+false_from false f = refl
+
+pub neither : (a b : Bool) → (a || b) ≡ false → (a ≡ false) × (b ≡ false)
+neither true b h = absurd (false≢true (sym h))
+neither false b h = (refl, h)
+
+pub and_last : (a b : Bool) → b ≡ false → (a && b) ≡ false
+and_last true b h = h
+and_last false b h = refl
+
 -- two tests that hold together are equal
 pub same_test : (a b : Bool) → (a ≡ true → b ≡ true) → (b ≡ true → a ≡ true) → a ≡ b
 same_test true b f g = sym (f refl)
@@ -59,7 +76,7 @@ same_true n m h = (bytes_decides n m).0 h
 pub true_same : (n m : Name) → n ≡ m → same_name n m ≡ true
 true_same n m e = (bytes_decides n m).1 e
 
-turned_equiv : IsEquivalence {K = Name} (λ a b. same_name b a)
+pub turned_equiv : IsEquivalence {K = Name} (λ a b. same_name b a)
 turned_equiv = record { refl = nat_list_eq_equiv.refl; symm = λ x y. nat_list_eq_equiv.symm y x; congr = λ x y z e. nat_list_eq_equiv.symm z x ∙ nat_list_eq_equiv.congr x y z (nat_list_eq_equiv.symm x y ∙ e) ∙ nat_list_eq_equiv.symm y z }
 
 -- the test for a name in a list
@@ -78,6 +95,55 @@ filtered_from p names m h = both_true (p m) (has names m) (sym (filtered_has p n
 pub has_append : (xs ys : List Name) (m : Name) → has (xs ++ ys) m ≡ (has xs m || has ys m)
 has_append [] ys m = refl
 has_append (x ∷ xs) ys m = ap (λ b. same_name x m || b) (has_append xs ys m) ∙ sym (or_assoc (same_name x m) (has xs m) (has ys m))
+
+-- The first name, and one more at the end.
+
+pub head_has : (n : Name) (names : List Name) → has (n ∷ names) n ≡ true
+head_has n names = or_left (same_name n n) (has names n) (true_same n n refl)
+
+pub tail_has : (n : Name) (names : List Name) (m : Name) → has names m ≡ true → has (n ∷ names) m ≡ true
+tail_has n names m h = or_right (same_name n m) (has names m) h
+
+pub has_cases : (n : Name) (names : List Name) (m : Name) → has (n ∷ names) m ≡ true → (n ≡ m) ⊎ (has names m ≡ true)
+has_cases n names m h = by (or_cases (same_name n m) (has names m) h)
+  where
+    by : (same_name n m ≡ true) ⊎ (has names m ≡ true) → (n ≡ m) ⊎ (has names m ≡ true)
+    by (inl s) = inl (same_true n m s)
+    by (inr t) = inr t
+
+pub no_names : (names : List Name) → ((n : Name) → has names n ≡ true → ⊥) → names ≡ []
+no_names [] f = refl
+no_names (n ∷ names) f = absurd (f n (head_has n names))
+
+pub first_has : (names : List Name) (n : Name) → first_of names ≡ Some n → has names n ≡ true
+first_has [] n e = absurd (false≢true (ap is_some e))
+first_has (m ∷ names) n e = or_left (same_name m n) _ (true_same m n (same_Some m n e))
+
+pub none_first : (names : List Name) → first_of names ≡ None → names ≡ []
+none_first [] e = refl
+none_first (n ∷ names) e = absurd (false≢true (sym (ap is_some e)))
+
+pub has_more : (names : List Name) (n m : Name) → has (names ++ n ∷ []) m ≡ (has names m || (same_name n m || false))
+has_more names n m = has_append names (n ∷ []) m
+
+pub more_left : (names : List Name) (n m : Name) → has names m ≡ true → has (names ++ n ∷ []) m ≡ true
+more_left names n m h = has_more names n m ∙ or_left (has names m) _ h
+
+pub more_last : (names : List Name) (n : Name) → has (names ++ n ∷ []) n ≡ true
+more_last names n = has_more names n n ∙ or_right (has names n) _ (head_has n [])
+
+pub more_cases : (names : List Name) (n m : Name) → has (names ++ n ∷ []) m ≡ true → (has names m ≡ true) ⊎ (n ≡ m)
+more_cases names n m h = by (or_cases (has names m) _ (sym (has_more names n m) ∙ h))
+  where
+    by_last : (n ≡ m) ⊎ (has [] m ≡ true) → (has names m ≡ true) ⊎ (n ≡ m)
+    by_last (inl e) = inr e
+    by_last (inr t) = absurd (false≢true t)
+
+    by : (has names m ≡ true) ⊎ (has (n ∷ []) m ≡ true) → (has names m ≡ true) ⊎ (n ≡ m)
+    by (inl a) = inl a
+    by (inr b) = by_last (has_cases n [] m b)
+
+-- A name that passes a test.
 
 or_go : (a b c d : Bool) → (a ≡ true → c ≡ true) → (b ≡ true → d ≡ true) → (a || b) ≡ true → (c || d) ≡ true
 or_go a b true d f g h = refl

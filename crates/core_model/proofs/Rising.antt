@@ -13,12 +13,12 @@ use Rattle.core_model.specs.Names.{Name, same_name, put_name, sorted, names_of, 
 use Rattle.core_model.specs.View.{View, table_of}
 use Rattle.core_model.proofs.Naming.{true_same, both_true, and_both}
 
-less_is : (o : Ordering) → is_lt o ≡ true → o ≡ Less
+pub less_is : (o : Ordering) → is_lt o ≡ true → o ≡ Less
 less_is Less h = refl
 less_is Equal h = absurd (false≢true h)
 less_is Greater h = absurd (false≢true h)
 
-through : (n m k : Name) → is_lt (slice_cmp nat_cmp n m) ≡ true → is_lt (slice_cmp nat_cmp m k) ≡ true → is_lt (slice_cmp nat_cmp n k) ≡ true
+pub through : (n m k : Name) → is_lt (slice_cmp nat_cmp n m) ≡ true → is_lt (slice_cmp nat_cmp m k) ≡ true → is_lt (slice_cmp nat_cmp n k) ≡ true
 through n m k h g = ap is_lt (nat_list_cmp_total.trans n m k (less_is (slice_cmp nat_cmp n m) h) (less_is (slice_cmp nat_cmp m k) g))
 
 other_way : (o : Ordering) → is_lt o ≡ false → (o ≡ Equal → false ≡ true) → is_lt (ordering_reverse o) ≡ true
@@ -53,8 +53,12 @@ pub sorted_rises : (names : List Name) → rising (sorted names) ≡ true
 sorted_rises [] = refl
 sorted_rises (n ∷ names) = put_rises n (sorted names) (sorted_rises names)
 
+pub tail_rises : (m : Name) (names : List Name) → rising (m ∷ names) ≡ true → rising names ≡ true
+tail_rises m [] r = refl
+tail_rises m (n ∷ names) r = (both_true (is_lt (slice_cmp nat_cmp m n)) _ r).1
+
 -- a name left out
-left_out : (k m : Name) (names : List Name) → rising (k ∷ (m ∷ names)) ≡ true → rising (k ∷ names) ≡ true
+pub left_out : (k m : Name) (names : List Name) → rising (k ∷ (m ∷ names)) ≡ true → rising (k ∷ names) ≡ true
 left_out k m [] r = refl
 left_out k m (j ∷ names) r =
     let first = both_true (is_lt (slice_cmp nat_cmp k m)) _ r in
@@ -69,10 +73,6 @@ module _ {X : Type 0} (get : Name → Option X) where
   collect_behind : (k : Name) (names : List Name) → rising (k ∷ names) ≡ true → rising (k ∷ names_of (collect get names)) ≡ true
   collect_behind k [] r = refl
   collect_behind k (m ∷ names) r = entry_behind k m (get m) names (collect get names) (both_true (is_lt (slice_cmp nat_cmp k m)) _ r).0 (collect_behind k names (left_out k m names r)) (collect_behind m names (both_true (is_lt (slice_cmp nat_cmp k m)) _ r).1)
-
-  tail_rises : (m : Name) (names : List Name) → rising (m ∷ names) ≡ true → rising names ≡ true
-  tail_rises m [] r = refl
-  tail_rises m (n ∷ names) r = (both_true (is_lt (slice_cmp nat_cmp m n)) _ r).1
 
   entry_first : (m : Name) (o : Option X) (rows : List (Name × X)) → rising (names_of rows) ≡ true → rising (m ∷ names_of rows) ≡ true → rising (names_of (with_entry m o rows)) ≡ true
   entry_first m None rows h g = h

@@ -13,20 +13,12 @@ use Rattle.core_model.specs.Page.{Plan}
 use Rattle.core_model.specs.Client.{Client, is_held, changed, dropped, reason, replaced, pairs, with_name, first_notice}
 use Rattle.core_model.specs.Asking.{AskRow, out_of_turn, tell, load, idle, prune, reload, update, row_replaced, row_reason, row_held, row_dropped, row_loaded, row_notice, row_plan, ask_row}
 use Rattle.core_model.specs.Sent.{IsReloadSent}
-use Rattle.core_model.proofs.Naming.{true_same, or_left, sorted_has}
+use Rattle.core_model.proofs.Naming.{true_same, or_left, sorted_has, first_has}
 use Rattle.core_model.proofs.Tables.{named}
 use Rattle.core_model.proofs.LeastPaths.{one_least}
 use Rattle.core_model.proofs.Spreading.{reason_is}
 
 -- Notices.
-
-abbrev or_self : Name → Option Name → Name
-or_self d None = d
-or_self d (Some k) = k
-
-first_there : (names : List Name) (n : Name) → first_of names ≡ Some n → has names n ≡ true
-first_there [] n e = absurd (false≢true (ap is_some e))
-first_there (m ∷ names) n e = or_left (same_name m n) _ (true_same m n (ap (or_self m) e))
 
 none_there : (names : List Name) (m : Name) → first_of names ≡ None → has names m ≡ false
 none_there [] m e = refl
@@ -38,7 +30,7 @@ named_fault n (Some f) h = refl
 
 notice_by : (notices : List (Name × TextFault)) (o : Option Name) → first_of (sorted (names_of notices)) ≡ o → (m : Name) → has (names_of notices) m ≡ true → is_some (option_and_then (λ n. with_name n (at notices n)) o) ≡ true
 notice_by notices None e m h = absurd (false≢true (sym (none_there (sorted (names_of notices)) m e) ∙ sorted_has (names_of notices) m ∙ h))
-notice_by notices (Some n) e m h = named_fault n (at notices n) (named notices n ∙ sym (sorted_has (names_of notices) n) ∙ first_there (sorted (names_of notices)) n e)
+notice_by notices (Some n) e m h = named_fault n (at notices n) (named notices n ∙ sym (sorted_has (names_of notices) n) ∙ first_has (sorted (names_of notices)) n e)
 
 some_notice : (row : Name × TextFault) (rows : List (Name × TextFault)) → is_some (option_and_then (λ n. with_name n (at (row ∷ rows) n)) (first_of (sorted (names_of (row ∷ rows))))) ≡ true
 some_notice row rows = notice_by (row ∷ rows) (first_of (sorted (names_of (row ∷ rows)))) refl row.0 (or_left (same_name row.0 row.0) _ (true_same row.0 row.0 refl))

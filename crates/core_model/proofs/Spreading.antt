@@ -28,7 +28,7 @@ not_empty edge starts [] m p = absurd p
 not_empty edge starts (n ∷ rest) m p = omega arith
 
 module _ (view : View) (changed forced : List Name) where
-  passed_from : (m : Name) → ReachedBy (passes view forced) (changed ++ forced) m → IsPassedTo view changed forced m
+  pub passed_from : (m : Name) → ReachedBy (passes view forced) (changed ++ forced) m → IsPassedTo view changed forced m
   passed_from m b = record { path = b.reached.path ++ m ∷ []; is = path_on (passes view forced) (changed ++ forced) b.reached.path b.from m b.reached.is b.by; long = omega (arith, not_empty (passes view forced) (changed ++ forced) b.reached.path b.from b.reached.is, length-append b.reached.path (m ∷ [])) }
 
   passed_back : (m : Name) → IsPassedTo view changed forced m → ReachedBy (passes view forced) (changed ++ forced) m

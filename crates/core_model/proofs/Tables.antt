@@ -1,12 +1,12 @@
 -- Looking up in lists of entries by name.
 use Rattle.std.proofs.Common.{◌≡◌, Bool, true, false, List, [], ◌∷◌, ◌++◌, refl, ap, sym, ◌∙◌}
 use Rattle.std.specs.Prelude.{flat_map, cond, not, ◌||◌, Option, Some, None, is_some, if◌then◌else◌}
-use Rattle.core_model.specs.Names.{Name, same_name, has, at, without, with_row, names_of, with_entry, collect}
-use Rattle.core_model.proofs.Naming.{same_true, true_same, has_append, or_left, or_right}
 use Rattle.std.proofs.lemmas.Bool.{false≢true}
+use Rattle.core_model.specs.Names.{Name, same_name, has, at, without, with_row, names_of, with_entry, collect}
+use Rattle.core_model.proofs.Naming.{same_test, same_true, true_same, has_append, or_left, or_right}
 
 module _ {X : Type 0} where
-  both_ways : (b : Bool) (x : Option X) → x ≡ (if b then x else x)
+  pub both_ways : (b : Bool) (x : Option X) → x ≡ (if b then x else x)
   both_ways true x = refl
   both_ways false x = refl
 
@@ -56,14 +56,16 @@ module _ {X : Type 0} where
   pub lister_named : (get : X → List Name) (rows : List (Name × X)) (n m : Name) → has (listed_in get (at rows n)) m ≡ true → has (names_of rows) n ≡ true
   lister_named get rows n m h = sym (named rows n) ∙ lister_step get (at rows n) m h
 
-  without_step : (a b c : Bool) (x : X) (more : Option X) (rest : Option X) → (a ≡ true → b ≡ c) → (a ≡ false → c ≡ true → b ≡ false) → rest ≡ (if b then None else more) → (if not a then (if c then Some x else rest) else rest) ≡ (if b then None else (if c then Some x else more))
-  without_step true true c x more rest f g h = h
-  without_step true false c x more rest f g h = h ∙ ap (λ d. if d then Some x else more) (f refl)
-  without_step false b false x more rest f g h = h
-  without_step false true true x more rest f g h = absurd (false≢true (sym (g refl refl)))
-  without_step false false true x more rest f g h = refl
+  -- a row that is left out, or not, and the first of its name, or not
+  pub without_step : (a c b : Bool) (x : X) (more rest : Option X) → (c ≡ true → a ≡ b) → rest ≡ (if b then None else more) → (if not a then (if c then Some x else rest) else rest) ≡ (if b then None else (if c then Some x else more))
+  without_step true false b x more rest e h = h
+  without_step false false b x more rest e h = h
+  without_step true true true x more rest e h = h
+  without_step true true false x more rest e h = absurd (false≢true (sym (e refl)))
+  without_step false true true x more rest e h = absurd (false≢true (e refl))
+  without_step false true false x more rest e h = refl
 
-  filtered_row : (keep : Bool) (row : Name × X) (rows : List (Name × X)) (m : Name) → at (cond keep (row ∷ rows) rows) m ≡ (if keep then (if same_name row.0 m then Some row.1 else at rows m) else at rows m)
+  pub filtered_row : (keep : Bool) (row : Name × X) (rows : List (Name × X)) (m : Name) → at (cond keep (row ∷ rows) rows) m ≡ (if keep then (if same_name row.0 m then Some row.1 else at rows m) else at rows m)
   filtered_row true row rows m = refl
   filtered_row false row rows m = refl
 
@@ -71,16 +73,12 @@ module _ {X : Type 0} where
   pub at_without : (n : Name) (rows : List (Name × X)) (m : Name) → at (without n rows) m ≡ (if same_name n m then None else at rows m)
   at_without n [] m = both_ways (same_name n m) None
   at_without n (row ∷ rows) m = filtered_row (not (same_name row.0 n)) row (without n rows) m
-      ∙ without_step (same_name row.0 n) (same_name n m) (same_name row.0 m) row.1 (at rows m) (at (without n rows) m)
-      (λ e. ap (λ k. same_name k m) (sym (same_true row.0 n e)))
-      (λ e f. apart (same_name n m) e (ap (λ k. same_name k n) (same_true row.0 m f)) (λ g. ap (λ k. same_name m k) (same_true n m g) ∙ true_same m m refl))
-      (at_without n rows m)
+      ∙ without_step (same_name row.0 n) (same_name row.0 m) (same_name n m) row.1 (at rows m) (at (without n rows) m) (λ e. ap (λ k. same_name k n) (same_true row.0 m e) ∙ either_way m n) (at_without n rows m)
     where
-      apart : (b : Bool) {c d : Bool} → c ≡ false → c ≡ d → (b ≡ true → d ≡ true) → b ≡ false
-      apart true e f g = absurd (false≢true (sym e ∙ f ∙ g refl))
-      apart false e f g = refl
+      either_way : (k j : Name) → same_name k j ≡ same_name j k
+      either_way k j = same_test _ _ (λ h. true_same j k (sym (same_true k j h))) (λ h. true_same k j (sym (same_true j k h)))
 
-  row_step : (b : Bool) (x : X) (o : Option X) → (if b then Some x else (if b then None else o)) ≡ (if b then Some x else o)
+  pub row_step : (b : Bool) (x : X) (o : Option X) → (if b then Some x else (if b then None else o)) ≡ (if b then Some x else o)
   row_step true x o = refl
   row_step false x o = refl
 

@@ -14,7 +14,7 @@ use Rattle.core_model.specs.declared.message.ServerMsg.{ServerMsg}
 use Rattle.core_model.specs.declared.message.ServerMsg.TheVariants as msg
 use Rattle.core_model.specs.declared.message.AbortCause.{AbortCause}
 use Rattle.core_model.specs.declared.message.AbortCause.TheVariants as abort
-use Rattle.core_model.specs.Names.{Name, same_name, has, at, names_of, sorted, first_of}
+use Rattle.core_model.specs.Names.{Name, has, at, names_of, sorted}
 use Rattle.core_model.specs.Sources.{Sources, Source, Serving, Verdict, outstanding, good, bad}
 use Rattle.core_model.specs.View.{table_of}
 use Rattle.core_model.specs.Page.{Plan, Page, entry_at, met_of, unfetched_of, new_view, staged, applied, given_up, forced_too, pruned}
@@ -24,7 +24,7 @@ use Rattle.core_model.specs.Requests as core
 use Rattle.core_model.specs.Requests.{Request, ask_reply, FetchRow, text, not_yet, broken, missing, row_verdict, row_source, row_served, fetch_row, fetched, fetch_reply, applied_row, row_differing, row_unfetched, AppliedRow, done, differing, version_at, heard, is_at_version, invalidated, invalidate_reply, after_applied, applied_reply, fetched_in, applied_in, aborted_in, invalidated_in}
 use Rattle.core_model.specs.Core.{request}
 use Rattle.core_model.specs.Exchange.{event_of, message_of}
-use Rattle.core_model.proofs.Naming.{true_same, filtered_from, filtered_in, sorted_has, or_left}
+use Rattle.core_model.proofs.Naming.{true_same, filtered_from, filtered_in, sorted_has, no_names, none_first}
 use Rattle.client_model.specs.Language.{Language}
 use Rattle.client_model.specs.Runtime as causes
 use Rattle.client_model.specs.Runtime.{Runtime, Cause, Invalidation, Did, and_then, for_each, write}
@@ -119,7 +119,7 @@ ask_matches language s c r e (prune ns) h =
 ask_matches language s c r e (reload path) h = record { answers = h; page_is = ap (λ (p : Page). record p { plan = Some (record { kind = Reload; replaced = []; staged = [] }) }) (sym e); roots = refl; number = refl; running = refl }
 ask_matches language s c r e (update ns ps) h =
     let told_pairs : List (Name × Name) = map client.pair_of (map (js_update s) ps) in
-    let k : Stays r (for_each (λ pair t. write (accept_line t.client pair) t) told_pairs r) = kept_lines Stays page_kept (λ pair t. accept_line t.client pair) told_pairs r in
+    let k : Stays r (for_each (λ pair t. write (accept_line t.client pair) t) told_pairs r) = kept_lines Stays page_kept language (λ pair t. accept_line t.client pair) told_pairs r in
     record { answers = h; page_is = ap (λ (p : Page). record p { plan = Some (record { kind = Update; replaced = ns; staged = [] }) }) (k.page ∙ sym e); roots = k.roots; number = k.client; running = k.stopped }
 
 -- A Fetch.
@@ -166,14 +166,6 @@ none_passes : (p : Name → Bool) → ((n : Name) → p n ≡ false) → (names 
 none_passes p f [] = refl
 none_passes p f (n ∷ names) = ap (λ b. cond b (n ∷ filter p names) (filter p names)) (f n) ∙ none_passes p f names
 
-no_names : (names : List Name) → ((m : Name) → has names m ≡ true → ⊥) → names ≡ []
-no_names [] f = refl
-no_names (n ∷ names) f = absurd (f n (or_left (same_name n n) _ (true_same n n refl)))
-
-none_first : (names : List Name) → first_of names ≡ None → names ≡ []
-none_first [] e = refl
-none_first (n ∷ names) e = absurd (false≢true (sym (ap is_some e)))
-
 -- where nothing is needed any more, nothing is unfetched
 all_fetched : (p : Plan) (r : Runtime) → next_needed p r ≡ None → unfetched_of r.roots p r.page.view ≡ []
 all_fetched p r e = no_names (unfetched_of r.roots p r.page.view) (λ m h.
@@ -194,10 +186,10 @@ applied_by language p r P e h = subst (λ q. P (apply_in q language r)) (sym e) 
 
 applied_matches : (language : Language) (p : Plan) (table : List (Name × ℕ)) (c : Client) (r : Runtime) → c.page ≡ r.page → r.page.plan ≡ Some p → (row : AppliedRow) → row ≡ done → Matches language r (told.Applied table) (message_of (applied_reply row)) (after_applied row r.roots p c).page
 applied_matches language p table c r e plan_is row is_done = subst (λ w. Matches language r (told.Applied table) (message_of (applied_reply w)) (after_applied w r.roots p c).page) (sym is_done)
-    (let k : Stays r (before_finish Stays page_kept language p r) = kept_applying Stays page_kept language p r in
+    (let k : Stays r (before_finish language p r) = kept_applying Stays page_kept language p r in
     record {
       answers = refl;
-      page_is = applied_by language p r (λ did. did.0.page ≡ applied r.roots p c.page) plan_is (ap (λ roots. applied roots p (before_finish Stays page_kept language p r).0.page) k.roots ∙ ap (applied r.roots p) (k.page ∙ sym e));
+      page_is = applied_by language p r (λ did. did.0.page ≡ applied r.roots p c.page) plan_is (ap (λ roots. applied roots p (before_finish language p r).0.page) k.roots ∙ ap (applied r.roots p) (k.page ∙ sym e));
       roots = applied_by language p r (λ did. did.0.roots ≡ r.roots) plan_is k.roots;
       number = applied_by language p r (λ did. did.0.client ≡ r.client) plan_is k.client;
       running = applied_by language p r (λ did. did.0.stopped ≡ r.stopped) plan_is k.stopped;
@@ -205,7 +197,7 @@ applied_matches language p table c r e plan_is row is_done = subst (λ w. Matche
 
 -- An Aborted.
 
-write_same : (cause : Option Cause) (r : Runtime) → (write_cause cause r).0 ≡ r
+pub write_same : (cause : Option Cause) (r : Runtime) → (write_cause cause r).0 ≡ r
 write_same None r = refl
 write_same (Some cause) r = refl
 

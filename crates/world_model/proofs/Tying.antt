@@ -12,13 +12,14 @@ use Rattle.core_model.specs.Sources.{Text, Sources, Serving, Change, edit, resul
 use Rattle.core_model.specs.Sources as sources
 use Rattle.core_model.specs.Page.{Page}
 use Rattle.hmr_types.specs.declared.out_line.OutLine.{OutLine}
-use Rattle.core_model.specs.Client.{Client, new_client, told_of_edit, told_of_result}
+use Rattle.core_model.specs.Client.{Client, new_client}
 use Rattle.core_model.specs.Requests.{Request, Reply, heard}
 use Rattle.core_model.specs.Core.{Core, client_at, with_client, without_client, told_of, after_change, is_full, connected, requested, disconnected, step}
 use Rattle.core_model.specs.Exchange.{event_of, message_of}
 use Rattle.core_model.proofs.Clients.{at_with, at_without, at_each}
 use Rattle.core_model.proofs.Tables as tables
 use Rattle.core_model.proofs.Naming.{same_true}
+use Rattle.core_model.proofs.Replaying.{change_stays}
 use Rattle.client_model.specs.Language.{Language}
 use Rattle.client_model.specs.Runtime.{Runtime}
 use Rattle.client_model.specs.Requesting as requesting
@@ -55,28 +56,13 @@ result_right language false o n t v s e h m = h m
 
 -- Edits and results leave each page as it was.
 
-told_edit_page : (answer : EditAnswer) (n : Name) (c : Client) → (told_of_edit answer n c).page ≡ c.page
-told_edit_page (job v) n c = refl
-told_edit_page same n c = refl
-told_edit_page (removed v) n c = refl
-told_edit_page (sources.refused word) n c = refl
-
-told_result_page : (answer : ResultAnswer) (n : Name) (c : Client) → (told_of_result answer n c).page ≡ c.page
-told_result_page (serve a) n c = refl
-told_result_page (refuse fault) n c = refl
-told_result_page late n c = refl
-
-told_page : (s : Sources) (ch : Change) (c : Client) → (told_of s ch c).page ≡ c.page
-told_page s (edit n t) c = told_edit_page (edit_answer s n t) n c
-told_page s (result n t o v) c = told_result_page (result_answer s n t o v) n c
-
 tied_told : (roots : List Name) (i : ℕ) (f : Client → Client) → ((c : Client) → (f c).page ≡ c.page) → (c : Option Client) (r : Option Runtime) → TiedAt roots i c r → TiedAt roots i (option_map f c) r
 tied_told roots i f same_page c None h = tt
 tied_told roots i f same_page None (Some r) h = h
 tied_told roots i f same_page (Some c) (Some r) h = record { page = h.page ∙ sym (same_page c); roots_are = h.roots_are; number = h.number; counted = h.counted; running = h.running }
 
 change_tied : (roots : List Name) (core : Core) (clients : List (ℕ × Runtime)) (ch : Change) → ((i : ℕ) → TiedAt roots i (client_at core.clients i) (client_at clients i)) → (i : ℕ) → TiedAt roots i (client_at (after_change core ch).clients i) (client_at clients i)
-change_tied roots core clients ch h i = subst (λ c. TiedAt roots i c (client_at clients i)) (sym (at_each (told_of core.sources ch) core.clients i)) (tied_told roots i (told_of core.sources ch) (told_page core.sources ch) (client_at core.clients i) (client_at clients i) (h i))
+change_tied roots core clients ch h i = subst (λ c. TiedAt roots i c (client_at clients i)) (sym (at_each (told_of core.sources ch) core.clients i)) (tied_told roots i (told_of core.sources ch) (change_stays core.sources ch) (client_at core.clients i) (client_at clients i) (h i))
 
 -- One client in each table.
 

@@ -1,0 +1,6 @@
+pub mod Binding
+pub mod Linking
+pub mod Leaving
+pub mod Texts
+pub mod Reading
+pub mod Keeping

@@ -1,0 +1,2 @@
+pub mod ModuleLanguage
+pub mod Examples
