@@ -12,7 +12,7 @@ use Rattle.core_model.specs.FreshLoad.{Served}
 use Rattle.core_model.specs.View.{View, Entry, is_in, imports_of, accepted_of, accepts_itself, is_declining, imports, accepts, self_accepts, declines, dropped_of}
 use Rattle.core_model.specs.Spread.{passes, ends_badly, IsReloadWanted, replaced_of}
 use Rattle.core_model.specs.Page.{kept_or_staged, entry_at, plan_imports, met_of, new_entry}
-use Rattle.core_model.proofs.Naming.{has_is, same_true, true_same, cases_bool, both_true, or_cases, or_left, or_right, has_append}
+use Rattle.core_model.proofs.Naming.{has_is, same_true, true_same, cases_bool, both_true, or_cases, or_left, or_right, has_append, neither}
 use Rattle.core_model.proofs.Reaching.{reaches_within, reaches_on, reaches_start}
 use Rattle.core_model.proofs.Tables.{named}
 use Rattle.core_model.proofs.Views.{importer_named}
@@ -176,10 +176,6 @@ record IsLast (roots : List Name) (view : View) (names : List Name) : Type 0 whe
   root : has roots end ≡ true
   badly : ends_badly view roots [] end ≡ true
 
-or_none : (a b : Bool) → (a || b) ≡ false → (a ≡ false) × (b ≡ false)
-or_none false b h = (refl, h)
-or_none true b h = absurd (false≢true (sym h))
-
 -- by the turns
 no_last : (turns : List Turn) (roots : List Name) (served : Served) (view : View) → ((n : Name) → IsServed (at view n) (at served n)) → IsBatch roots served view turns → IsLast roots view (changed_by turns) → ⊥
 no_last [] roots served view sync batch last = false≢true last.listed
@@ -187,7 +183,7 @@ no_last (t ∷ turns) roots served view sync batch last = by_name (cases_bool (s
   where
     other : same_name t.name last.from ≡ false → (m : Name) → (same_name last.from m ≡ true) ⊎ (has last.rest m ≡ true) → same_name t.name m ≡ false
     other d m (inl e) = ap (same_name t.name) (sym (same_true last.from m e)) ∙ d
-    other d m (inr h) = (or_none (same_name t.name m) (has (changed_by turns) m) (last.clean m h)).0
+    other d m (inr h) = (neither (same_name t.name m) (has (changed_by turns) m) (last.clean m h)).0
 
     later : (same_name t.name last.from ≡ true) ⊎ (has (changed_by turns) last.from ≡ true) → same_name t.name last.from ≡ false → has (changed_by turns) last.from ≡ true
     later (inl e) d = absurd (false≢true (sym d ∙ e))
@@ -207,7 +203,7 @@ no_last (t ∷ turns) roots served view sync batch last = by_name (cases_bool (s
           end = last.end;
           leads = leads_same view (view_after roots view t) last.from last.rest last.end kept last.leads;
           listed = later (or_cases (same_name t.name last.from) (has (changed_by turns) last.from) last.listed) d;
-          clean = λ m h. (or_none (same_name t.name m) (has (changed_by turns) m) (last.clean m h)).1;
+          clean = λ m h. (neither (same_name t.name m) (has (changed_by turns) m) (last.clean m h)).1;
           there = ap is_some (kept last.from (or_left (same_name last.from last.from) _ (true_same last.from last.from refl))) ∙ last.there;
           root = last.root;
           badly = ends_same view (view_after roots view t) roots last.end (kept last.end (end_listed (passes view []) last.from last.rest last.end last.leads)) ∙ last.badly;

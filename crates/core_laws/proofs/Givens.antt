@@ -18,7 +18,7 @@ use Rattle.core_laws.specs.Facts.{IsCounted, VerdictIs, SourceIs, SourcesFacts}
 -- What an edit answers.
 
 -- an edit that counts gets the next number
-abbrev Numbered : ℕ → EditAnswer → Type 0
+abbrev pub Numbered : ℕ → EditAnswer → Type 0
 Numbered counted (job v) = v ≡ counted + 1
 Numbered counted same = ⊤
 Numbered counted (removed v) = v ≡ counted + 1
@@ -28,7 +28,7 @@ if_numbered : (counted : ℕ) (b : Bool) (x y : EditAnswer) → Numbered counted
 if_numbered counted true x y p q = p
 if_numbered counted false x y p q = q
 
-answer_numbered : (old : Option Source) (s : Sources) (t : Option Text) → Numbered s.counted (answer_for old s t)
+pub answer_numbered : (old : Option Source) (s : Sources) (t : Option Text) → Numbered s.counted (answer_for old s t)
 answer_numbered old s None = if_numbered s.counted (is_some old) (numbered removed s.counted) same (if_numbered s.counted (nat_le LARGEST_NUMBER s.counted) (refused _) (removed (s.counted + 1)) tt refl) tt
 answer_numbered old s (Some t) = if_numbered s.counted (nat_lt TEXT_BYTES (length t)) (refused _) _ tt
     (if_numbered s.counted (has_text old t) same _ tt

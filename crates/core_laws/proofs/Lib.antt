@@ -1,5 +1,6 @@
 pub mod Looking
 pub mod Givens
+pub mod Writing
 pub mod Rows
 pub mod Times
 pub mod Requesting

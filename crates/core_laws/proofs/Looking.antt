@@ -3,14 +3,14 @@ use Rattle.std.proofs.Common.{◌≡◌, ◌⊎◌, inl, inr, Bool, true, false,
 use Rattle.std.specs.Prelude.{◌||◌, filter, cond, not, Option, Some, None, is_some, if◌then◌else◌}
 use Prim.{⊥}
 use Rattle.std.proofs.lemmas.Bool.{false≢true}
-use Rattle.std.specs.declared.cmp.Ordering.{Ordering}
-use Rattle.std.specs.declared.cmp.Ordering.TheVariants.{Less, Equal, Greater}
+use Rattle.std.proofs.lemmas.Option.{same_Some}
 use Rattle.std.specs.Ordering.{nat_cmp, is_lt, ordering_reverse}
 use Rattle.std.specs.Cmp.Lexicographic.{slice_cmp}
 use Rattle.std.proofs.lemmas.Cmp.{nat_list_cmp_total}
 use Rattle.core_model.specs.Names.{Name, same_name, has, at, without_all, names_of, rising}
 use Rattle.core_model.proofs.Naming.{same_true, true_same, both_true, and_both, filtered_in}
-use Rattle.core_model.proofs.Tables.{named}
+use Rattle.core_model.proofs.Rising.{less_is, through, left_out, tail_rises}
+use Rattle.core_model.proofs.Tables.{both_ways, filtered_row, without_step, named}
 
 -- nothing passes an empty filter
 pub none_pass : (p : Name → Bool) (names : List Name) → filter p names ≡ [] → (n : Name) → has names n ≡ true → p n ≡ false
@@ -20,30 +20,11 @@ none_pass p names e n h = by_test (p n) (λ t. filtered_in p names n t h)
     by_test true f = absurd (false≢true (sym (ap (λ l. has l n) e) ∙ f refl))
     by_test false f = refl
 
-less_is : (o : Ordering) → is_lt o ≡ true → o ≡ Less
-less_is Less h = refl
-less_is Equal h = absurd (false≢true h)
-less_is Greater h = absurd (false≢true h)
-
 abbrev Below : Name → Name → Type 0
 Below n m = is_lt (slice_cmp nat_cmp n m) ≡ true
 
-through : (n m k : Name) → Below n m → Below m k → Below n k
-through n m k h g = ap is_lt (nat_list_cmp_total.trans n m k (less_is (slice_cmp nat_cmp n m) h) (less_is (slice_cmp nat_cmp m k) g))
-
 not_itself : (n : Name) → Below n n → ⊥
 not_itself n h = false≢true (sym (ap (λ o. is_lt (ordering_reverse o)) (less_is (slice_cmp nat_cmp n n) h)) ∙ sym (ap is_lt (nat_list_cmp_total.antisymm n n)) ∙ h)
-
-rest_rises : (n : Name) (names : List Name) → rising (n ∷ names) ≡ true → rising names ≡ true
-rest_rises n [] r = refl
-rest_rises n (m ∷ names) r = (both_true (is_lt (slice_cmp nat_cmp n m)) _ r).1
-
-left_out : (k m : Name) (names : List Name) → rising (k ∷ (m ∷ names)) ≡ true → rising (k ∷ names) ≡ true
-left_out k m [] r = refl
-left_out k m (j ∷ names) r =
-    let first = both_true (is_lt (slice_cmp nat_cmp k m)) _ r in
-    let second = both_true (is_lt (slice_cmp nat_cmp m j)) _ first.1 in
-    and_both _ _ (through k m j first.0 second.0) second.1
 
 -- each later name of a rising list is above the first
 above : (k : Name) (names : List Name) → rising (k ∷ names) ≡ true → (n : Name) → has names n ≡ true → Below k n
@@ -60,22 +41,6 @@ one_first x y (inr h) (inl e) = e
 one_first x y (inr h) (inr g) = absurd (not_itself x (through x y x g h))
 
 module _ {X : Type 0} where
-  both_ways : (b : Bool) (x : Option X) → x ≡ (if b then x else x)
-  both_ways true x = refl
-  both_ways false x = refl
-
-  filtered_row : (keep : Bool) (row : Name × X) (rows : List (Name × X)) (m : Name) → at (cond keep (row ∷ rows) rows) m ≡ (if keep then (if same_name row.0 m then Some row.1 else at rows m) else at rows m)
-  filtered_row true row rows m = refl
-  filtered_row false row rows m = refl
-
-  without_step : (a c b : Bool) (x : X) (more rest : Option X) → (c ≡ true → a ≡ b) → rest ≡ (if b then None else more) → (if not a then (if c then Some x else rest) else rest) ≡ (if b then None else (if c then Some x else more))
-  without_step true false b x more rest e h = h
-  without_step false false b x more rest e h = h
-  without_step true true true x more rest e h = h
-  without_step true true false x more rest e h = absurd (false≢true (sym (e refl)))
-  without_step false true true x more rest e h = absurd (false≢true (e refl))
-  without_step false true false x more rest e h = refl
-
   -- the entries of other names than these, looked up
   pub at_without_all : (names : List Name) (rows : List (Name × X)) (m : Name) → at (without_all names rows) m ≡ (if has names m then None else at rows m)
   at_without_all names [] m = both_ways (has names m) None
@@ -93,7 +58,7 @@ module _ {X : Type 0} where
   -- what is left of entries that rise by name rises
   pub kept_rises : (keep : Name × X → Bool) (rows : List (Name × X)) → rising (names_of rows) ≡ true → rising (names_of (filter keep rows)) ≡ true
   kept_rises keep [] r = refl
-  kept_rises keep (row ∷ rows) r = by_test (keep row) (kept_rises keep rows (rest_rises row.0 (names_of rows) r))
+  kept_rises keep (row ∷ rows) r = by_test (keep row) (kept_rises keep rows (tail_rises row.0 (names_of rows) r))
     where
       by_test : (b : Bool) → rising (names_of (filter keep rows)) ≡ true → rising (names_of (cond b (row ∷ filter keep rows) (filter keep rows))) ≡ true
       by_test true f = kept_behind keep row.0 rows r
@@ -127,13 +92,6 @@ module _ {X : Type 0} where
       by_test true f false g k = absurd (false≢true (sym g))
       by_test false f true g k = absurd (false≢true g)
 
-  some_same : (x y : X) → Some x ≡ Some y → x ≡ y
-  some_same x y e = ap (or_this x) e
-    where
-      or_this : X → Option X → X
-      or_this d None = d
-      or_this d (Some k) = k
-
   -- lists that rise by name and have the same at each name are the same
   pub rising_same : (a b : List (Name × X)) → rising (names_of a) ≡ true → rising (names_of b) ≡ true → ((n : Name) → at a n ≡ at b n) → a ≡ b
   rising_same [] [] r q f = refl
@@ -141,5 +99,5 @@ module _ {X : Type 0} where
   rising_same (x ∷ a) [] r q f = absurd (false≢true (ap is_some (sym (f x.0) ∙ first_entry x a)))
   rising_same (x ∷ a) (y ∷ b) r q f =
       let e : x.0 ≡ y.0 = one_first x.0 y.0 (first_or_above x.0 y b q (ap is_some (sym (f x.0) ∙ first_entry x a))) (first_or_above y.0 x a r (ap is_some (f y.0 ∙ first_entry y b))) in
-      let v : x.1 ≡ y.1 = some_same x.1 y.1 (sym (first_entry x a) ∙ f x.0 ∙ ap (at (y ∷ b)) e ∙ first_entry y b) in
-      ap (λ n. (n, x.1) ∷ a) e ∙ ap (λ k. (y.0, k) ∷ a) v ∙ ap (λ rows. y ∷ rows) (rising_same a b (rest_rises x.0 (names_of a) r) (rest_rises y.0 (names_of b) q) (λ n. rest_same x y a b e r q n (f n)))
+      let v : x.1 ≡ y.1 = same_Some x.1 y.1 (sym (first_entry x a) ∙ f x.0 ∙ ap (at (y ∷ b)) e ∙ first_entry y b) in
+      ap (λ n. (n, x.1) ∷ a) e ∙ ap (λ k. (y.0, k) ∷ a) v ∙ ap (λ rows. y ∷ rows) (rising_same a b (tail_rises x.0 (names_of a) r) (tail_rises y.0 (names_of b) q) (λ n. rest_same x y a b e r q n (f n)))

@@ -22,6 +22,9 @@ none_at_all : (k : ℕ) → is_above_zero k ≡ false → k ≡ 0
 none_at_all zero h = refl
 none_at_all (suc k) h = absurd (false≢true (sym h))
 
+ap_le : {j k : ℕ} {m : ℕ} → j ≡ k → j ≤ m → k ≤ m
+ap_le {j} {k} {m} e l = omega (arith, e, l)
+
 module _ {X : Type 0} where
   counted_step : (b : Bool) (row : ℕ × X) (found : List (ℕ × X)) (o : Option X) → is_some o ≡ is_above_zero (length found) → is_some (if b then Some row.1 else o) ≡ is_above_zero (length (cond b (row ∷ found) found))
   counted_step true row found o h = refl
@@ -44,13 +47,7 @@ module _ {X : Type 0} where
 
   fewer_step : (p : ℕ × X → Bool) (row : ℕ × X) (b c : Bool) (kept all : List (ℕ × X)) → p row ≡ c → length (filter p kept) ≤ length (filter p all) → length (filter p (cond b (row ∷ kept) kept)) ≤ length (cond c (row ∷ filter p all) (filter p all))
   fewer_step p row true true kept all e l = ap_le (sym (ap (λ d. length (cond d (row ∷ filter p kept) (filter p kept))) e)) (omega (arith, l))
-    where
-      ap_le : {j k : ℕ} {m : ℕ} → j ≡ k → j ≤ m → k ≤ m
-      ap_le {j} {k} {m} e l = omega (arith, e, l)
   fewer_step p row true false kept all e l = ap_le (sym (ap (λ d. length (cond d (row ∷ filter p kept) (filter p kept))) e)) l
-    where
-      ap_le : {j k : ℕ} {m : ℕ} → j ≡ k → j ≤ m → k ≤ m
-      ap_le {j} {k} {m} e l = omega (arith, e, l)
   fewer_step p row false true kept all e l = omega (arith, l)
   fewer_step p row false false kept all e l = l
 

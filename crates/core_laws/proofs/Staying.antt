@@ -1,21 +1,17 @@
 -- What stays while a plan is under way.
-use Rattle.std.proofs.Common.{◌≡◌, ℕ, true, false, List, refl, ap, sym, ◌∙◌}
+use Rattle.std.proofs.Common.{◌≡◌, ℕ, List, refl, ap}
 use Rattle.std.specs.Prelude.{Option, Some, None, is_some}
 use Rattle.std.proofs.lemmas.Bool.{false≢true}
 use Rattle.core_model.specs.Names.{Name}
-use Rattle.core_model.specs.Sources.{Sources, Change, edit, result, EditAnswer, job, same, removed, refused, edit_answer, ResultAnswer, serve, refuse, late, result_answer}
+use Rattle.core_model.specs.Sources.{Sources}
 use Rattle.core_model.specs.Page.{Plan}
-use Rattle.core_model.specs.Client.{Client, is_held, dropped, reason, replaced, pairs, first_notice, told_of_edit, told_of_result}
+use Rattle.core_model.specs.Client.{Client, is_held, dropped, reason, replaced, pairs, first_notice}
 use Rattle.core_model.specs.Asking.{AskRow, row_plan, row_notice, row_loaded, row_dropped, row_held, row_reason, row_replaced, ask_row, asked}
 use Rattle.core_model.specs.Requests.{Request, ask, fetch, applied_as, aborted, invalidate, FetchRow, text, not_yet, broken, missing, fetch_row, fetched, AppliedRow, unfetched, mismatch, done, applied_row, after_applied, fetched_in, applied_in, aborted_in, invalidated_in, heard}
-use Rattle.core_model.specs.Core.{told_of}
 use Rattle.core_laws.specs.Facts.{SamePage}
 
 same_page : (c : Client) → SamePage c c
 same_page c = record { loaded = refl; view = refl; forced = refl }
-
-no_plan : (o : Option Plan) (q : Plan) → o ≡ None → o ≡ Some q → false ≡ true
-no_plan o q e f = ap is_some (sym e ∙ f)
 
 fetched_same : (row : FetchRow) (p : Plan) (n : Name) (c : Client) → SamePage c (fetched row p n c)
 fetched_same (text s) p n c = record { loaded = refl; view = refl; forced = refl }
@@ -59,19 +55,3 @@ module _ (roots : List Name) (i : ℕ) (s : Sources) (c : Client) (q : Plan) whe
   plan_stays (applied_as table) p e f = in_applied table c.page.plan f
   plan_stays aborted p e f = in_aborted c.page.plan f
   plan_stays (invalidate n v) p e f = in_invalidated n v p c.page.plan e
-
-edit_same : (answer : EditAnswer) (n : Name) (c : Client) → (told_of_edit answer n c).page ≡ c.page
-edit_same (job v) n c = refl
-edit_same same n c = refl
-edit_same (removed v) n c = refl
-edit_same (refused w) n c = refl
-
-result_same : (answer : ResultAnswer) (n : Name) (c : Client) → (told_of_result answer n c).page ≡ c.page
-result_same (serve a) n c = refl
-result_same (refuse f) n c = refl
-result_same late n c = refl
-
--- an edit or a result leaves the page
-pub change_stays : (s : Sources) (ch : Change) (c : Client) → (told_of s ch c).page ≡ c.page
-change_stays s (edit n t) c = edit_same (edit_answer s n t) n c
-change_stays s (result n t o v) c = result_same (result_answer s n t o v) n c

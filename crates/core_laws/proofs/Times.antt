@@ -1,19 +1,19 @@
 -- What changed entries are, and what an update of them replaces.
-use Rattle.std.proofs.Common.{◌≡◌, ◌⊎◌, inl, inr, ℕ, Bool, true, false, List, [], ◌∷◌, ◌++◌, length, ◌≤◌, arith, refl, ap, sym, ◌∙◌, Contains}
+use Rattle.std.proofs.Common.{◌≡◌, ◌⊎◌, inl, inr, ℕ, Bool, true, false, List, ◌++◌, refl, ap, sym, ◌∙◌, Contains}
 use Rattle.std.specs.Prelude.{Option, Some, None, is_some}
 use Rattle.std.proofs.lemmas.Bool.{false≢true, eqb-true}
-use Rattle.std.proofs.lemmas.List.{length-append}
+use Rattle.std.proofs.lemmas.Option.{same_Some}
 use Rattle.hmr_types.specs.declared.analysis.Analysis.{Analysis}
 use Rattle.core_model.specs.Names.{Name, has, at, names_of}
-use Rattle.core_model.specs.Paths.{IsPath, Reaches}
+use Rattle.core_model.specs.Paths.{Reaches}
 use Rattle.core_model.specs.Sources.{Serving}
 use Rattle.core_model.specs.FreshLoad.{Served}
 use Rattle.core_model.specs.View.{View, Entry, is_in, differs, changed_of}
-use Rattle.core_model.specs.Spread.{passes, IsPassedTo, IsReplaced, replaced_of}
+use Rattle.core_model.specs.Spread.{passes, IsReplaced, replaced_of}
 use Rattle.core_model.proofs.Naming.{has_is, and_both, has_append, or_left, or_right, not_false, filtered_has, filtered_from}
 use Rattle.core_model.proofs.Tables.{named}
-use Rattle.core_model.proofs.Reaching.{path_on, long_back, reaches_on, reaches_start, ReachedBy}
-use Rattle.core_model.proofs.Spreading.{replaced_are, replaced_named}
+use Rattle.core_model.proofs.Reaching.{long_back, reaches_on, reaches_start, ReachedBy}
+use Rattle.core_model.proofs.Spreading.{passed_from, replaced_are, replaced_named}
 use Rattle.core_laws.specs.Given.{entry_of, IsGiven, AreGiven}
 use Rattle.core_laws.specs.Facts.{IsServed, AreSpread}
 
@@ -23,15 +23,8 @@ same_entry by None s g h d = tt
 same_entry by (Some e) None g h d = absurd (false≢true (sym d))
 same_entry by (Some e) (Some s) g h d =
     let v : s.version ≡ e.version = sym (eqb-true e.version s.version (not_false _ d)) in
-    let a : s.analysis ≡ e.analysis = some_same (sym h ∙ ap by v ∙ g) in
+    let a : s.analysis ≡ e.analysis = same_Some s.analysis e.analysis (sym h ∙ ap by v ∙ g) in
     ap (λ k. Some (record { version = k; analysis = s.analysis })) v ∙ ap (λ k. Some (record { version = e.version; analysis = k })) a
-  where
-    or_this : Analysis → Option Analysis → Analysis
-    or_this d None = d
-    or_this d (Some k) = k
-
-    some_same : Some s.analysis ≡ Some e.analysis → s.analysis ≡ e.analysis
-    some_same p = ap (or_this s.analysis) p
 
 differs_there : (o : Option Entry) (s : Option Serving) → differs o s ≡ true → is_some o ≡ true
 differs_there None s h = h
@@ -53,14 +46,7 @@ module _ (served : Served) (view : View) where
   pub changed_in : (n : Name) → Contains (changed_of served view) n → has (names_of view) n ≡ true
   changed_in n c = (filtered_from (λ k. differs (at view k) (at served k)) (names_of view) n ((has_is (changed_of served view) n).0 c)).1
 
-not_empty : (edge : Name → Name → Bool) (starts path : List Name) (m : Name) → IsPath edge starts path m → 1 ≤ length path
-not_empty edge starts [] m p = absurd p
-not_empty edge starts (n ∷ rest) m p = omega arith
-
 module _ (view : View) (changed forced : List Name) where
-  passed_from : (m : Name) → ReachedBy (passes view forced) (changed ++ forced) m → IsPassedTo view changed forced m
-  passed_from m b = record { path = b.reached.path ++ m ∷ []; is = path_on (passes view forced) (changed ++ forced) b.reached.path b.from m b.reached.is b.by; long = omega (arith, not_empty (passes view forced) (changed ++ forced) b.reached.path b.from b.reached.is, length-append b.reached.path (m ∷ [])) }
-
   else_unchanged : (n : Name) (b : Bool) → has changed n ≡ b → has (replaced_of view changed forced) n ≡ false → b ≡ false
   else_unchanged n false e h = refl
   else_unchanged n true e h = absurd (false≢true (sym h ∙ (has_is (replaced_of view changed forced) n).0 ((replaced_are view changed forced n).1 (inl ((has_is changed n).1 e)))))
@@ -82,7 +68,7 @@ module _ (view : View) (changed forced : List Name) where
 
   -- what is replaced is closed under passing on
   pub replaced_spread : AreSpread view forced (replaced_of view changed forced)
-  replaced_spread n m h by = (has_is (replaced_of view changed forced) m).0 ((replaced_are view changed forced m).1 (inr (passed_from m (record { from = n; reached = reached_by_replaced n (by_has n h); by = by }))))
+  replaced_spread n m h by = (has_is (replaced_of view changed forced) m).0 ((replaced_are view changed forced m).1 (inr (passed_from view changed forced m (record { from = n; reached = reached_by_replaced n (by_has n h); by = by }))))
 
   pub replaced_in : ((n : Name) → Contains changed n → has (names_of view) n ≡ true) → (n : Name) → has (replaced_of view changed forced) n ≡ true → is_in view n ≡ true
   replaced_in f n h = named view n ∙ replaced_named view changed forced f n ((replaced_are view changed forced n).0 ((has_is (replaced_of view changed forced) n).1 h))

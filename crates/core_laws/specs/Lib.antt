@@ -1,4 +1,5 @@
 pub mod Given
+pub mod Written
 pub mod Facts
 pub mod Fresh
 pub mod Isolated

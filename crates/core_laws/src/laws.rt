@@ -15,6 +15,7 @@ ghost use Rattle.core_model.specs.Client.{Client};
 ghost use Rattle.core_model.specs.Requests.{Request, ask, heard, to_client};
 ghost use Rattle.core_model.specs.Core.{Core, Event, connect, request, disconnect, client_at, told_of, changes_of, step, core_after, replay, replies};
 ghost use Rattle.core_laws.specs.Given.{given};
+ghost use Rattle.core_laws.specs.Written.{written, IsWritten, IsServedWritten};
 ghost use Rattle.core_laws.specs.Facts.{SourcesFacts, ClientFacts, IsClosed, IsServed, SamePage};
 ghost use Rattle.core_laws.specs.Fresh.{IsUpToDate, IsFreshLoad};
 ghost use Rattle.core_laws.specs.Reloading.{IsFullReload, IsReloadDue};
@@ -38,6 +39,14 @@ pub fn facts_are_kept()
 pub fn version_is_served_once()
     ensures once { (past : List Change) (n : Name) (t : Text) (o : Outcome) (v : ℕ) (a : Analysis) → result_answer (sources_after past) n t o v ≡ serve a → given past n v ≡ None }
     ensures stays { (past : List Change) (ch : Change) (n : Name) (v : ℕ) (a : Analysis) → given past n v ≡ Some a → given (ch ∷ past) n v ≡ Some a }
+{}
+
+/// The current source of a name, and what is served of it, each has the text of the edit of that name
+/// that was counted as its version; and the text of a version stays known.
+pub fn a_version_is_one_text()
+    ensures current { (past : List Change) (n : Name) → IsWritten (written past n) (at (sources_after past).current n) }
+    ensures served { (past : List Change) (n : Name) → IsServedWritten (written past n) (at (sources_after past).served n) }
+    ensures stays { (past : List Change) (ch : Change) (n : Name) (v : ℕ) (t : Text) → written past n v ≡ Some t → written (ch ∷ past) n v ≡ Some t }
 {}
 
 /// A module of a page whose version is the served one is what is served, and so is a module that was

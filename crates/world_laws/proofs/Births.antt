@@ -5,58 +5,62 @@ use Rattle.std.specs.Option.{option_or}
 use Rattle.std.proofs.Math.Path.{subst}
 use Rattle.std.proofs.lemmas.Bool.{false≢true}
 use Rattle.std.proofs.lemmas.List.{length-map}
+use Rattle.std.proofs.lemmas.Option.{same_Some}
 use Rattle.core_model.specs.Names.{Name, same_name, has, at}
-use Rattle.core_model.specs.Sources.{Text}
+use Rattle.core_model.specs.Sources.{Text, text_or_none}
 use Rattle.core_model.specs.View.{Entry, imports_of}
 use Rattle.core_model.specs.Page.{Plan, entry_at, applied}
 use Rattle.core_model.proofs.Naming.{or_left, or_right, same_true, true_same}
 use Rattle.client_model.specs.Language.{Language}
 use Rattle.client_model.specs.Instance.{live_at}
 use Rattle.client_model.specs.Runtime.{Runtime, Did, for_each}
-use Rattle.client_model.specs.Linking.{new_names, number_after, number_in, links_after, place_of}
-use Rattle.client_model.specs.Making.{Birth, make, make_run, make_unrun, has_failed_link}
+use Rattle.client_model.specs.Linking.{new_names, number_after, number_in, links_after, place_of, exports_of}
+use Rattle.client_model.specs.Making.{Birth, make}
 use Rattle.client_model.specs.Applying.{birth_of, births, end_old, tell_all, apply}
-use Rattle.client_model.proofs.Acts.{before_finish, kept_applying}
+use Rattle.client_model.proofs.Acts.{before_finish, kept_applying, by_make}
 use Rattle.client_model.proofs.Staying.{Stays, page_kept}
 use Rattle.world_laws.proofs.Members.{head_in, tail_in}
-use Rattle.world_laws.proofs.Frames.{Frame, frame, frames, cut, ended_by, made_on, made_at, names_in, AllLive, NumberedFrom, Distinct, live_one, live_made, live_cut, Numbered, cut_numbered, made_numbered, cut_length, some_is}
+use Rattle.world_laws.proofs.Frames.{Frame, frame, frames, cut, ended_by, made_on, made_at, names_in, AllLive, NumberedFrom, Distinct, live_one, live_made, live_cut, Numbered, cut_numbered, made_numbered, cut_length}
 use Rattle.world_laws.proofs.Orders.{left_once, filter_once, CountsFrom, places_count}
 use Rattle.world_laws.proofs.Ending.{ended_names, ends_old, same_tell_all, same_set_aside}
 
 abbrev pub birth_frame : Birth → Frame
-birth_frame b = record { number = b.number; name = b.name; links = b.links; live = true }
+birth_frame b = record { number = b.number; name = b.name; version = b.entry.version; text = b.text; exports = b.entry.analysis.exports; links = b.links; live = true }
+
+-- the version of a module, 0 for none
+abbrev pub version_of : Option Entry → ℕ
+version_of None = 0
+version_of (Some e) = e.version
 
 -- the frame of a new instance
 abbrev pub new_frame : Plan → Runtime → Name → Frame
-new_frame p r n = record { number = suc (length r.instances) + place_of (new_names p r) n; name = n; links = links_after p r (imports_of (entry_at p r.page.view n)); live = true }
+new_frame p r n =
+    let entry : Option Entry = entry_at p r.page.view n in
+    record { number = suc (length r.instances) + place_of (new_names p r) n; name = n; version = version_of entry; text = text_or_none (at r.texts n); exports = exports_of entry; links = links_after p r (imports_of entry); live = true }
 
 -- each new name has what its instance is made of
 abbrev pub Ready : Plan → Runtime → Type 0
 Ready p r = (n : Name) → has (new_names p r) n ≡ true → (is_some (entry_at p r.page.view n) ≡ true) × (is_some (at r.texts n) ≡ true)
 
 one_birth : (o : Option Entry) (t : Option Text) (k : Option ℕ) (j : ℕ) (links : List Name → List (Name × ℕ)) (n : Name) (rest : List Birth) → is_some o ≡ true → is_some t ≡ true → k ≡ Some j
-    → map birth_frame (birth_of o t k links n ++ rest) ≡ record { number = j; name = n; links = links (imports_of o); live = true } ∷ map birth_frame rest
+    → map birth_frame (birth_of o t k links n ++ rest) ≡ record { number = j; name = n; version = version_of o; text = text_or_none t; exports = exports_of o; links = links (imports_of o); live = true } ∷ map birth_frame rest
 one_birth None t k j links n rest h g e = absurd (false≢true h)
 one_birth (Some o) None k j links n rest h g e = absurd (false≢true g)
 one_birth (Some o) (Some t) None j links n rest h g e = absurd (false≢true (ap is_some e))
-one_birth (Some o) (Some t) (Some k) j links n rest h g e = ap (λ i. record { number = i; name = n; links = links o.analysis.imports; live = true } ∷ map birth_frame rest) (some_is k j e)
+one_birth (Some o) (Some t) (Some k) j links n rest h g e = ap (λ i. record { number = i; name = n; version = o.version; text = t; exports = o.analysis.exports; links = links o.analysis.imports; live = true } ∷ map birth_frame rest) (same_Some k j e)
 
-number_new : (p : Plan) (r : Runtime) (n : Name) → has (new_names p r) n ≡ true → number_after p r n ≡ Some (suc (length r.instances) + place_of (new_names p r) n)
+pub number_new : (p : Plan) (r : Runtime) (n : Name) → has (new_names p r) n ≡ true → number_after p r n ≡ Some (suc (length r.instances) + place_of (new_names p r) n)
 number_new p r n h = ap (λ b. if b then Some (suc (length r.instances) + place_of (new_names p r) n) else number_in (live_at r.instances n)) h
 
-births_are : (p : Plan) (r : Runtime) → Ready p r → (names : List Name) → ((n : Name) → has names n ≡ true → has (new_names p r) n ≡ true) → map birth_frame (births names p r) ≡ map (new_frame p r) names
+pub births_are : (p : Plan) (r : Runtime) → Ready p r → (names : List Name) → ((n : Name) → has names n ≡ true → has (new_names p r) n ≡ true) → map birth_frame (births names p r) ≡ map (new_frame p r) names
 births_are p r ready [] h = refl
 births_are p r ready (n ∷ names) h =
     let new : has (new_names p r) n ≡ true = h n (or_left (same_name n n) _ (true_same n n refl)) in
     one_birth (entry_at p r.page.view n) (at r.texts n) (number_after p r n) (suc (length r.instances) + place_of (new_names p r) n) (links_after p r) n (births names p r) (ready n new).0 (ready n new).1 (number_new p r n new)
     ∙ ap (λ fs. new_frame p r n ∷ fs) (births_are p r ready names (λ m t. h m (or_right (same_name n m) _ t)))
 
-make_if : (b : Bool) (birth : Birth) (r : Runtime) (did other : Did) → frames did.0.instances ≡ birth_frame birth ∷ frames r.instances → frames other.0.instances ≡ birth_frame birth ∷ frames r.instances → frames (if b then did else other).0.instances ≡ birth_frame birth ∷ frames r.instances
-make_if true birth r did other h k = h
-make_if false birth r did other h k = k
-
 made_frame : (language : Language) (b : Birth) (r : Runtime) → frames (make language b r).0.instances ≡ birth_frame b ∷ frames r.instances
-made_frame language b r = make_if (has_failed_link r.instances b.links) b r (make_unrun b r) (make_run language b r) refl refl
+made_frame language b r = by_make (λ did. frames did.0.instances ≡ birth_frame b ∷ frames r.instances) language b r refl refl
 
 made_frames : (language : Language) (bs : List Birth) (r : Runtime) → frames (for_each (make language) bs r).0.instances ≡ made_on (map birth_frame bs) (frames r.instances)
 made_frames language [] r = refl
@@ -78,14 +82,14 @@ applied_frames language p r ready =
     let ended : Did = end_old p.kind language p r in
     let born : Did = for_each (make language) (births (new_names p r) p r) ended.0 in
     let told : Did = tell_all p.kind language p r born.0 in
-    same_set_aside p r told.0 ∙ same_tell_all p.kind language p r born.0 ∙ made_frames language (births (new_names p r) p r) ended.0
+    same_set_aside language p r told.0 ∙ same_tell_all p.kind language p r born.0 ∙ made_frames language (births (new_names p r) p r) ended.0
     ∙ ap (λ bs. made_on bs (frames ended.0.instances)) (births_are p r ready (new_names p r) (λ n h. h))
     ∙ ap (made_on (news p r)) (ends_old p.kind language p r)
 
 pub applied_page : (language : Language) (p : Plan) (r : Runtime) → (apply language p r).0.page ≡ applied r.roots p r.page
 applied_page language p r =
-    let k : Stays r (before_finish Stays page_kept language p r) = kept_applying Stays page_kept language p r in
-    ap (λ roots. applied roots p (before_finish Stays page_kept language p r).0.page) k.roots ∙ ap (applied r.roots p) k.page
+    let k : Stays r (before_finish language p r) = kept_applying Stays page_kept language p r in
+    ap (λ roots. applied roots p (before_finish language p r).0.page) k.roots ∙ ap (applied r.roots p) k.page
 
 pub applied_client : (language : Language) (p : Plan) (r : Runtime) → (apply language p r).0.client ≡ r.client
 applied_client language p r = (kept_applying Stays page_kept language p r).client

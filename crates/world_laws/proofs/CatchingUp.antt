@@ -12,14 +12,14 @@ use Rattle.core_model.proofs.Naming.{both_true, and_both}
 use Rattle.client_model.specs.Runtime.{Runtime}
 use Rattle.world_model.specs.CaughtUp.{IsCaughtUp, is_caught_up, is_empty, unstaged, wants_nothing, plan_turns, debt_between, debt_within, debt_by, debt, largest_debt}
 
-empty_is : {X : Type 0} → (xs : List X) → is_empty xs ≡ true → xs ≡ []
+pub empty_is : {X : Type 0} → (xs : List X) → is_empty xs ≡ true → xs ≡ []
 empty_is [] h = refl
 empty_is (x ∷ xs) h = absurd (false≢true h)
 
 is_then_empty : {X : Type 0} → (xs : List X) → xs ≡ [] → is_empty xs ≡ true
 is_then_empty xs e = ap is_empty e
 
-none_is : {X : Type 0} → (o : Option X) → is_none o ≡ true → o ≡ None
+pub none_is : {X : Type 0} → (o : Option X) → is_none o ≡ true → o ≡ None
 none_is None h = refl
 none_is (Some x) h = absurd (false≢true h)
 

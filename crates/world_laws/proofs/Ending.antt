@@ -2,8 +2,7 @@
 use Rattle.std.proofs.Common.{◌≡◌, ℕ, suc, ◌+◌, length, Bool, true, false, List, [], ◌∷◌, refl, ap, sym, ◌∙◌}
 use Rattle.std.specs.Prelude.{filter, cond, ◌&&◌, ◌||◌, ◌==◌, Option, Some, None, if◌then◌else◌}
 use Rattle.std.specs.List.{list_any}
-use Rattle.std.proofs.lemmas.Bool.{eqb-true, eq-eqb}
-use Rattle.core_model.proofs.Naming.{both_true, same_test}
+use Rattle.core_model.proofs.Naming.{both_true}
 use Rattle.hmr_types.specs.declared.words.PlanKind.{PlanKind}
 use Rattle.hmr_types.specs.declared.words.PlanKind.TheVariants.{Load, Reload, Update}
 use Rattle.hmr_types.specs.declared.words.FaultPlace.{FaultPlace}
@@ -11,14 +10,16 @@ use Rattle.hmr_types.specs.declared.words.FaultPlace.TheVariants as place
 use Rattle.hmr_types.specs.declared.words.InstanceFate.TheVariants.{Reloaded, Pruned}
 use Rattle.hmr_types.specs.declared.words.InstanceFate.{InstanceFate}
 use Rattle.hmr_types.specs.declared.out_line.OutLine.{OutLine}
-use Rattle.core_model.specs.Names.{Name, same_name, has}
+use Rattle.core_model.specs.Names.{Name, has}
 use Rattle.core_model.specs.Page.{Plan}
+use Rattle.core_model.proofs.Clients.{either_way}
 use Rattle.client_model.specs.Language.{Language, Slots, Ran}
-use Rattle.client_model.specs.Instance.{Instance, Handler, numbered, with_change, places_of, live_at, is_live, is_live_fate, is_held, disposes, prunes, accepts_own, accepts_dep}
-use Rattle.client_model.specs.Runtime.{Runtime, Did, nothing, and_then, for_each, write, bag_of}
+use Rattle.client_model.specs.Instance.{Instance, Handler, numbered, with_change, places_of, live_at, is_live, is_live_fate, is_held, disposes, prunes}
+use Rattle.client_model.specs.Runtime.{Runtime, Did, for_each, write, bag_of}
 use Rattle.client_model.specs.Running.{scope_of, run_deed, no_arguments, did_run, run_handler, run_of, run_each, drop_each, end_instance, give_up_bag, after_run}
-use Rattle.client_model.specs.Applying.{is_left_behind, fate_by, itself_in, listed_in, reload_instance, live_of, replace_instance, end_old, run_own, run_dep, tell_boundary, tell_all, set_aside, drop_set_aside, prune_instance}
+use Rattle.client_model.specs.Applying.{is_left_behind, fate_by, reload_instance, live_of, replace_instance, end_old, tell_boundary, tell_all, drop_set_aside, prune_instance}
 use Rattle.client_model.specs.Linking.{new_names, number_after, number_in, place_of}
+use Rattle.client_model.proofs.Acts.{IsHandled, handled_tell, handled_tell_all, handled_set_aside, handled_lines}
 use Rattle.world_laws.proofs.Frames.{Frame, frame, frames, dead, cut, cut_twice, cut_none, ended_by}
 
 pub framed : (f : Instance → Instance) → ((i : Instance) → frame (f i) ≡ frame i) → (k : ℕ) (is : List Instance) → frames (with_change k f is) ≡ frames is
@@ -34,16 +35,9 @@ framed f same k (i ∷ is) = ap (λ g. g ∷ frames (with_change k f is)) (by (i
 abbrev pub Same : Runtime → Did → Type 0
 Same r did = frames did.0.instances ≡ frames r.instances
 
-same_then : (r : Runtime) (did : Did) (next : Runtime → Did) → Same r did → ((s : Runtime) → Same s (next s)) → Same r (and_then did next)
-same_then r did next h k = k did.0 ∙ h
-
 same_each : {X : Type 0} (act : X → Runtime → Did) → ((x : X) (s : Runtime) → Same s (act x s)) → (xs : List X) (r : Runtime) → Same r (for_each act xs r)
 same_each act f [] r = refl
 same_each act f (x ∷ xs) r = same_each act f xs (act x r).0 ∙ f x r
-
-same_if : (b : Bool) (r : Runtime) (did other : Did) → Same r did → Same r other → Same r (if b then did else other)
-same_if true r did other h k = h
-same_if false r did other h k = k
 
 same_run : (at : FaultPlace) (i : Instance) (spot : ℕ) (h : Handler) (left : Ran) (r : Runtime) → Same r (did_run at i spot h left r)
 same_run at i spot h left r = framed (after_run spot h.kind left) (λ j. refl) i.number r.instances
@@ -56,39 +50,33 @@ module _ (language : Language) (at : FaultPlace) (arguments : Runtime → Handle
   same_handler i spot None r = refl
   same_handler i spot (Some h) r = same_run at i spot h (run_deed language h.deed (scope_of language r i) (arguments r h) (bag_of r i.name)) r
 
-  same_of : (i : Option Instance) (spot : ℕ) (r : Runtime) → Same r (run_of language at arguments i spot r)
+  pub same_of : (i : Option Instance) (spot : ℕ) (r : Runtime) → Same r (run_of language at arguments i spot r)
   same_of None spot r = refl
   same_of (Some i) spot r = same_handler i spot _ r
 
   pub same_run_each : (test : Handler → Bool) (k : ℕ) (r : Runtime) → Same r (run_each language at arguments test k r)
   same_run_each test k r = same_each (λ spot s. run_of language at arguments (numbered s.instances k) spot s) (λ spot s. same_of (numbered s.instances k) spot s) (places_of test (numbered r.instances k)) r
 
-same_own : (language : Language) (number : Option ℕ) (n : Name) (r : Runtime) → Same r (run_own language number n r)
-same_own language None n r = refl
-same_own language (Some k) n r = same_run_each language place.Own (itself_in n) accepts_own k r
+same_handled : (language : Language) → IsHandled language Same
+same_handled language = record {
+  nothing = λ r. refl;
+  after = λ r did next h k. k ∙ h;
+  run = λ at k i spot h arguments r e g none. same_run at i spot h (run_deed language h.deed (scope_of language r i) arguments (bag_of r i.name)) r;
+  drop = same_drop;
+  wrote = λ l r. refl;
+}
 
-same_dep : (language : Language) (number : Option ℕ) (n : Name) (r : Runtime) → Same r (run_dep language number n r)
-same_dep language None n r = refl
-same_dep language (Some k) n r = same_run_each language place.Dep (listed_in n) (accepts_dep n) k r
-
-same_tell : (language : Language) (p : Plan) (before : Runtime) (pair : Name × Name) (r : Runtime) → Same r (tell_boundary language p before pair r)
-same_tell language p before pair r =
-    let own : Did = run_own language (number_in (live_at before.instances pair.1)) pair.1 r in
-    let dep : Did = run_dep language (number_in (live_at r.instances pair.0)) pair.1 r in
-    same_if (has (new_names p before) pair.1) r (if same_name pair.0 pair.1 then own else dep) (if has before.page.forced pair.1 then dep else nothing r)
-    (same_if (same_name pair.0 pair.1) r own dep (same_own language (number_in (live_at before.instances pair.1)) pair.1 r) (same_dep language (number_in (live_at r.instances pair.0)) pair.1 r))
-    (same_if (has before.page.forced pair.1) r dep (nothing r) (same_dep language (number_in (live_at r.instances pair.0)) pair.1 r) refl)
+pub same_tell : (language : Language) (p : Plan) (before : Runtime) (pair : Name × Name) (r : Runtime) → Same r (tell_boundary language p before pair r)
+same_tell language p before pair r = handled_tell language Same (same_handled language) p before pair r
 
 pub same_tell_all : (kind : PlanKind) (language : Language) (p : Plan) (before r : Runtime) → Same r (tell_all kind language p before r)
-same_tell_all Load language p before r = refl
-same_tell_all Reload language p before r = refl
-same_tell_all Update language p before r = same_each (tell_boundary language p before) (same_tell language p before) before.pairs r
+same_tell_all kind language p before r = handled_tell_all language Same (same_handled language) kind p before r
 
-pub same_set_aside : (p : Plan) (before r : Runtime) → Same r (drop_set_aside p before r)
-same_set_aside p before r = same_each (λ i s. drop_each is_held i.number s) (λ i s. same_drop is_held i.number s) (set_aside p.kind p before) r
+pub same_set_aside : (language : Language) (p : Plan) (before r : Runtime) → Same r (drop_set_aside p before r)
+same_set_aside language p before r = handled_set_aside language Same (same_handled language) p before r
 
-pub same_lines : {X : Type 0} (l : X → Runtime → OutLine) (xs : List X) (r : Runtime) → Same r (for_each (λ x s. write (l x s) s) xs r)
-same_lines l xs r = same_each (λ x s. write (l x s) s) (λ x s. refl) xs r
+pub same_lines : {X : Type 0} (language : Language) (l : X → Runtime → OutLine) (xs : List X) (r : Runtime) → Same r (for_each (λ x s. write (l x s) s) xs r)
+same_lines language l xs r = handled_lines language Same (same_handled language) l xs r
 
 -- What ends an instance.
 
@@ -139,15 +127,12 @@ module _ (good : Instance → Bool) (act : Instance → Runtime → Did) (cuts :
       by false e h k = k
 
 -- the same test over frames
-eq_swap : (j k : ℕ) → (j == k) ≡ (k == j)
-eq_swap j k = same_test (j == k) (k == j) (λ h. eq-eqb k j (sym (eqb-true j k h))) (λ h. eq-eqb j k (sym (eqb-true k j h)))
-
 numbers_ended : (test : Name → Bool) (is : List Instance) (k : ℕ) → numbers_have (filter (λ i. is_live i && test i.name) is) k ≡ ended_by test (frames is) k
 numbers_ended test [] k = refl
 numbers_ended test (i ∷ is) k = by (is_live i && test i.name) ∙ ap (λ b. ((is_live i && test i.name) && (i.number == k)) || b) (numbers_ended test is k)
   where
     by : (b : Bool) → numbers_have (cond b (i ∷ filter (λ j. is_live j && test j.name) is) (filter (λ j. is_live j && test j.name) is)) k ≡ ((b && (i.number == k)) || numbers_have (filter (λ j. is_live j && test j.name) is) k)
-    by true = ap (λ b. b || numbers_have (filter (λ j. is_live j && test j.name) is) k) (eq_swap k i.number)
+    by true = ap (λ b. b || numbers_have (filter (λ j. is_live j && test j.name) is) k) (either_way k i.number)
     by false = refl
 
 cut_same : (f g : ℕ → Bool) → ((k : ℕ) → f k ≡ g k) → (fs : List Frame) → cut f fs ≡ cut g fs

@@ -1,4 +1,5 @@
--- What of an instance its handlers don't change: its number, its name, its links, and whether it is live.
+-- What of an instance its handlers don't change: its number, its name, its version, its text, its exports,
+-- its links, and whether it is live.
 -- How the lists of these look once some end and others are made.
 use Rattle.std.proofs.Common.{◌≡◌, ◌⊎◌, inl, inr, ℕ, suc, ◌+◌, ◌≤◌, ◌<◌, Bool, true, false, List, [], ◌∷◌, length, refl, ap, sym, ◌∙◌, arith, Contains}
 use Rattle.std.specs.Prelude.{filter, map, find, cond, not, ◌&&◌, ◌||◌, ◌==◌, Option, Some, None, is_some, if◌then◌else◌, ⊤}
@@ -7,19 +8,24 @@ use Rattle.std.specs.List.{list_any}
 use Prim.{⊥}
 use Rattle.std.proofs.Math.Path.{subst}
 use Rattle.std.proofs.lemmas.Bool.{false≢true, eqb-true, eq-eqb}
+use Rattle.std.proofs.lemmas.Option.{same_Some}
 use Rattle.core_model.specs.Names.{Name, same_name, has}
-use Rattle.core_model.proofs.Naming.{same_true}
+use Rattle.core_model.specs.Sources.{Text}
+use Rattle.core_model.proofs.Naming.{same_true, and_last, or_left, or_right}
 use Rattle.client_model.specs.Instance.{Instance, is_live}
 use Rattle.world_laws.proofs.Members.{head_in, tail_in, in_cases, none_in}
 
 pub record Frame : Type 0 where
   pub number : ℕ
   pub name : Name
+  pub version : ℕ
+  pub text : Text
+  pub exports : List Name
   pub links : List (Name × ℕ)
   pub live : Bool
 
 abbrev pub frame : Instance → Frame
-frame i = record { number = i.number; name = i.name; links = i.links; live = is_live i }
+frame i = record { number = i.number; name = i.name; version = i.version; text = i.text; exports = i.exports; links = i.links; live = is_live i }
 
 abbrev pub frames : List Instance → List Frame
 frames is = map frame is
@@ -58,11 +64,7 @@ or_none : (a b : Bool) → a ≡ false → (a || b) ≡ b
 or_none true b h = absurd (false≢true (sym h))
 or_none false b h = refl
 
-and_last : (a b : Bool) → b ≡ false → (a && b) ≡ false
-and_last true b h = h
-and_last false b h = refl
-
-apart : (j k : ℕ) → (j ≡ k → ⊥) → (j == k) ≡ false
+pub apart : (j k : ℕ) → (j ≡ k → ⊥) → (j == k) ≡ false
 apart j k f = by (j == k) refl
   where
     by : (b : Bool) → (j == k) ≡ b → b ≡ false
@@ -89,20 +91,13 @@ any_numbered q (g ∷ fs) d f c = by (any_numbered q fs d.1 f) (in_cases g fs f 
 
 -- What is found.
 
-abbrev some_or : {X : Type 0} → X → Option X → X
-some_or x None = x
-some_or x (Some y) = y
-
-pub some_is : {X : Type 0} → (a b : X) → Some a ≡ Some b → a ≡ b
-some_is a b e = ap (some_or a) e
-
-pub found_in : (p : Frame → Bool) (fs : List Frame) (f : Frame) → find p fs ≡ Some f → Contains fs f × (p f ≡ true)
-found_in p [] f e = absurd (false≢true (ap is_some e))
-found_in p (g ∷ fs) f e = by (p g) refl (found_in p fs f) e
+pub found_in : {X : Type 0} → (p : X → Bool) (xs : List X) (x : X) → find p xs ≡ Some x → Contains xs x × (p x ≡ true)
+found_in p [] x e = absurd (false≢true (ap is_some e))
+found_in p (y ∷ xs) x e = by (p y) refl (found_in p xs x) e
   where
-    by : (b : Bool) → p g ≡ b → (find p fs ≡ Some f → Contains fs f × (p f ≡ true)) → cond b (Some g) (find p fs) ≡ Some f → Contains (g ∷ fs) f × (p f ≡ true)
-    by true h rest e = (subst (Contains (g ∷ fs)) (some_is g f e) (head_in g fs), ap p (sym (some_is g f e)) ∙ h)
-    by false h rest e = let k = rest e in (tail_in g fs f k.0, k.1)
+    by : (b : Bool) → p y ≡ b → (find p xs ≡ Some x → Contains xs x × (p x ≡ true)) → cond b (Some y) (find p xs) ≡ Some x → Contains (y ∷ xs) x × (p x ≡ true)
+    by true h rest e = (subst (Contains (y ∷ xs)) (same_Some y x e) (head_in y xs), ap p (sym (same_Some y x e)) ∙ h)
+    by false h rest e = let k = rest e in (tail_in y xs x k.0, k.1)
 
 cond_same : {X : Type 0} → (a b : Bool) (x : X) (y z : X) → a ≡ b → y ≡ z → cond a x y ≡ cond b x z
 cond_same true true x y z e h = refl
@@ -223,14 +218,6 @@ not_made (b ∷ bs) n h = by (same_name b.name n) (not_made bs n) h
     by true rest h = absurd (false≢true (sym h))
     by false rest h = rest h
 
-pub made_there : (bs : List Frame) (n : Name) → is_some (made_at bs n) ≡ has (names_in bs) n
-made_there [] n = refl
-made_there (b ∷ bs) n = by (same_name b.name n) (made_there bs n)
-  where
-    by : (c : Bool) → is_some (made_at bs n) ≡ has (names_in bs) n → is_some (cond c (Some b) (made_at bs n)) ≡ (c || has (names_in bs) n)
-    by true h = refl
-    by false h = h
-
 made_step : (live same : Bool) (b : Frame) (made old : Option Frame) → live ≡ true → (same ≡ true → made ≡ None) → option_or made (cond (live && same) (Some b) old) ≡ option_or (cond same (Some b) made) old
 made_step true true b made old l f = ap (λ o. option_or o (Some b)) (f refl)
 made_step true false b made old l f = refl
@@ -318,7 +305,7 @@ head_none true true b xs e h = absurd (false≢true (sym e))
 head_none true false b xs e h = h
 head_none false same b xs e h = h
 
-other_name : (n m : Name) (names : List Name) → has names n ≡ false → has names m ≡ true → same_name n m ≡ false
+pub other_name : (n m : Name) (names : List Name) → has names n ≡ false → has names m ≡ true → same_name n m ≡ false
 other_name n m names e h = by (same_name n m) refl
   where
     by : (b : Bool) → same_name n m ≡ b → b ≡ false
@@ -329,13 +316,5 @@ other_name n m names e h = by (same_name n m) refl
 pub made_count : (bs fs : List Frame) → Distinct (names_in bs) → ((n : Name) → has (names_in bs) n ≡ true → live_count fs n ≡ 0) → ((n : Name) → live_count fs n ≤ 1) → (n : Name) → live_count (made_on bs fs) n ≤ 1
 made_count [] fs d z h n = h n
 made_count (b ∷ bs) fs d z h n = made_count bs (b ∷ fs) d.1
-    (λ m t. head_none b.live (same_name b.name m) b (filter (is_of m) fs) (other_name b.name m (names_in bs) d.0 t) (z m (in_or (same_name b.name m) (has (names_in bs) m) t)))
-    (λ m. head_count m b.live (same_name b.name m) b (filter (is_of m) fs) (h m) (λ s. z m (in_left (same_name b.name m) (has (names_in bs) m) s))) n
-  where
-    in_or : (a c : Bool) → c ≡ true → (a || c) ≡ true
-    in_or true c h = refl
-    in_or false c h = h
-
-    in_left : (a c : Bool) → a ≡ true → (a || c) ≡ true
-    in_left true c h = refl
-    in_left false c h = absurd (false≢true h)
+    (λ m t. head_none b.live (same_name b.name m) b (filter (is_of m) fs) (other_name b.name m (names_in bs) d.0 t) (z m (or_right (same_name b.name m) (has (names_in bs) m) t)))
+    (λ m. head_count m b.live (same_name b.name m) b (filter (is_of m) fs) (h m) (λ s. z m (or_left (same_name b.name m) (has (names_in bs) m) s))) n

@@ -51,7 +51,7 @@ settled_made : (language : Language) (roots : List Name) (n : Name) (v : ℕ) (w
 settled_made language roots n v w None h = h
 settled_made language roots n v w (Some j) h = one_more roots w.core (change (result n j.text (language.transformed n j.text) v)) h
 
-opened_core : (language : Language) (shelves : List (List (Text × ℕ))) (w : World) (core : Core) (m : ServerMsg) (number : Option ℕ) → (opened_by language shelves w core m number).world.core ≡ core
+pub opened_core : (language : Language) (shelves : List (List (Text × ℕ))) (w : World) (core : Core) (m : ServerMsg) (number : Option ℕ) → (opened_by language shelves w core m number).world.core ≡ core
 opened_core language shelves w core m None = refl
 opened_core language shelves w core m (Some i) = refl
 
@@ -90,7 +90,7 @@ fresh_record : (roots : List Name) (events : List Event) (i : ℕ) → IfSome (c
 fresh_record roots events i = IfSome_then (client_at (core_after roots events).clients i) (client_facts roots events i)
     (λ client facts. is_fresh roots (given (changes_of events)) (core_after roots events).sources client (served_given roots events) facts)
 
-fresh_in : (roots : List Name) (core : Core) (i : ℕ) → IsMade roots core → IfSome (client_at core.clients i) (λ c. IsUpToDate roots core.sources c → IsFreshLoad roots core.sources c)
+pub fresh_in : (roots : List Name) (core : Core) (i : ℕ) → IsMade roots core → IfSome (client_at core.clients i) (λ c. IsUpToDate roots core.sources c → IsFreshLoad roots core.sources c)
 fresh_in roots core i h = subst (λ k. IfSome (client_at k.clients i) (λ c. IsUpToDate roots k.sources c → IsFreshLoad roots k.sources c)) (sym h.made) (fresh_record roots h.events i)
 
 fresh_at : (roots : List Name) (w : World) (i : ℕ) (c : Option Client) (r : Option Runtime) → IfSome c (λ c. IsUpToDate roots w.core.sources c → IsFreshLoad roots w.core.sources c) → TiedAt roots i c r → IsFreshAt roots w c r

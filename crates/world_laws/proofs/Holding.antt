@@ -3,16 +3,16 @@
 use Rattle.std.proofs.Common.{◌≡◌, ◌⊎◌, inl, inr, ℕ, ◌≤◌, Bool, true, false, List, [], ◌∷◌, refl, ap, sym, ◌∙◌, arith, Contains}
 use Rattle.std.specs.Prelude.{filter, cond, not, ◌&&◌, ◌==◌, Option, Some, None, is_some, is_none, option_map, if◌then◌else◌, ⊤}
 use Rattle.std.specs.List.{cons_option}
-use Prim.{⊥}
 use Rattle.std.proofs.Math.Path.{subst}
 use Rattle.std.proofs.lemmas.Bool.{false≢true}
+use Rattle.std.proofs.lemmas.Option.{same_Some}
 use Rattle.hmr_types.specs.declared.words.PlanKind.{PlanKind}
 use Rattle.hmr_types.specs.declared.words.PlanKind.TheVariants.{Load, Reload, Update}
-use Rattle.core_model.specs.Names.{Name, same_name, has, at, first_of}
+use Rattle.core_model.specs.Names.{Name, same_name, has, at}
 use Rattle.core_model.specs.Sources.{Text}
 use Rattle.core_model.specs.View.{View, Entry, is_in, imports_of}
 use Rattle.core_model.specs.Page.{Plan, Page, entry_at, applied, kept_or_staged, unmet_entry, new_entry, new_view, met_of}
-use Rattle.core_model.proofs.Naming.{filtered_from, filtered_in, filtered_has, same_true, same_test}
+use Rattle.core_model.proofs.Naming.{filtered_from, filtered_in, filtered_has, same_true, same_test, none_first, true_from, both_true}
 use Rattle.core_model.proofs.Planning.{met_is, at_new}
 use Rattle.client_model.specs.Instance.{Instance, live_at}
 use Rattle.client_model.specs.Runtime.{Runtime}
@@ -20,7 +20,7 @@ use Rattle.client_model.specs.Order.{fetch_order, evaluation_order}
 use Rattle.client_model.specs.Linking.{is_kept_kind, is_kept, next_needed, new_names, number_after, number_in, links_after, link_to}
 use Rattle.client_model.proofs.Walking.{walk_is, orders_agree}
 use Rattle.world_laws.proofs.Members.{in_cases, none_in, map_in, MadeOf, map_from}
-use Rattle.world_laws.proofs.Frames.{Frame, frame, frames, dead, is_of, cut, ended_by, made_on, live_one, live_count, live_cut, none_counted, cut_count, made_count, old_in, new_in, made_cases, Numbered, found_in, some_is}
+use Rattle.world_laws.proofs.Frames.{Frame, frame, frames, dead, is_of, cut, ended_by, made_on, live_one, live_count, live_cut, none_counted, cut_count, made_count, old_in, new_in, made_cases, Numbered, found_in}
 use Rattle.world_laws.proofs.Births.{new_frame, Ready, news, olds, frames_after, news_names, news_once, numbered_after, live_after, new_there}
 use Rattle.world_laws.proofs.Ending.{ended_names}
 
@@ -56,7 +56,7 @@ HoldsOf r = Holds r.client r.page r.texts (frames r.instances)
 
 -- What leads somewhere, leads there later.
 
-lead_cut : (ends : ℕ → Bool) (fs : List Frame) (x : Name) (k : ℕ) → LeadsTo fs x k → LeadsTo (cut ends fs) x k
+pub lead_cut : (ends : ℕ → Bool) (fs : List Frame) (x : Name) (k : ℕ) → LeadsTo fs x k → LeadsTo (cut ends fs) x k
 lead_cut ends fs x k l = record { to = if ends l.to.number then dead l.to else l.to; there = map_in (λ f. if ends f.number then dead f else f) fs l.to l.there; number = same_number (ends l.to.number) ∙ l.number; name = same_names (ends l.to.number) ∙ l.name }
   where
     same_number : (b : Bool) → (if b then dead l.to else l.to).number ≡ l.to.number
@@ -80,12 +80,12 @@ linked_cut ends fs h f c x k l =
     let m : MadeOf (λ g. if ends g.number then dead g else g) fs f = map_from (λ g. if ends g.number then dead g else g) fs f c in
     lead_cut ends fs x k (h m.of m.there x k (subst (λ links. Contains {X = Name × ℕ} links (x, k)) (sym (ap (λ (g : Frame). g.links) m.makes) ∙ cut_links ends m.of) l))
 
-lead_made : (bs fs : List Frame) (x : Name) (k : ℕ) → LeadsTo fs x k → LeadsTo (made_on bs fs) x k
+pub lead_made : (bs fs : List Frame) (x : Name) (k : ℕ) → LeadsTo fs x k → LeadsTo (made_on bs fs) x k
 lead_made bs fs x k l = record { to = l.to; there = old_in bs fs l.to l.there; number = l.number; name = l.name }
 
 -- Links of new instances.
 
-link_from : (p : Plan) (r : Runtime) (imports : List Name) (x : Name) (k : ℕ) → Contains {X = Name × ℕ} (links_after p r imports) (x, k) → number_after p r x ≡ Some k
+pub link_from : (p : Plan) (r : Runtime) (imports : List Name) (x : Name) (k : ℕ) → Contains {X = Name × ℕ} (links_after p r imports) (x, k) → number_after p r x ≡ Some k
 link_from p r [] x k c = absurd (none_in (x, k) c)
 link_from p r (m ∷ imports) x k c = by (number_after p r m) refl (link_from p r imports x k) c
   where
@@ -117,21 +117,17 @@ number_is is n = by (live_at is n) ∙ ap number_at (sym (live_is is n))
     by None = refl
     by (Some i) = refl
 
-live_leads : (fs : List Frame) (x : Name) (k : ℕ) (o : Option Frame) → live_one fs x ≡ o → number_at o ≡ Some k → LeadsTo fs x k
+pub live_leads : (fs : List Frame) (x : Name) (k : ℕ) (o : Option Frame) → live_one fs x ≡ o → number_at o ≡ Some k → LeadsTo fs x k
 live_leads fs x k None e h = absurd (false≢true (ap is_some h))
 live_leads fs x k (Some f) e h =
     let found = found_in (is_of x) fs f e in
-    record { to = f; there = found.0; number = some_is f.number k h; name = same_true f.name x (last f.live (same_name f.name x) found.1) }
-  where
-    last : (a b : Bool) → (a && b) ≡ true → b ≡ true
-    last true b h = h
-    last false b h = absurd (false≢true h)
+    record { to = f; there = found.0; number = same_Some f.number k h; name = same_true f.name x (both_true f.live (same_name f.name x) found.1).1 }
 
-new_leads : (p : Plan) (r : Runtime) (x : Name) (k : ℕ) → number_after p r x ≡ Some k → LeadsTo (frames_after p r) x k
+pub new_leads : (p : Plan) (r : Runtime) (x : Name) (k : ℕ) → number_after p r x ≡ Some k → LeadsTo (frames_after p r) x k
 new_leads p r x k e = by (has (new_names p r) x) refl e
   where
     by : (b : Bool) → has (new_names p r) x ≡ b → (if b then Some (new_frame p r x).number else number_in (live_at r.instances x)) ≡ Some k → LeadsTo (frames_after p r) x k
-    by true h e = record { to = new_frame p r x; there = new_in (news p r) (olds p r) (new_frame p r x) (new_there p r (new_names p r) x h); number = some_is (new_frame p r x).number k e; name = refl }
+    by true h e = record { to = new_frame p r x; there = new_in (news p r) (olds p r) (new_frame p r x) (new_there p r (new_names p r) x h); number = same_Some (new_frame p r x).number k e; name = refl }
     by false h e = lead_made (news p r) (olds p r) x k (lead_cut (ended_by (ended_names p.kind p r) (frames r.instances)) (frames r.instances) x k
         (live_leads (frames r.instances) x k (live_one (frames r.instances) x) refl (sym (number_is r.instances x) ∙ e)))
 
@@ -148,17 +144,9 @@ linked_after p r h f c x k l = by (made_cases (news p r) (olds p r) f c)
 
 -- A plan that can be applied.
 
-none_first : (names : List Name) → first_of names ≡ None → names ≡ []
-none_first [] e = refl
-none_first (n ∷ names) e = absurd (false≢true (sym (ap is_some e)))
-
-not_none : (b : Bool) → (not b ≡ true → ⊥) → b ≡ true
-not_none true f = refl
-not_none false f = absurd (f refl)
-
 -- where nothing is needed, each met module has its entry
 pub all_there : (p : Plan) (r : Runtime) → next_needed p r ≡ None → (n : Name) → has (fetch_order r.roots p r.page.view) n ≡ true → is_some (entry_at p r.page.view n) ≡ true
-all_there p r e n h = not_none _ (λ t. false≢true (ap (λ names. has names n) (sym (none_first (filter (λ m. is_none (entry_at p r.page.view m)) (fetch_order r.roots p r.page.view)) e)) ∙ filtered_in (λ m. is_none (entry_at p r.page.view m)) (fetch_order r.roots p r.page.view) n t h))
+all_there p r e n h = true_from _ (λ t. false≢true (ap (λ names. has names n) (sym (none_first (filter (λ m. is_none (entry_at p r.page.view m)) (fetch_order r.roots p r.page.view)) e)) ∙ filtered_in (λ m. is_none (entry_at p r.page.view m)) (fetch_order r.roots p r.page.view) n t h))
 
 staged_from : (kind : PlanKind) (b : Bool) (old staged : Option Entry) → not (is_kept_kind kind b old) ≡ true → is_some (kept_or_staged kind b old staged) ≡ true → is_some staged ≡ true
 staged_from Load b old staged e h = h
@@ -220,20 +208,16 @@ live_now Update false false None staged one new s l h = s
 live_now Update true false (Some e) staged one new s l h = s
 live_now Update false false (Some e) staged one new s l h = s
 
+none_is : (o : Option Frame) → is_some o ≡ false → o ≡ None
+none_is None h = refl
+none_is (Some f) h = absurd (false≢true (sym h))
+
 gone : (kind : PlanKind) (replaced met : Bool) (old : Option Entry) (one : Option Frame) → (not (is_kept_kind kind replaced old) && met) ≡ true → is_some one ≡ is_some old → (kind ≡ Load → is_some old ≡ false) → (if ends_kind kind replaced (not (is_kept_kind kind replaced old) && met) then None else one) ≡ None
 gone Load replaced met old one n s l = none_is one (s ∙ l refl)
-  where
-    none_is : (o : Option Frame) → is_some o ≡ false → o ≡ None
-    none_is None h = refl
-    none_is (Some f) h = absurd (false≢true (sym h))
 gone Reload replaced met old one n s l = refl
 gone Update true true old one n s l = refl
 gone Update true false old one n s l = absurd (false≢true n)
 gone Update false met None one n s l = none_is one s
-  where
-    none_is : (o : Option Frame) → is_some o ≡ false → o ≡ None
-    none_is None h = refl
-    none_is (Some f) h = absurd (false≢true (sym h))
 gone Update false met (Some e) one n s l = absurd (false≢true n)
 
 new_entry_is : (b : Bool) (p : Plan) (view : View) (n : Name) → new_entry b p view n ≡ (if b then kept_or_staged p.kind (has p.replaced n) (at view n) (at p.staged n) else unmet_entry p.kind (at view n))

@@ -1,6 +1,8 @@
 pub mod Births
 pub mod CatchingUp
+pub mod Changes
 pub mod Ending
+pub mod Exporting
 pub mod Following
 pub mod Frames
 pub mod Freshness
@@ -9,9 +11,11 @@ pub mod Making
 pub mod Members
 pub mod Messages
 pub mod Orders
+pub mod Replies
 pub mod StaleLists
 pub mod StopLists
 pub mod Stopping
+pub mod Texts
 pub mod TurnsTaken
 pub mod TurnsServed
 pub mod TurnsEnding
@@ -21,3 +25,5 @@ pub mod TurnsPages
 pub mod TurnsAsk
 pub mod TurnsLowering
 pub mod TurnsBinding
+pub mod Unlinked
+pub mod VersionTexts

@@ -30,6 +30,17 @@ from_one (g ∷ fs) d f c = by (from_one fs d.1 f) (in_cases g fs f c)
     by rest (inl e) = omega (arith, d.0, ap (λ (h : Frame). h.number) e)
     by rest (inr t) = rest t
 
+-- one of each number
+pub same_numbered : (fs : List Frame) → Numbered fs → (f g : Frame) → Contains fs f → Contains fs g → f.number ≡ g.number → f ≡ g
+same_numbered [] d f g c k e = absurd (none_in f c)
+same_numbered (h ∷ fs) d f g c k e = by (same_numbered fs d.1 f g) (in_cases h fs f c) (in_cases h fs g k)
+  where
+    by : (Contains fs f → Contains fs g → f.number ≡ g.number → f ≡ g) → (h ≡ f) ⊎ Contains fs f → (h ≡ g) ⊎ Contains fs g → f ≡ g
+    by rest (inl a) (inl b) = sym a ∙ b
+    by rest (inl a) (inr t) = absurd (omega (arith, number_low fs d.1 g t, d.0, e, ap (λ (i : Frame). i.number) a))
+    by rest (inr t) (inl b) = absurd (omega (arith, number_low fs d.1 f t, d.0, e, ap (λ (i : Frame). i.number) b))
+    by rest (inr t) (inr u) = rest t u e
+
 counted_in : (is : List Instance) → Numbered (frames is) → (f : Frame) → Contains (frames is) f → (1 ≤ f.number) × (f.number ≤ length is)
 counted_in is d f c = (from_one (frames is) d f c, omega (arith, number_low (frames is) d f c, length-map is frame))
 

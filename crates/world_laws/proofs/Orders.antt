@@ -1,36 +1,24 @@
 -- The walk of a plan leaves each module once, and so each new instance has a place of its own.
 use Rattle.std.proofs.Common.{◌≡◌, ◌⊎◌, inl, inr, ℕ, zero, suc, ◌+◌, Bool, true, false, List, [], ◌∷◌, ◌++◌, refl, ap, sym, ◌∙◌, arith}
 use Rattle.std.specs.Prelude.{filter, fold, cond, ◌||◌, if◌then◌else◌, ⊤}
-use Prim.{⊥}
 use Rattle.std.proofs.Math.Path.{subst}
 use Rattle.std.proofs.lemmas.Bool.{false≢true}
 use Rattle.core_model.specs.Names.{Name, same_name, has}
 use Rattle.core_model.specs.View.{View}
 use Rattle.core_model.specs.Page.{Plan}
-use Rattle.core_model.proofs.Naming.{or_cases, or_left, or_right, same_true, true_same, has_append, filtered_from}
+use Rattle.core_model.proofs.Naming.{or_cases, or_left, or_right, same_true, true_same, filtered_from, false_from, neither, has_more, more_left, more_last, more_cases}
 use Rattle.client_model.specs.Order.{Walked, met_too, left_too, visit, walk, depth_of, next_of, evaluation_order}
 use Rattle.client_model.specs.Linking.{place_of}
 use Rattle.world_laws.proofs.Frames.{Distinct}
-
-false_from : (b : Bool) → (b ≡ true → ⊥) → b ≡ false
-false_from true f = absurd (f refl)
-false_from false f = refl
-
-or_parts : (a b : Bool) → (a || b) ≡ false → (a ≡ false) × (b ≡ false)
-or_parts true b h = absurd (false≢true (sym h))
-or_parts false b h = (refl, h)
 
 or_both : (a b : Bool) → a ≡ false → b ≡ false → (a || b) ≡ false
 or_both true b h k = absurd (false≢true (sym h))
 or_both false b h k = k
 
-has_more : (names : List Name) (n m : Name) → has (names ++ n ∷ []) m ≡ (has names m || (same_name n m || false))
-has_more names n m = has_append names (n ∷ []) m
-
-distinct_more : (names : List Name) (n : Name) → has names n ≡ false → Distinct names → Distinct (names ++ n ∷ [])
+pub distinct_more : (names : List Name) (n : Name) → has names n ≡ false → Distinct names → Distinct (names ++ n ∷ [])
 distinct_more [] n h d = (refl, tt)
 distinct_more (m ∷ names) n h d =
-    let parts = or_parts (same_name m n) (has names n) h in
+    let parts = neither (same_name m n) (has names n) h in
     (has_more names n m ∙ or_both (has names m) (same_name n m || false) d.0 (or_both (same_name n m) false (false_from (same_name n m) (λ s. false≢true (sym parts.0 ∙ true_same m n (sym (same_true n m s))))) refl), distinct_more names n parts.1 d.1)
 
 -- What is left was met, each name once; and a name that is still being visited isn't left.
@@ -43,37 +31,27 @@ module _ (next : Name → List Name) where
   abbrev KeepsOrdered : (List Name → Walked → Walked) → Type 0
   KeepsOrdered deeper = (open_names from : List Name) (w : Walked) → Ordered open_names w → Ordered open_names (deeper from w)
 
-  more_met : (w : Walked) (n m : Name) → has w.met m ≡ true → has (met_too n w).met m ≡ true
-  more_met w n m h = has_more w.met n m ∙ or_left (has w.met m) _ h
-
-  just_met : (w : Walked) (n : Name) → has (met_too n w).met n ≡ true
-  just_met w n = has_more w.met n n ∙ or_right (has w.met n) _ (or_left (same_name n n) false (true_same n n refl))
-
   met_ordered : (open_names : List Name) (n : Name) (w : Walked) → has w.met n ≡ false → Ordered open_names w → Ordered (n ∷ open_names) (met_too n w)
   met_ordered open_names n w e o = record {
     once = o.once;
-    met = λ m h. more_met w n m (o.met m h);
+    met = λ m h. more_left w.met n m (o.met m h);
     opens = λ m h. by m (or_cases (same_name n m) (has open_names m) h);
   }
     where
       by : (m : Name) → (same_name n m ≡ true) ⊎ (has open_names m ≡ true) → (has w.left m ≡ false) × (has (met_too n w).met m ≡ true)
-      by m (inl s) = subst (λ k. (has w.left k ≡ false) × (has (met_too n w).met k ≡ true)) (same_true n m s) (false_from (has w.left n) (λ h. false≢true (sym e ∙ o.met n h)), just_met w n)
-      by m (inr t) = ((o.opens m t).0, more_met w n m (o.opens m t).1)
+      by m (inl s) = subst (λ k. (has w.left k ≡ false) × (has (met_too n w).met k ≡ true)) (same_true n m s) (false_from (has w.left n) (λ h. false≢true (sym e ∙ o.met n h)), more_last w.met n)
+      by m (inr t) = ((o.opens m t).0, more_left w.met n m (o.opens m t).1)
 
   left_ordered : (open_names : List Name) (n : Name) (w : Walked) → has open_names n ≡ false → Ordered (n ∷ open_names) w → Ordered open_names (left_too n w)
   left_ordered open_names n w e o = record {
     once = distinct_more w.left n (o.opens n (or_left (same_name n n) _ (true_same n n refl))).0 o.once;
-    met = λ m h. met_by m (or_cases (has w.left m) _ (sym (has_more w.left n m) ∙ h));
+    met = λ m h. met_by m (more_cases w.left n m h);
     opens = λ m h. (has_more w.left n m ∙ or_both (has w.left m) _ (o.opens m (or_right (same_name n m) _ h)).0 (or_both (same_name n m) false (false_from (same_name n m) (λ s. false≢true (sym e ∙ ap (has open_names) (same_true n m s) ∙ h))) refl), (o.opens m (or_right (same_name n m) _ h)).1);
   }
     where
-      or_false : (b : Bool) → (b || false) ≡ true → b ≡ true
-      or_false true h = h
-      or_false false h = h
-
-      met_by : (m : Name) → (has w.left m ≡ true) ⊎ ((same_name n m || false) ≡ true) → has w.met m ≡ true
+      met_by : (m : Name) → (has w.left m ≡ true) ⊎ (n ≡ m) → has w.met m ≡ true
       met_by m (inl a) = o.met m a
-      met_by m (inr b) = (o.opens m (or_left (same_name n m) _ (or_false (same_name n m) b))).1
+      met_by m (inr b) = (o.opens m (or_left (same_name n m) _ (true_same n m b))).1
 
   visit_if : (open_names : List Name) (n : Name) (b : Bool) (w v : Walked) → has w.met n ≡ b → Ordered open_names w → (b ≡ false → Ordered (n ∷ open_names) v) → Ordered open_names (if b then w else left_too n v)
   visit_if open_names n true w v e o f = o

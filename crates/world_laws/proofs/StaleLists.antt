@@ -5,16 +5,13 @@ use Rattle.std.proofs.Math.Path.{subst}
 use Rattle.std.proofs.lemmas.Bool.{false≢true, eqb-true, eq-eqb}
 use Rattle.std.proofs.lemmas.List.Elements.{Contains-append_cases, Contains-append_left, Contains-append_right}
 use Rattle.world_laws.proofs.Members.{head_in, tail_in, in_cases, none_in}
-use Rattle.std.specs.declared.cmp.Ordering.{Ordering}
-use Rattle.std.specs.declared.cmp.Ordering.TheVariants.{Less, Equal, Greater}
 use Rattle.std.specs.Ordering.{nat_cmp, is_lt}
 use Rattle.std.specs.Cmp.Lexicographic.{slice_cmp}
-use Rattle.std.proofs.lemmas.Cmp.{nat_list_cmp_total}
 use Rattle.core_model.specs.Names.{Name, same_name, has, at, names_of, sorted, rising}
 use Rattle.core_model.specs.View.{imports, imports_of}
 use Rattle.core_model.proofs.Naming.{both_true, and_both, or_cases, or_left, or_right, not_true, not_from, same_true, true_same, filtered_in, filtered_from, sorted_has}
 use Rattle.core_model.proofs.Views.{importer_named}
-use Rattle.core_model.proofs.Rising.{sorted_rises}
+use Rattle.core_model.proofs.Rising.{sorted_rises, through, tail_rises}
 use Rattle.core_model.proofs.Tables.{named}
 use Rattle.core_model.specs.View.{is_in}
 use Rattle.client_model.specs.Runtime.{Runtime}
@@ -24,13 +21,13 @@ use Rattle.world_laws.specs.Edges.{edges_rise}
 
 -- What the list has.
 
-linked_same : (j k : Option ℕ) → same_link j k ≡ true → j ≡ k
+pub linked_same : (j k : Option ℕ) → same_link j k ≡ true → j ≡ k
 linked_same None None h = refl
 linked_same None (Some k) h = absurd (false≢true h)
 linked_same (Some j) None h = absurd (false≢true h)
 linked_same (Some j) (Some k) h = ap Some (eqb-true j k h)
 
-same_linked : (j k : Option ℕ) → j ≡ k → same_link j k ≡ true
+pub same_linked : (j k : Option ℕ) → j ≡ k → same_link j k ≡ true
 same_linked None k e = subst (λ o. same_link None o ≡ true) e refl
 same_linked (Some j) k e = subst (λ o. same_link (Some j) o ≡ true) e (eq-eqb j j refl)
 
@@ -103,14 +100,6 @@ module _ (r : Runtime) where
 
 -- The list rises.
 
-less_is : (o : Ordering) → is_lt o ≡ true → o ≡ Less
-less_is Less h = refl
-less_is Equal h = absurd (false≢true h)
-less_is Greater h = absurd (false≢true h)
-
-through : (n m k : Name) → is_lt (slice_cmp nat_cmp n m) ≡ true → is_lt (slice_cmp nat_cmp m k) ≡ true → is_lt (slice_cmp nat_cmp n k) ≡ true
-through n m k h g = ap is_lt (nat_list_cmp_total.trans n m k (less_is (slice_cmp nat_cmp n m) h) (less_is (slice_cmp nat_cmp m k) g))
-
 -- each name of the list is above k
 abbrev AreAbove : Name → List Name → Type 0
 AreAbove k names = (m : Name) → has names m ≡ true → is_lt (slice_cmp nat_cmp k m) ≡ true
@@ -125,10 +114,6 @@ all_above k (n ∷ names) r m h = by (all_above n names parts.1 m) (or_cases (sa
     by : (has names m ≡ true → is_lt (slice_cmp nat_cmp n m) ≡ true) → (same_name n m ≡ true) ⊎ (has names m ≡ true) → is_lt (slice_cmp nat_cmp k m) ≡ true
     by rest (inl s) = subst (λ j. is_lt (slice_cmp nat_cmp k j) ≡ true) (same_true n m s) parts.0
     by rest (inr t) = through k n m parts.0 (rest t)
-
-tail_rises : (m : Name) (names : List Name) → rising (m ∷ names) ≡ true → rising names ≡ true
-tail_rises m [] r = refl
-tail_rises m (n ∷ names) r = (both_true (is_lt (slice_cmp nat_cmp m n)) _ r).1
 
 head_first : (k : Name) (names : List Name) → AreAbove k names → rising names ≡ true → rising (k ∷ names) ≡ true
 head_first k [] a r = refl

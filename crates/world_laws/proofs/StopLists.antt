@@ -4,6 +4,7 @@ use Rattle.std.proofs.Common.{◌≡◌, ◌↔◌, ◌⊎◌, inl, inr, ℕ, tr
 use Rattle.std.specs.Prelude.{Option, Some, None, is_some, ⊤}
 use Rattle.std.proofs.Math.Path.{subst}
 use Rattle.std.proofs.lemmas.Bool.{false≢true}
+use Rattle.std.proofs.lemmas.Option.{same_Some}
 use Rattle.core_model.specs.declared.message.ServerMsg.{ServerMsg}
 use Rattle.core_model.specs.Names.{Name, has}
 use Rattle.core_model.specs.Sources.{Text}
@@ -16,7 +17,7 @@ use Rattle.client_model.specs.Linking.{number_in}
 use Rattle.client_model.specs.Taking.{runtime_after}
 use Rattle.client_model.specs.Stale.{live_number, IsStale, StopsAt, Stopped}
 use Rattle.world_laws.specs.Stops.{IsStopped, IsAccepted, IsLeftBehind, AreAccepted}
-use Rattle.world_laws.proofs.Frames.{frames, some_is}
+use Rattle.world_laws.proofs.Frames.{frames}
 use Rattle.world_laws.proofs.Holding.{HoldsOf}
 use Rattle.world_laws.proofs.Messages.{Quiet, Applies, GoesTo, take_goes, run_holds}
 use Rattle.world_laws.proofs.Stopping.{IsClosed, IsSane, PlanSpread, Stales, Next, live_some, live_in_page, importer_in, no_stop, quiet_stales, applied_stales, applied_accepts, unmet_dropped}
@@ -31,10 +32,10 @@ module _ (language : Language) (shelf : List (Text × ℕ)) where
   closed_now [] h = λ b x i. absurd (false≢true i)
   closed_now (m ∷ past) h = h.0.closed
 
-  stales_by : (r s : Runtime) (Past : ℕ → Name → Name → Type 0) → HoldsOf r → GoesTo r s → Stales r Past → IsClosed r.page.view → IsClosed s.page.view → Stales s (Next r s Past)
+  stales_by : (r s : Runtime) (Past : ℕ → Name → Name → Type 0) → HoldsOf r → GoesTo language r s → Stales r Past → IsClosed r.page.view → IsClosed s.page.view → Stales s (Next r s Past)
   stales_by r s Past old g t was_closed closed = by g.moves
     where
-      by : Quiet r.page.view s.page.view (frames r.instances) (frames s.instances) ⊎ Applies r s.page (frames s.instances) → Stales s (Next r s Past)
+      by : Quiet r.page.view s.page.view (frames r.instances) (frames s.instances) ⊎ Applies language r s.page (frames s.instances) → Stales s (Next r s Past)
       by (inl q) = quiet_stales r s Past q t g.holds closed
       by (inr a) = applied_stales r s Past a t old g.holds was_closed closed
 
@@ -45,28 +46,28 @@ module _ (language : Language) (shelf : List (Text × ℕ)) where
   accepted_now : (past : List ServerMsg) (m : ServerMsg) → AtEach (λ r. IsSane r.page) language shelf (m ∷ past) → PlanSpread (runtime_after language shelf past).page.plan (runtime_after language shelf past).page.view (runtime_after language shelf past).page.forced → (k : ℕ) (b x : Name) → StopsAt (runtime_after language shelf past) (runtime_after language shelf (m ∷ past)) k b x → IsAccepted (runtime_after language shelf past) b x
   accepted_now past m h spread k b x st q e met = by g.moves
     where
-      g : GoesTo (runtime_after language shelf past) (runtime_after language shelf (m ∷ past))
+      g : GoesTo language (runtime_after language shelf past) (runtime_after language shelf (m ∷ past))
       g = take_goes language (runtime_after language shelf past) m (run_holds language shelf past)
 
-      by : Quiet (runtime_after language shelf past).page.view (runtime_after language shelf (m ∷ past)).page.view (frames (runtime_after language shelf past).instances) (frames (runtime_after language shelf (m ∷ past)).instances) ⊎ Applies (runtime_after language shelf past) (runtime_after language shelf (m ∷ past)).page (frames (runtime_after language shelf (m ∷ past)).instances)
+      by : Quiet (runtime_after language shelf past).page.view (runtime_after language shelf (m ∷ past)).page.view (frames (runtime_after language shelf past).instances) (frames (runtime_after language shelf (m ∷ past)).instances) ⊎ Applies language (runtime_after language shelf past) (runtime_after language shelf (m ∷ past)).page (frames (runtime_after language shelf (m ∷ past)).instances)
           → (accepts (runtime_after language shelf past).page.view b x ≡ true) ⊎ ((self_accepts (runtime_after language shelf past).page.view x ≡ true) × (has (runtime_after language shelf past).page.forced x ≡ false))
       by (inl c) = absurd (no_stop (runtime_after language shelf past) (runtime_after language shelf (m ∷ past)) (Stopped language shelf past) c (run_stales past h.1) g.holds h.0.closed k b x st)
       by (inr a) = applied_accepts (runtime_after language shelf past) (runtime_after language shelf (m ∷ past)) (Stopped language shelf past) a (run_stales past h.1) (run_holds language shelf past) g.holds (closed_now past h.1) h.0.closed
           (subst (λ o. PlanSpread o (runtime_after language shelf past).page.view (runtime_after language shelf past).page.forced) a.plan_is spread) k b x st
-          (subst (λ z. has (met_of (runtime_after language shelf past).roots z (runtime_after language shelf past).page.view) b ≡ true) (some_is q a.plan (sym e ∙ a.plan_is)) met)
+          (subst (λ z. has (met_of (runtime_after language shelf past).roots z (runtime_after language shelf past).page.view) b ≡ true) (same_Some q a.plan (sym e ∙ a.plan_is)) met)
 
   left_now : (past : List ServerMsg) (m : ServerMsg) → AtEach (λ r. IsSane r.page) language shelf (m ∷ past) → (k : ℕ) (b x : Name) → StopsAt (runtime_after language shelf past) (runtime_after language shelf (m ∷ past)) k b x → IsLeftBehind (runtime_after language shelf past) (runtime_after language shelf (m ∷ past)) b
   left_now past m h k b x st q e unmet = by g.moves
     where
-      g : GoesTo (runtime_after language shelf past) (runtime_after language shelf (m ∷ past))
+      g : GoesTo language (runtime_after language shelf past) (runtime_after language shelf (m ∷ past))
       g = take_goes language (runtime_after language shelf past) m (run_holds language shelf past)
 
-      by : Quiet (runtime_after language shelf past).page.view (runtime_after language shelf (m ∷ past)).page.view (frames (runtime_after language shelf past).instances) (frames (runtime_after language shelf (m ∷ past)).instances) ⊎ Applies (runtime_after language shelf past) (runtime_after language shelf (m ∷ past)).page (frames (runtime_after language shelf (m ∷ past)).instances)
+      by : Quiet (runtime_after language shelf past).page.view (runtime_after language shelf (m ∷ past)).page.view (frames (runtime_after language shelf past).instances) (frames (runtime_after language shelf (m ∷ past)).instances) ⊎ Applies language (runtime_after language shelf past) (runtime_after language shelf (m ∷ past)).page (frames (runtime_after language shelf (m ∷ past)).instances)
           → IsDropped (runtime_after language shelf (m ∷ past)).page.view (runtime_after language shelf past).roots b
       by (inl c) = absurd (no_stop (runtime_after language shelf past) (runtime_after language shelf (m ∷ past)) (Stopped language shelf past) c (run_stales past h.1) g.holds h.0.closed k b x st)
       by (inr a) = unmet_dropped (runtime_after language shelf past) (runtime_after language shelf (m ∷ past)) (Stopped language shelf past) a (run_stales past h.1) (run_holds language shelf past) g.holds (closed_now past h.1) h.0.closed b
           (sym (g.holds.live b) ∙ sym (live_some (runtime_after language shelf (m ∷ past)) b) ∙ ap is_some st.is)
-          (subst (λ z. has (met_of (runtime_after language shelf past).roots z (runtime_after language shelf past).page.view) b ≡ false) (some_is q a.plan (sym e ∙ a.plan_is)) unmet)
+          (subst (λ z. has (met_of (runtime_after language shelf past).roots z (runtime_after language shelf past).page.view) b ≡ false) (same_Some q a.plan (sym e ∙ a.plan_is)) unmet)
 
   spread_now : (past : List ServerMsg) → AtEach (λ r. IsSane r.page) language shelf past → PlanSpread (runtime_after language shelf past).page.plan (runtime_after language shelf past).page.view (runtime_after language shelf past).page.forced
   spread_now [] h = tt

@@ -7,24 +7,26 @@ use Prim.{⊥}
 use Rattle.std.proofs.Math.Path.{subst}
 use Rattle.std.proofs.lemmas.Bool.{false≢true}
 use Rattle.std.proofs.lemmas.List.{length-map}
+use Rattle.std.proofs.lemmas.Option.{same_Some}
 use Rattle.hmr_types.specs.declared.words.PlanKind.{PlanKind}
 use Rattle.hmr_types.specs.declared.words.PlanKind.TheVariants.{Load, Reload, Update}
 use Rattle.core_model.specs.Names.{Name, same_name, has, at, names_of}
 use Rattle.core_model.specs.Sources.{Text}
 use Rattle.core_model.specs.View.{View, Entry, is_in, imports, imports_of, accepts, self_accepts, IsDropped}
 use Rattle.core_model.specs.Page.{Plan, Page, entry_at, kept_or_staged, unmet_entry, new_view, met_of, plan_imports}
-use Rattle.core_model.proofs.Naming.{cases_bool, has_is, same_true}
+use Rattle.core_model.proofs.Naming.{cases_bool, has_is, same_true, both_true}
 use Rattle.core_model.proofs.Planning.{met_is}
 use Rattle.core_model.proofs.Reaching.{reaches_on, reaches_start, reaches_within}
 use Rattle.core_model.proofs.Tables.{named}
 use Rattle.core_model.proofs.Views.{importer_named}
+use Rattle.client_model.specs.Language.{Language}
 use Rattle.client_model.specs.Instance.{Instance, live_at}
 use Rattle.client_model.specs.Runtime.{Runtime}
 use Rattle.client_model.specs.Linking.{is_kept_kind, number_after, number_in, links_after, link_to}
 use Rattle.client_model.specs.Stale.{live_number, link_of, link_in, is_update, is_updating, StopsAt}
 use Rattle.core_laws.specs.Facts.{AreSpread}
 use Rattle.world_laws.proofs.Members.{head_in, tail_in}
-use Rattle.world_laws.proofs.Frames.{Frame, frame, frames, live_one, Numbered, number_low, made_length, cut_length, found_in, is_of, some_is, ended_by}
+use Rattle.world_laws.proofs.Frames.{Frame, frame, frames, live_one, Numbered, number_low, made_length, cut_length, found_in, is_of, ended_by}
 use Rattle.world_laws.proofs.Ending.{ended_names}
 use Rattle.world_laws.proofs.Births.{new_frame, news, olds}
 use Rattle.world_laws.proofs.Holding.{Holds, HoldsOf, LeadsTo, live_is, number_at, number_is, one_after, entry_after, ends_kind, new_is}
@@ -65,14 +67,14 @@ number_most fs d n k e = by (live_one fs n) refl e
   where
     by : (o : Option Frame) → live_one fs n ≡ o → number_at o ≡ Some k → k ≤ length fs
     by None f e = absurd (false≢true (ap is_some e))
-    by (Some g) f e = omega (arith, number_low fs d g (found_in (is_of n) fs g f).0, some_is g.number k e)
+    by (Some g) f e = omega (arith, number_low fs d g (found_in (is_of n) fs g f).0, same_Some g.number k e)
 
-row_in : (links : List (Name × ℕ)) (x : Name) (k : ℕ) → at links x ≡ Some k → Contains links (x, k)
+pub row_in : (links : List (Name × ℕ)) (x : Name) (k : ℕ) → at links x ≡ Some k → Contains links (x, k)
 row_in [] x k e = absurd (false≢true (ap is_some e))
 row_in (row ∷ links) x k e = by (same_name row.0 x) refl (row_in links x k) e
   where
     by : (b : Bool) → same_name row.0 x ≡ b → (at links x ≡ Some k → Contains links (x, k)) → (if b then Some row.1 else at links x) ≡ Some k → Contains (row ∷ links) (x, k)
-    by true s rest e = subst (λ n. Contains {X = Name × ℕ} (row ∷ links) (n, k)) (same_true row.0 x s) (subst (λ j. Contains {X = Name × ℕ} (row ∷ links) (row.0, j)) (some_is row.1 k e) (head_in row links))
+    by true s rest e = subst (λ n. Contains {X = Name × ℕ} (row ∷ links) (n, k)) (same_true row.0 x s) (subst (λ j. Contains {X = Name × ℕ} (row ∷ links) (row.0, j)) (same_Some row.1 k e) (head_in row links))
     by false s rest e = tail_in row links (x, k) (rest e)
 
 link_most : (client : ℕ) (page : Page) (texts : List (Name × Text)) (fs : List Frame) → Holds client page texts fs → (b x : Name) (k : ℕ) → link_at (live_one fs b) x ≡ Some k → k ≤ length fs
@@ -202,7 +204,7 @@ links_at p r (m ∷ names) x h = by (same_name m x) refl (number_after p r m) re
     by false s None e rest h = rest h
     by false s (Some k) e rest h = ap (λ b. if b then Some k else at (links_after p r names) x) s ∙ rest h
 
-module _ (r s : Runtime) (Past : ℕ → Name → Name → Type 0) (a : Applies r s.page (frames s.instances)) (t : Stales r Past) (old : HoldsOf r) (h : HoldsOf s) (was_closed : IsClosed r.page.view) (closed : IsClosed s.page.view) where
+module _ {language : Language} (r s : Runtime) (Past : ℕ → Name → Name → Type 0) (a : Applies language r s.page (frames s.instances)) (t : Stales r Past) (old : HoldsOf r) (h : HoldsOf s) (was_closed : IsClosed r.page.view) (closed : IsClosed s.page.view) where
   abbrev p : Plan
   p = a.plan
 
@@ -257,16 +259,12 @@ module _ (r s : Runtime) (Past : ℕ → Name → Name → Type 0) (a : Applies 
   number_now x i (inl e) = ap (λ b. if b then Some (new_frame p r x).number else number_in (live_at r.instances x)) (new_is p r x ∙ e) ∙ sym (new_number x e)
   number_now x i (inr e) = ap (λ b. if b then Some (new_frame p r x).number else number_in (live_at r.instances x)) (new_is p r x ∙ e) ∙ sym (stayed_number x e i)
 
-  met_new : (a b : Bool) → (a && b) ≡ true → b ≡ true
-  met_new true b e = e
-  met_new false b e = absurd (false≢true e)
-
   -- an instance that is made isn't stale
   new_exact : (k : ℕ) (b x : Name) → imports s.page.view b x ≡ true → live_number s b ≡ Some k → is_new b ≡ true → (link_of s b x ≢ live_number s x) ↔ Next r s Past k b x
   new_exact k b x i l e =
-      let entry : at s.page.view b ≡ entry_at p r.page.view b = entry_now b ∙ ap (λ c. if c then entry_at p r.page.view b else unmet_entry p.kind (at r.page.view b)) (met_new (not (is_kept_kind p.kind (has p.replaced b) (at r.page.view b))) (has (met_of r.roots p r.page.view) b) e) in
+      let entry : at s.page.view b ≡ entry_at p r.page.view b = entry_now b ∙ ap (λ c. if c then entry_at p r.page.view b else unmet_entry p.kind (at r.page.view b)) (both_true (not (is_kept_kind p.kind (has p.replaced b) (at r.page.view b))) (has (met_of r.roots p r.page.view) b) e).1 in
       let link : link_of s b x ≡ live_number s x = link_is s b x ∙ ap (λ o. link_at o x) (renewed_one b e) ∙ links_at p r (imports_of (entry_at p r.page.view b)) x (ap (λ o. has (imports_of o) x) (sym entry) ∙ i) ∙ number_now x (closed b x i) (cases_bool (is_new x)) in
-      ((λ d. absurd (d link)), (λ n f. omega (arith, below_next k b x n, old_count, some_is (new_frame p r b).number k (sym (new_number b e) ∙ l))))
+      ((λ d. absurd (d link)), (λ n f. omega (arith, below_next k b x n, old_count, same_Some (new_frame p r b).number k (sym (new_number b e) ∙ l))))
 
   -- one that stays is stale at what is made
   stop_exact : (k : ℕ) (b x : Name) → imports s.page.view b x ≡ true → live_number s b ≡ Some k → is_new b ≡ false → is_new x ≡ true → (link_of s b x ≢ live_number s x) ↔ Next r s Past k b x
@@ -323,7 +321,7 @@ module _ (r s : Runtime) (Past : ℕ → Name → Name → Type 0) (a : Applies 
   in_page n l = sym (h.live n) ∙ sym (live_some s n) ∙ l
 
   not_made : (k : ℕ) (b x : Name) → StopsAt r s k b x → (is_new b ≡ true) ⊎ (is_new b ≡ false) → is_new b ≡ false
-  not_made k b x st (inl e) = absurd (omega (arith, live_most b k st.was, some_is (new_frame p r b).number k (sym (new_number b e) ∙ st.is), old_count))
+  not_made k b x st (inl e) = absurd (omega (arith, live_most b k st.was, same_Some (new_frame p r b).number k (sym (new_number b e) ∙ st.is), old_count))
   not_made k b x st (inr e) = e
 
   is_made : (k : ℕ) (b x : Name) → StopsAt r s k b x → (is_new x ≡ true) ⊎ (is_new x ≡ false) → is_new x ≡ true

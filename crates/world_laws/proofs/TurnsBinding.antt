@@ -9,7 +9,7 @@ use Rattle.core_model.specs.Names.{same_name, has, at}
 use Rattle.core_model.specs.Sources.{Text}
 use Rattle.core_model.proofs.Naming.{both_true}
 use Rattle.world_model.specs.SmallLanguage.{Module, Texts, outcome_in, bindings_in, small_language}
-use Rattle.world_laws.specs.Quiet.{BindsImports}
+use Rattle.client_model.specs.Language.{BindsImports}
 use Rattle.world_laws.specs.SmallTexts.{binds_imports, all_bind_imports}
 
 abbrev analysis_or : Analysis → Outcome → Analysis

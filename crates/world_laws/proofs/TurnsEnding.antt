@@ -25,26 +25,25 @@ use Rattle.core_model.proofs.Naming.{same_true}
 use Rattle.core_model.proofs.Tables.{at_with_row}
 use Rattle.core_model.proofs.Clients.{at_with, at_without, at_each}
 use Rattle.core_model.proofs.Loading.{reached_is}
+use Rattle.core_model.proofs.Replaying.{change_stays}
 use Rattle.core_laws.specs.Given.{given, entry_of, IsGiven}
 use Rattle.core_laws.specs.Facts.{PlanIsServed, IsAtMost, ClientFacts}
 use Rattle.core_laws.proofs.Events.{IsLater, changed_later, client_facts, served_given}
-use Rattle.core_laws.proofs.Staying.{change_stays}
-use Rattle.client_model.specs.Language.{Language, Bag}
+use Rattle.client_model.specs.Language.{Language, Bag, BindsImports}
 use Rattle.client_model.specs.Instance.{Instance}
 use Rattle.client_model.specs.Runtime as causes
 use Rattle.client_model.specs.Runtime.{Runtime, Cause, Invalidation, Did, for_each, write}
 use Rattle.client_model.specs.Linking.{next_needed, link_cause}
 use Rattle.client_model.specs.Requesting.{ask_or_invalidate, abort_message, apply_or_abort, fetch_or_finish, carry_on, request_by}
-use Rattle.client_model.specs.Answering.{stage, accept_line, pair_of, write_cause}
-use Rattle.client_model.specs.Making.{make_run, make_unrun, has_failed_link}
-use Rattle.client_model.proofs.Acts.{IsKept, kept_pruning}
+use Rattle.client_model.specs.Answering.{stage, accept_line, pair_of}
+use Rattle.client_model.proofs.Acts.{IsKept, kept_pruning, by_make}
 use Rattle.world_model.specs.World.{World, Job, Step, edits, settles, opens, turn, closes, show, values, fates, fresh}
 use Rattle.world_model.specs.Editing.{is_job, settle_job}
 use Rattle.world_model.specs.Turning.{turn_of, open_by, close_of, shown}
 use Rattle.world_model.specs.Steps.{world_step, world_after}
 use Rattle.world_model.specs.Ties.{IsTied, TiedAt, IsServedRight, AreServedRight, WentOn}
 use Rattle.world_model.proofs.Tying.{IsSound, run_sound}
-use Rattle.world_laws.specs.Quiet.{BindsImports, IsServedWhole, IsMissing, CauseIs, IsServedText, IsCurrent, IsIdle, IsBusy, EndsBy, EndsAt, Ends, IsOpen, EachClient}
+use Rattle.world_laws.specs.Quiet.{IsServedWhole, IsMissing, CauseIs, IsServedText, IsCurrent, IsIdle, IsBusy, EndsBy, EndsAt, Ends, IsOpen, EachClient}
 use Rattle.world_laws.proofs.Freshness.{IsMade, core_made}
 use Rattle.world_laws.proofs.TurnsServed.{met_reached, needed_is, cause_counts, none_to_link}
 use Rattle.world_laws.proofs.TurnsTaken.{heard_by, done_by, Turned, turned}
@@ -54,20 +53,16 @@ use Rattle.world_laws.proofs.TurnsTaken.{heard_by, done_by, Turned, turned}
 record CauseStays (r : Runtime) (did : Did) : Type 0 where
   cause : did.0.cause ≡ r.cause
 
-stays_if : (b : Bool) (r : Runtime) (did other : Did) → CauseStays r did → CauseStays r other → CauseStays r (if b then did else other)
-stays_if true r did other h k = h
-stays_if false r did other h k = k
-
 cause_kept : IsKept CauseStays
 cause_kept = record {
   nothing = λ r. record { cause = refl };
-  after = λ r did next h k. record { cause = (k did.0).cause ∙ h.cause };
+  after = λ r did next h k. record { cause = k.cause ∙ h.cause };
   run = λ place i spot h left r. record { cause = refl };
   drop = λ test k r. record { cause = refl };
   end = λ fate k m r. record { cause = refl };
   give_up = λ m r. record { cause = refl };
   give_up_all = λ r. record { cause = refl };
-  made = λ language b r. stays_if (has_failed_link r.instances b.links) r (make_unrun b r) (make_run language b r) (record { cause = refl }) (record { cause = refl });
+  made = λ language b r. by_make (CauseStays r) language b r (record { cause = refl }) (record { cause = refl });
   wrote = λ l r. record { cause = refl };
 }
 
@@ -75,11 +70,6 @@ cause_kept = record {
 pub lines_leave : {X : Type 0} → (l : X → Runtime → OutLine) (xs : List X) (r : Runtime) → (for_each (λ x k. write (l x k) k) xs r).0 ≡ r
 lines_leave l [] r = refl
 lines_leave l (x ∷ xs) r = lines_leave l xs r
-
--- and so does the line of a cause
-pub cause_written : (cause : Option Cause) (r : Runtime) → (write_cause cause r).0 ≡ r
-cause_written None r = refl
-cause_written (Some cause) r = refl
 
 -- A turn of one client.
 

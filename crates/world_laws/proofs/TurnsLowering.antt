@@ -16,7 +16,7 @@ use Rattle.core_model.specs.Core.{client_at}
 use Rattle.core_model.specs.Exchange.{message_of}
 use Rattle.core_model.proofs.Naming.{both_true, cases_bool}
 use Rattle.core_laws.specs.Facts.{PlanIsServed}
-use Rattle.client_model.specs.Language.{Language, Bag}
+use Rattle.client_model.specs.Language.{Language, Bag, BindsImports}
 use Rattle.client_model.specs.Instance.{Instance}
 use Rattle.client_model.specs.Runtime.{Runtime, Cause, Invalidation}
 use Rattle.client_model.specs.Requesting.{request_by}
@@ -27,8 +27,8 @@ use Rattle.world_model.specs.Turning.{turn_of}
 use Rattle.world_model.specs.Steps.{world_step, world_after}
 use Rattle.world_model.specs.Ties.{IsTied, TiedAt, AreServedRight, WentOn}
 use Rattle.world_model.proofs.Tying.{IsSound, run_sound}
-use Rattle.world_laws.specs.Quiet.{BindsImports, EndsBy, EndsAt, Ends, IsSettled, unsent_of, IsOpen, OwesLess, AreQuiet, IsUpWithin}
-use Rattle.world_laws.proofs.CatchingUp.{test_is}
+use Rattle.world_laws.specs.Quiet.{EndsBy, EndsAt, Ends, IsSettled, unsent_of, IsOpen, OwesLess, AreQuiet, IsUpWithin}
+use Rattle.world_laws.proofs.CatchingUp.{test_is, empty_is}
 use Rattle.world_laws.proofs.Freshness.{core_made}
 use Rattle.world_laws.proofs.TurnsTaken.{heard_by, done_by, Turned, turned}
 use Rattle.world_laws.proofs.TurnsEnding.{HasFacts, HaveFacts, facts_of, run_ends}
@@ -135,10 +135,6 @@ zero_if false n h l = absurd (omega (arith, h, l))
 no_list : {X : Type 0} → (xs : List X) → length xs ≤ 0 → xs ≡ []
 no_list [] h = refl
 no_list (x ∷ xs) h = absurd (omega (arith, h))
-
-empty_is : {X : Type 0} → (xs : List X) → is_empty xs ≡ true → xs ≡ []
-empty_is [] h = refl
-empty_is (x ∷ xs) h = absurd (false≢true h)
 
 nothing_in : (names forced : List Name) → list_all (has []) (names ++ forced) ≡ true → (names ≡ []) × (forced ≡ [])
 nothing_in [] [] h = (refl, refl)

@@ -11,7 +11,7 @@ use Rattle.core_model.specs.FreshLoad.{Served}
 use Rattle.core_model.specs.View.{View, Entry, imports_of, imports, accepts, self_accepts, declines, is_in, accepts_itself, differs, changed_of, dropped_of}
 use Rattle.core_model.specs.Spread.{passes, IsReloadWanted, IsReplaced, reason_of, replaced_of, pairs_of}
 use Rattle.core_model.specs.Client.{with_name}
-use Rattle.core_model.proofs.Naming.{has_is, not_true, and_both, or_cases, or_left, or_right, has_append, filtered_from, filtered_in, sorted_has}
+use Rattle.core_model.proofs.Naming.{has_is, not_true, and_both, or_cases, or_left, or_right, has_append, filtered_from, filtered_in, sorted_has, no_names, first_has}
 use Rattle.core_model.proofs.Tables.{named}
 use Rattle.core_model.proofs.Reaching.{reaches_back, ReachedBy, reaches_start, reaches_on, reaches_within}
 use Rattle.core_model.proofs.Views.{dropped_are}
@@ -21,12 +21,7 @@ use Rattle.core_laws.proofs.Looking.{at_without_all}
 use Rattle.core_laws.proofs.Requesting.{undropped_reached, reached_undropped}
 use Rattle.core_laws.proofs.Times.{replaced_spread}
 use Rattle.world_model.specs.CaughtUp.{is_empty}
-use Rattle.world_laws.proofs.TurnsServed.{first_has}
 use Rattle.world_laws.proofs.TurnsCounted.{all_from, all_at}
-
-no_names : (names : List Name) → ((n : Name) → has names n ≡ true → ⊥) → names ≡ []
-no_names [] f = refl
-no_names (n ∷ names) f = absurd (f n ((has_is (n ∷ names) n).0 (0, omega arith, refl)))
 
 nothing_has : (names : List Name) → names ≡ [] → (n : Name) → has names n ≡ true → ⊥
 nothing_has names e n h = false≢true (ap (λ l. has l n) (sym e) ∙ h)

@@ -21,13 +21,13 @@ use Rattle.core_model.specs.Page.{Page, Plan, kept_or_staged, entry_at, plan_imp
 use Rattle.core_model.specs.Client.{Client}
 use Rattle.core_model.specs.Requests.{FetchRow, text, row_verdict, row_source, row_served, fetched, fetch_reply, AppliedRow, unfetched, mismatch, done, applied_row, after_applied, applied_reply}
 use Rattle.core_model.specs.Exchange.{message_of}
-use Rattle.core_model.proofs.Naming.{true_same, or_cases, has_append, filtered_from}
+use Rattle.core_model.proofs.Naming.{true_same, or_cases, has_append, filtered_from, and_both}
 use Rattle.core_model.proofs.Tables.{named, at_with_row}
 use Rattle.core_model.proofs.Reaching.{reaches_within, reaches_on, reaches_start}
 use Rattle.core_model.proofs.Planning.{met_is, at_new}
 use Rattle.core_laws.specs.Facts.{IsServed, PlanIsServed}
 use Rattle.core_laws.proofs.Requesting.{undropped_reached}
-use Rattle.client_model.specs.Language.{Language, Bag}
+use Rattle.client_model.specs.Language.{Language, Bag, BindsImports}
 use Rattle.client_model.specs.Instance.{Instance}
 use Rattle.client_model.specs.Runtime as causes
 use Rattle.client_model.specs.Runtime.{Runtime, Cause, Invalidation}
@@ -37,10 +37,10 @@ use Rattle.client_model.specs.Answering.{stage}
 use Rattle.client_model.specs.Expecting.{is_answer}
 use Rattle.world_model.specs.CaughtUp.{is_empty, wants_nothing, unstaged, plan_turns, debt_between, debt_within, debt}
 use Rattle.world_model.specs.Ties.{IsServedRight, AreServedRight}
-use Rattle.world_laws.specs.Quiet.{BindsImports, IsBusy, HasResult, IsSettled}
+use Rattle.world_model.proofs.Fitting.{write_same}
+use Rattle.world_laws.specs.Quiet.{IsBusy, HasResult, IsSettled}
 use Rattle.world_laws.proofs.TurnsServed.{plan_served, needed_is, cause_counts, none_to_link}
 use Rattle.world_laws.proofs.TurnsTaken.{heard_by, done_by}
-use Rattle.world_laws.proofs.TurnsEnding.{cause_written}
 use Rattle.world_laws.proofs.TurnsCounted.{less, all_from, at_most_one, at_most_all, if_true, if_false, no_length}
 
 -- A fetch.
@@ -102,10 +102,6 @@ module _ (roots : List Name) (p : Plan) (view : View) (served : Served) (is : Pl
       in_changed n (inl h) = changed_dropped n h (has (dropped_of (new_view roots p view) roots) n) refl
       in_changed n (inr h) = absurd (false≢true h)
 
-both : (a b : Bool) → a ≡ true → b ≡ true → (a && b) ≡ true
-both true b e g = g
-both false b e g = absurd (false≢true e)
-
 module _ (language : Language) (s : Sources) (right : AreServedRight language s.served) (i : ℕ) (roots : List Name) (settled : IsSettled language roots s) (loaded : Bool) (view : View) (forced : List Name) (texts : List (Name × Text)) (pairs : List (Name × Name)) (instances : List Instance) (bags : List (Name × Bag)) (shelf : List (Text × ℕ)) (stopped : Bool) (plan_at : ℕ) (held_at : Option ℕ) (notices : List (Name × TextFault)) where
   abbrev page : Option Plan → Page
   page plan = record { loaded = loaded; view = view; forced = forced; plan = plan }
@@ -165,7 +161,7 @@ module _ (language : Language) (s : Sources) (right : AreServedRight language s.
       let d : (if is_empty (dropped_of (new_view roots p view) roots) then 0 else 1) ≤ 1 = at_most_one (is_empty (dropped_of (new_view roots p view) roots)) in
       let rest : ◌≡◌ {A = ℕ} (if true && is_empty (done_by language (told.Applied table) (applied_reply done) (rt p None unsent)).unsent && wants_nothing roots s (after_applied done roots p (cl p)) then 0 else plan_turns s) 0
       = if_true (true && is_empty (done_by language (told.Applied table) (applied_reply done) (rt p None unsent)).unsent && wants_nothing roots s (after_applied done roots p (cl p))) 0 (plan_turns s)
-      (both (is_empty (done_by language (told.Applied table) (applied_reply done) (rt p None unsent)).unsent) (wants_nothing roots s (after_applied done roots p (cl p))) (no_length _ calm) (nothing_wanted roots p view s.served (current (eqb-true plan_at s.served_no e)))) in
+      (and_both (is_empty (done_by language (told.Applied table) (applied_reply done) (rt p None unsent)).unsent) (wants_nothing roots s (after_applied done roots p (cl p))) (no_length _ calm) (nothing_wanted roots p view s.served (current (eqb-true plan_at s.served_no e)))) in
       omega (arith, calm, d, rest)
 
   applied_less : (p : Plan) (unsent : List Invalidation) (table : List (Name × ℕ)) (row : AppliedRow) → unsent ≡ [] → Current p → is_answer loaded (told.Applied table) (message_of (applied_reply row)) ≡ true → length (done_by language (told.Applied table) (applied_reply row) (rt p None unsent)).unsent ≤ length unsent
@@ -191,9 +187,9 @@ module _ (language : Language) (s : Sources) (right : AreServedRight language s.
       at_least_one false = omega arith
 
   abort_less : (p : Plan) (found : Option Cause) (cause : Cause) (unsent : List Invalidation) → (plan_at ≡ s.served_no → ⊥) → unsent ≡ [] → Lower p found unsent (abort_message cause)
-  abort_less p found (causes.missing n) unsent h sent = given_up_less p found unsent _ (plan_at == s.served_no) refl h (ap (λ (r : Runtime). r.unsent) (cause_written (cause_by found language p (rt p found unsent)) (rt p found unsent))) sent
-  abort_less p found (causes.broken n) unsent h sent = given_up_less p found unsent _ (plan_at == s.served_no) refl h (ap (λ (r : Runtime). r.unsent) (cause_written (cause_by found language p (rt p found unsent)) (rt p found unsent))) sent
-  abort_less p found (causes.unlinked n m x) unsent h sent = given_up_less p found unsent _ (plan_at == s.served_no) refl h (ap (λ (r : Runtime). r.unsent) (cause_written (cause_by found language p (rt p found unsent)) (rt p found unsent))) sent
+  abort_less p found (causes.missing n) unsent h sent = given_up_less p found unsent _ (plan_at == s.served_no) refl h (ap (λ (r : Runtime). r.unsent) (write_same (cause_by found language p (rt p found unsent)) (rt p found unsent))) sent
+  abort_less p found (causes.broken n) unsent h sent = given_up_less p found unsent _ (plan_at == s.served_no) refl h (ap (λ (r : Runtime). r.unsent) (write_same (cause_by found language p (rt p found unsent)) (rt p found unsent))) sent
+  abort_less p found (causes.unlinked n m x) unsent h sent = given_up_less p found unsent _ (plan_at == s.served_no) refl h (ap (λ (r : Runtime). r.unsent) (write_same (cause_by found language p (rt p found unsent)) (rt p found unsent))) sent
 
   by_link : (p : Plan) (unsent : List Invalidation) → BindsImports language → Current p → next_needed p (rt p None []) ≡ None → (found : Option Cause) → link_cause language p (rt p None unsent) ≡ found → IsBusy roots s (cl p) (rt p None unsent)
       → Answers p None unsent (apply_or_abort found p (rt p None unsent)) → Calm p None unsent (apply_or_abort found p (rt p None unsent)) → Lower p None unsent (apply_or_abort found p (rt p None unsent))

@@ -16,13 +16,13 @@ use Rattle.core_model.specs.FreshLoad as fresh
 use Rattle.core_model.specs.FreshLoad.{Served, reached_by, linked_from, unlinked_edge, unlinked_module, imports_in}
 use Rattle.core_model.specs.View.{View, Entry, imports_of}
 use Rattle.core_model.specs.Page.{Plan, kept_or_staged, entry_at, plan_imports}
-use Rattle.core_model.proofs.Naming.{true_same, same_true, or_left, or_right, both_true, or_cases, filtered_from, sorted_has}
+use Rattle.core_model.proofs.Naming.{true_same, same_true, or_left, or_right, both_true, or_cases, filtered_from, sorted_has, first_has, none_first}
 use Rattle.core_model.proofs.Reaching.{reaches_within, reaches_on, reaches_start}
 use Rattle.core_model.proofs.Loading.{reached_is}
 use Rattle.core_laws.specs.Given.{entry_of}
 use Rattle.core_laws.specs.Facts.{IsServed, KeptIsServed, PlanIsServed}
 use Rattle.core_laws.proofs.Looking.{none_pass}
-use Rattle.client_model.specs.Language.{Language, Binding, links_of}
+use Rattle.client_model.specs.Language.{Language, Binding, links_of, BindsImports}
 use Rattle.client_model.specs.Runtime as causes
 use Rattle.client_model.specs.Runtime.{Runtime, Cause}
 use Rattle.client_model.specs.Linking.{next_needed, new_names, exports_of, is_unlinked, bindings_of, link_cause, is_kept}
@@ -30,7 +30,8 @@ use Rattle.client_model.specs.Order.{fetch_order, evaluation_order}
 use Rattle.client_model.proofs.Walking.{walk_is, orders_agree}
 use Rattle.world_model.specs.CaughtUp.{is_empty}
 use Rattle.world_model.specs.Ties.{IsServedRight, AreServedRight}
-use Rattle.world_laws.specs.Quiet.{BindsImports, IsServedWhole, IsMissing, CauseIs, IsServedText}
+use Rattle.world_laws.specs.Quiet.{IsServedWhole, IsMissing, CauseIs, IsServedText}
+use Rattle.world_laws.proofs.CatchingUp.{none_is}
 
 or_served : (kept new : Option Entry) (v : Option Serving) → IsServed kept v → IsServed new v → IsServed (option_or kept new) v
 or_served None new v g h = h
@@ -56,22 +57,6 @@ module _ (roots : List Name) (p : Plan) (view : View) (served : Served) (is : Pl
       (λ n m r by. reaches_on (fresh.imports served) roots n m r (served_edge (entry_at p view n) (at served n) m (plan_served n) by))
 
 -- The next name to be fetched.
-
-pub first_has : (names : List Name) (n : Name) → first_of names ≡ Some n → has names n ≡ true
-first_has [] n e = absurd (false≢true (ap is_some e))
-first_has (m ∷ names) n e = or_left (same_name m n) _ (true_same m n (ap (or_this m) e))
-  where
-    or_this : Name → Option Name → Name
-    or_this d None = d
-    or_this d (Some k) = k
-
-none_first : (names : List Name) → first_of names ≡ None → names ≡ []
-none_first [] e = refl
-none_first (n ∷ names) e = absurd (false≢true (sym (ap is_some e)))
-
-none_is : {X : Type 0} → (o : Option X) → is_none o ≡ true → o ≡ None
-none_is None h = refl
-none_is (Some x) h = absurd (false≢true h)
 
 there_is : {X : Type 0} → (o : Option X) → is_none o ≡ false → is_some o ≡ true
 there_is None h = sym h

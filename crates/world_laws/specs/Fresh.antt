@@ -1,11 +1,13 @@
 -- What a caught-up client holds, and what it shows of it.
-use Rattle.std.specs.Prelude.{◌≡◌, ℕ, List, [], ◌++◌, map, Option, Some, None, ⊤}
+use Rattle.std.specs.Prelude.{◌≡◌, ℕ, List, [], ◌++◌, map, Contains, Option, Some, None, ⊤}
 use Rattle.hmr_types.specs.declared.out_line.OutLine.{OutLine}
 use Rattle.core_model.specs.Names.{Name}
-use Rattle.core_model.specs.FreshLoad.{Served, fresh_table, missing_of}
+use Rattle.core_model.specs.FreshLoad.{Served, fresh_table, missing_of, unlinked_of}
 use Rattle.core_model.specs.Core.{client_at}
 use Rattle.core_model.specs.Client.{Client}
+use Rattle.client_model.specs.Language.{Language, links_of}
 use Rattle.client_model.specs.Runtime.{Runtime}
+use Rattle.client_model.specs.Stale.{IsStale}
 use Rattle.client_model.specs.Printing.{table, module_line, stale_line}
 use Rattle.world_model.specs.World.{World}
 use Rattle.world_model.specs.CaughtUp.{IsCaughtUp}
@@ -32,3 +34,14 @@ pub record ShowFreshLoad (roots : List Name) (served : Served) (lines : List Out
   pub stale : List (Name × Name)
   pub lines_are : lines ≡ map module_line (fresh_table served roots) ++ map stale_line stale
   pub nothing_missing : missing_of served roots ≡ []
+
+-- where the client is caught up, it is stale at the edge of each import that the fresh load lists as
+-- not exported
+abbrev pub IsUnlinkedStale : Language → List Name → World → Option Client → Option Runtime → Type 0
+IsUnlinkedStale language roots w c None = ⊤
+IsUnlinkedStale language roots w None (Some r) = ⊤
+IsUnlinkedStale language roots w (Some c) (Some r) = IsCaughtUp roots w.core.sources c r → (n m x : Name) → Contains (unlinked_of (links_of language) w.core.sources.served roots) (n, m, x) → IsStale r n m
+
+-- the same of each client
+abbrev pub AreUnlinkedStale : Language → List Name → World → Type 0
+AreUnlinkedStale language roots w = (i : ℕ) → IsUnlinkedStale language roots w (client_at w.core.clients i) (client_at w.clients i)

@@ -1,8 +1,11 @@
 pub mod Edges
 pub mod Fresh
 pub mod Instances
+pub mod Changes
+pub mod Versions
 pub mod Stops
 pub mod Taken
 pub mod Quiet
 pub mod CounterTurns
 pub mod SmallTexts
+pub mod HiddenTurns

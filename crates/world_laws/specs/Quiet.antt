@@ -1,25 +1,18 @@
 -- Turns of one client, and what they leave of its plan, its cause to give one up, and its debt.
 use Rattle.std.specs.Prelude.{◌≡◌, ◌<◌, ◌≤◌, ℕ, zero, suc, true, false, List, [], ◌∷◌, length, Option, Some, None, is_some, ⊤}
-use Rattle.std.specs.List.{list_all}
 use Prim.{⊥}
-use Rattle.hmr_types.specs.declared.analysis.Analysis.{Analysis}
-use Rattle.hmr_types.specs.declared.analysis.Outcome.TheVariants.{Good}
 use Rattle.core_model.specs.Names.{Name, has, at}
 use Rattle.core_model.specs.Sources.{Text, Sources, Source, Serving, is_outstanding}
 use Rattle.core_model.specs.FreshLoad.{Served, reached_by, fresh_load, IsWhole}
 use Rattle.core_model.specs.Page.{Plan}
 use Rattle.core_model.specs.Client.{Client, is_held}
 use Rattle.core_model.specs.Core.{client_at}
-use Rattle.client_model.specs.Language.{Language, links_of}
+use Rattle.client_model.specs.Language.{Language, links_of, BindsImports}
 use Rattle.client_model.specs.Runtime.{Runtime, Cause, missing, broken, unlinked}
 use Rattle.world_model.specs.CaughtUp.{IsCaughtUp, debt}
 use Rattle.world_model.specs.World.{World, Step, turn}
 use Rattle.world_model.specs.Steps.{world_step, world_after}
 use Rattle.world_model.specs.Ties.{WentOn}
-
--- each binding of a module's text is from one of the module's imports
-abbrev pub BindsImports : Language → Type 0
-BindsImports language = (n : Name) (t : Text) (a : Analysis) → language.transformed n t ≡ Good a → list_all (λ b. has a.imports b.dependency) (language.bindings n t) ≡ true
 
 -- the fresh load of what is served is whole
 abbrev pub IsServedWhole : Language → List Name → Sources → Type 0

@@ -1,5 +1,6 @@
-//! Laws of a client and of the world: what a caught-up client holds, what its instances are linked to, at
-//! which edges it is stale, and how far it is from caught up.
+//! Laws of a client and of the world: what a caught-up client holds, and where an import of it isn't
+//! exported; of which versions its instances are, what they are linked to and what that exports; at which
+//! edges it is stale, and how far it is from caught up.
 //!
 //! Each law is the clause of a public function with an empty body; nothing here runs. Stands on the
 //! models of the core, the client and the world, whose definitions it speaks of. Keeps: no law has a
@@ -12,3 +13,4 @@ pub mod instances;
 pub mod stale;
 pub mod stops;
 pub mod turns;
+pub mod versions;

@@ -3,7 +3,7 @@ ghost use Rattle.std.specs.Prelude.{◌≡◌, ℕ, true, false, List, [], ◌�
 ghost use Rattle.core_model.specs.Names.{Name, at};
 ghost use Rattle.core_model.specs.Sources.{Text};
 ghost use Rattle.core_model.specs.Client.{Client, is_held};
-ghost use Rattle.client_model.specs.Language.{Language};
+ghost use Rattle.client_model.specs.Language.{Language, BindsImports};
 ghost use Rattle.client_model.specs.Runtime.{Runtime};
 ghost use Rattle.world_model.specs.CaughtUp.{IsCaughtUp, debt, largest_debt};
 ghost use Rattle.world_model.specs.World.{Step, turn};
@@ -11,7 +11,7 @@ ghost use Rattle.world_model.specs.Steps.{world_after};
 ghost use Rattle.world_model.specs.Ties.{WentOn};
 ghost use Rattle.world_model.specs.SmallLanguage.{Texts, small_language};
 ghost use Rattle.world_model.specs.UpdateScripts.{counter};
-ghost use Rattle.world_laws.specs.Quiet.{BindsImports, IsServedWhole, CauseIs, IsServedText, EachClient, IsOpen, IsSettled, OwesLess, AreQuiet, IsUpWithin, debts};
+ghost use Rattle.world_laws.specs.Quiet.{IsServedWhole, CauseIs, IsServedText, EachClient, IsOpen, IsSettled, OwesLess, AreQuiet, IsUpWithin, debts};
 ghost use Rattle.world_laws.specs.SmallTexts.{all_bind_imports};
 ghost use Rattle.world_laws.specs.CounterTurns.{loading, updating};
 

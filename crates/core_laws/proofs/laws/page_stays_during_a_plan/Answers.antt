@@ -1,4 +1,5 @@
-use Rattle.core_laws.proofs.Staying.{plan_stays, change_stays}
+use Rattle.core_model.proofs.Replaying.{change_stays}
+use Rattle.core_laws.proofs.Staying.{plan_stays}
 use Rattle.core_laws.proofs.laws.page_stays_during_a_plan.Goals as goal
 
 pub returns-clause-request : goal.returns-clause-request
