@@ -1,0 +1,52 @@
+-- The variables of each instance are those that the journal left, and each was evaluated once.
+use Rattle.std.proofs.Common.{◌≡◌, ℕ, List, [], ◌∷◌, ◌++◌, length, refl, ap, sym, ◌∙◌, arith, Contains}
+use Rattle.std.specs.Prelude.{filter, fold, ◌||◌}
+use Rattle.std.proofs.lemmas.List.Sums.{fold-append}
+use Rattle.std.proofs.lemmas.List.Folds.{list_any-append}
+use Rattle.core_model.specs.declared.message.ServerMsg.{ServerMsg}
+use Rattle.core_model.specs.Names.{Name}
+use Rattle.core_model.specs.Sources.{Text}
+use Rattle.client_model.specs.Language.{Language}
+use Rattle.client_model.specs.Instance.{Instance, numbered}
+use Rattle.client_model.specs.Journal.{Journal, bag_after, bag_left}
+use Rattle.client_model.specs.Runtime.{Runtime, Did, bag_of}
+use Rattle.client_model.specs.Making.{is_failed}
+use Rattle.client_model.specs.Taking.{take, runtime_after, journal_of}
+use Rattle.world_laws.proofs.Frames.{frames, Numbered}
+use Rattle.world_laws.proofs.Messages.{run_holds}
+use Rattle.journal_laws.specs.Values.{values_after, values_left, is_failure_of, is_evaluation_of, evaluations_by}
+use Rattle.journal_laws.proofs.ValuesTaking.{steps_take}
+use Rattle.journal_laws.proofs.ValuesAdding.{Adds, values_in, times_in, times_told, times_join, failure_told}
+use Rattle.journal_laws.proofs.ValuesMaking.{all_add}
+use Rattle.journal_laws.proofs.Numbers.{apart_numbered, there}
+
+-- what a client keeps is read off the journal so far
+pub record Reads (r : Runtime) (seen : Journal) : Type 0 where
+  pub values : (k : ℕ) → values_in (numbered r.instances k) ≡ values_left seen k
+  pub failures : (k : ℕ) → is_failed (numbered r.instances k) ≡ failure_told k seen
+  pub times : (k : ℕ) → times_in (numbered r.instances k) ≡ times_told k seen
+  pub bags : (n : Name) → bag_of r n ≡ bag_left seen n
+
+pub reads_on : (r : Runtime) (did : Did) (seen : Journal) → Reads r seen → Adds r did → Reads did.0 (seen ++ did.1)
+reads_on r did seen h g = record {
+  values = λ k. g.values k ∙ ap (λ slots. fold (values_after k) slots did.1) (h.values k) ∙ sym (fold-append (values_after k) [] seen did.1);
+  failures = λ k. g.failures k ∙ ap (λ b. b || failure_told k did.1) (h.failures k) ∙ sym (list_any-append (is_failure_of k) seen did.1);
+  times = λ k. omega (arith, g.times k, h.times k, times_join k seen did.1);
+  bags = λ n. g.bags n ∙ ap (λ bag. fold (bag_after n) bag did.1) (h.bags n) ∙ sym (fold-append (bag_after n) [] seen did.1);
+}
+
+module _ (language : Language) (shelf : List (Text × ℕ)) where
+  pub numbered_run : (past : List ServerMsg) → Numbered (frames (runtime_after language shelf past).instances)
+  numbered_run past = (run_holds language shelf past).numbered
+
+  pub reads_run : (past : List ServerMsg) → Reads (runtime_after language shelf past) (journal_of language shelf past)
+  reads_run [] = record { values = λ k. refl; failures = λ k. refl; times = λ k. refl; bags = λ n. refl }
+  reads_run (m ∷ past) =
+      let r : Runtime = runtime_after language shelf past in
+      reads_on r ((take language r m).after, (take language r m).journal) (journal_of language shelf past) (reads_run past) (steps_take language Adds (all_add language) r m (numbered_run past))
+
+  pub values_run : (past : List ServerMsg) (i : Instance) → Contains (runtime_after language shelf past).instances i → i.values ≡ values_left (journal_of language shelf past) i.number
+  values_run past i c = ap values_in (sym (there (runtime_after language shelf past).instances (apart_numbered (runtime_after language shelf past).instances (numbered_run past)) i c)) ∙ (reads_run past).values i.number
+
+  pub once_run : (past : List ServerMsg) (i : Instance) → Contains (runtime_after language shelf past).instances i → length (filter (is_evaluation_of i.number) (journal_of language shelf past)) ≡ evaluations_by i.status
+  once_run past i c = sym ((reads_run past).times i.number) ∙ ap times_in (there (runtime_after language shelf past).instances (apart_numbered (runtime_after language shelf past).instances (numbered_run past)) i c)

@@ -1,0 +1,9 @@
+pub mod Runs
+pub mod Ends
+pub mod Counts
+pub mod Data
+pub mod Values
+pub mod FreshValues
+pub mod WorkedValues
+pub mod KeptCounter
+pub mod HandlerRuns

@@ -1,0 +1,30 @@
+// The laws on handlers, data and values, as they hold of each open client of the world after every list of
+// steps.
+ghost use Rattle.std.specs.Prelude.{List};
+ghost use Rattle.core_model.specs.Names.{Name};
+ghost use Rattle.client_model.specs.Language.{Language};
+ghost use Rattle.journal_laws.specs.Runs.{OfEachClient};
+ghost use Rattle.journal_laws.specs.Counts.{AreDisposedOnce, ArePrunedOnce};
+ghost use Rattle.journal_laws.specs.Data.{SuccessorsInherit, OthersInheritNothing};
+ghost use Rattle.journal_laws.specs.Ends.{AllEnd};
+ghost use Rattle.journal_laws.specs.Values.{ValuesAreLeft};
+
+/// Of each instance that registered a disposer one ran where it was replaced or pruned, and none else; of
+/// each that registered a prune handler one ran where it was pruned. Each handler ended by the fate of its
+/// instance, so the disposer that ran is the one that was held.
+pub fn held_disposers_ran_once()
+    ensures disposers { (language : Language) (roots : List Name) → OfEachClient language roots AreDisposedOnce }
+    ensures prune_handlers { (language : Language) (roots : List Name) → OfEachClient language roots ArePrunedOnce }
+    ensures ends { (language : Language) (roots : List Name) → OfEachClient language roots AllEnd }
+{}
+
+/// An instance that replaced another started with what was left when that one ended, any other with nothing.
+pub fn data_reached_successors_only()
+    ensures successors { (language : Language) (roots : List Name) → OfEachClient language roots SuccessorsInherit }
+    ensures others { (language : Language) (roots : List Name) → OfEachClient language roots OthersInheritNothing }
+{}
+
+/// The variables of each instance are those that its evaluation made, with what its own handlers assigned.
+pub fn values_are_those_of_evaluations()
+    ensures { (language : Language) (roots : List Name) → OfEachClient language roots ValuesAreLeft }
+{}
