@@ -1,9 +1,9 @@
 -- Parts of the grammar that the code reads by functions of their own.
 use Rattle.std.specs.Prelude.{ℕ, List, [], ◌∷◌, true, false, Some, None}
-use Rattle.module_semantics.specs.Kinds.{DOT, META, HOT, DATA, EQUALS, TEXT, OPEN, CLOSE, OPEN_BRACKET, CLOSE_BRACKET, THROW, IMPORT, free_names, NameAt}
+use Rattle.module_semantics.specs.Kinds.{DOT, META, HOT, DATA, EQUALS, TEXT, OPEN, CLOSE, OPEN_BRACKET, CLOSE_BRACKET, LOG, THROW, IMPORT, free_names, NameAt}
 use Rattle.module_semantics.specs.Raw.{RawExpr, RawStmt, RawStmts, throw, RawOnce, RawItem, code, act, deps}
 use Rattle.module_semantics.specs.Readers.{Reader, mark, given, choice, end, mapped, listed, separated, ◌&◌, ◌▷◌, ◌◁◌}
-use Rattle.module_semantics.specs.Reading.{Inner, after_comma, all_of, alone, bag_act, body, but_host, callback, callback_by, free_name, hot_call, import_stmt, key, list_callback, name_act, text_token, thrown}
+use Rattle.module_semantics.specs.Reading.{Inner, after_comma, all_of, alone, bag_act, body, but_host, callback, callback_by, else_part, expr_firsts, free_name, hot_call, import_stmt, key, list_callback, name_act, text_token, thrown}
 
 -- what follows `import` in `import.meta.hot.`
 abbrev pub hot_front : Reader (Unit {0})
@@ -12,6 +12,18 @@ hot_front = mark DOT ▷ mark META ▷ mark DOT ▷ mark HOT ▷ mark DOT
 -- a dot, a key, and a value for it
 abbrev pub keyed : Reader RawExpr → Reader (List ℕ × RawExpr)
 keyed e = mark DOT ▷ key & mark EQUALS ▷ e
+
+-- after `console`: the values of a line
+abbrev pub logged : Reader RawExpr → Reader (List RawExpr)
+logged e = mark DOT ▷ mark LOG ▷ mark OPEN ▷ separated expr_firsts e ◁ mark CLOSE
+
+-- a name that is declared, and its value
+abbrev pub named_value : Reader RawExpr → Reader (NameAt × RawExpr)
+named_value e = free_name & mark EQUALS ▷ e ◁ end
+
+-- the two ways that follow the condition of an `if`
+abbrev pub branches : Inner → Reader (RawStmts × RawStmts)
+branches i = i.block & else_part i
 
 -- a statement of a callback that is no `if`
 abbrev pub ended_act : Reader RawExpr → Reader RawStmt

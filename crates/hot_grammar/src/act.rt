@@ -5,7 +5,7 @@ ghost use Rattle.std.specs.Option.{option_map};
 ghost use Rattle.module_semantics.specs.Kinds.{COMMA};
 ghost use Rattle.module_semantics.specs.Readers.{mark, separated, ◌▷◌};
 ghost use Rattle.module_semantics.specs.Reading.{bag_act, console_act, expr_firsts, import_stmt, inner, name_act, other_act, thrown, told};
-ghost use Rattle.hot_grammar.specs.Parts.{keyed};
+ghost use Rattle.hot_grammar.specs.Parts.{keyed, logged};
 ghost use Rattle.hot_grammar.specs.Raw.{raw_expr_of, raw_stmt_of};
 ghost use Rattle.hot_grammar.specs.Reads.{Gives};
 
@@ -63,6 +63,21 @@ fn read_values(
     Ok(values)
 }
 
+/// After `console`: `.log` and the values of a line, in parentheses.
+fn read_logged(
+    alloc: Global,
+    tokens: &mut Tokens<'_>,
+    depth: u32,
+) -> Result<Vec<RawExpr>, GrammarFault>
+    ensures { Gives (λ es. (map raw_expr_of es.items, tokens.new)) result (logged (inner depth).expr tokens.old) }
+{
+    tokens.mark(Kind::Dot)?;
+    tokens.mark(Kind::Log)?;
+    tokens.mark(Kind::Open)?;
+    let values = read_values(alloc, tokens, depth)?;
+    tokens.mark_after(values, Kind::Close)
+}
+
 /// A statement that begins with `console`: a line, or a new value for the name.
 #[tactic(auto, unfolding(module_semantics::specs::Reading::console_act))]
 fn read_console(alloc: Global, tokens: &mut Tokens<'_>, depth: u32) -> Result<RawStmt, GrammarFault>
@@ -73,12 +88,7 @@ fn read_console(alloc: Global, tokens: &mut Tokens<'_>, depth: u32) -> Result<Ra
         tokens.mark(Kind::Equals)?;
         return Ok(RawStmt::Assign(name, read_value(alloc, tokens, depth)?));
     }
-    tokens.mark(Kind::Dot)?;
-    tokens.mark(Kind::Log)?;
-    tokens.mark(Kind::Open)?;
-    let values = read_values(alloc, tokens, depth)?;
-    tokens.mark(Kind::Close)?;
-    Ok(RawStmt::Log(values))
+    Ok(RawStmt::Log(read_logged(alloc, tokens, depth)?))
 }
 
 /// A dot, a key, and `=` with a value for it.
@@ -158,8 +168,7 @@ pub(crate) fn read_thrown(
     tokens.mark(Kind::Error)?;
     tokens.mark(Kind::Open)?;
     let value = read_value(alloc, tokens, depth)?;
-    tokens.mark(Kind::Close)?;
-    Ok(value)
+    tokens.mark_after(value, Kind::Close)
 }
 
 /// After `import.meta.hot.`: `invalidate`, and perhaps its message.
@@ -178,8 +187,7 @@ fn read_told(
         return Ok(None);
     }
     let message = read_value(alloc, tokens, depth)?;
-    tokens.mark(Kind::Close)?;
-    Ok(Some(message))
+    tokens.mark_after(Some(message), Kind::Close)
 }
 
 /// In a callback: a statement that begins with `import`.

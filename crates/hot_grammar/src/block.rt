@@ -3,7 +3,7 @@
 ghost use Rattle.std.specs.Prelude.{◌≡◌, map};
 ghost use Rattle.module_semantics.specs.Readers.{end, many, ◌◁◌};
 ghost use Rattle.module_semantics.specs.Reading.{body, braces, else_part, if_stmt, import_stmt, inner, name_act, stmt, stmt_firsts};
-ghost use Rattle.hot_grammar.specs.Parts.{ended_act};
+ghost use Rattle.hot_grammar.specs.Parts.{branches, ended_act};
 ghost use Rattle.hot_grammar.specs.Raw.{raw_stmt_of, raw_stmts_of};
 ghost use Rattle.hot_grammar.specs.Reads.{Gives};
 
@@ -64,6 +64,20 @@ fn read_else(
     Ok(second)
 }
 
+/// What follows the condition of an `if`: its statements, and those of its `else`.
+#[cycle(blocks)]
+fn read_branches(
+    alloc: Global,
+    tokens: &mut Tokens<'_>,
+    depth: u32,
+) -> Result<(Vec<RawStmt>, Vec<RawStmt>), GrammarFault>
+    ensures { Gives (λ ss. ((raw_stmts_of ss.0.items, raw_stmts_of ss.1.items), tokens.new)) result (branches (inner depth) tokens.old) }
+{
+    let first = read_block(alloc, tokens, depth)?;
+    let second = read_else(alloc, tokens, depth)?;
+    Ok((first, second))
+}
+
 /// An `if`.
 #[cycle(blocks)]
 #[tactic(auto, unfolding(module_semantics::specs::Reading::if_stmt))]
@@ -73,9 +87,8 @@ fn read_if(alloc: Global, tokens: &mut Tokens<'_>, depth: u32) -> Result<RawStmt
     tokens.mark(Kind::If)?;
     tokens.mark(Kind::Open)?;
     let condition = read_value(alloc, tokens, depth)?;
-    tokens.mark(Kind::Close)?;
-    let first = read_block(alloc, tokens, depth)?;
-    let second = read_else(alloc, tokens, depth)?;
+    let condition = tokens.mark_after(condition, Kind::Close)?;
+    let (first, second) = read_branches(alloc, tokens, depth)?;
     Ok(RawStmt::Branch(condition, first, second))
 }
 
@@ -122,8 +135,7 @@ fn read_braces(
 {
     tokens.mark(Kind::OpenBrace)?;
     let stmts = read_stmts(alloc, tokens, depth)?;
-    tokens.mark(Kind::CloseBrace)?;
-    Ok(stmts)
+    tokens.mark_after(stmts, Kind::CloseBrace)
 }
 
 /// A statement that begins with `import`, and its end.
@@ -135,8 +147,7 @@ fn read_import_ended(
     ensures { Gives (λ s. (raw_stmt_of s, tokens.new)) result ((import_stmt (inner depth).expr ◁ end) tokens.old) }
 {
     let act = read_import_act(alloc, tokens, depth)?;
-    tokens.end()?;
-    Ok(act)
+    tokens.end_after(act)
 }
 
 /// A statement that begins with a name, and its end.
@@ -148,8 +159,7 @@ fn read_name_ended(
     ensures { Gives (λ s. (raw_stmt_of s, tokens.new)) result ((name_act (inner depth).expr ◁ end) tokens.old) }
 {
     let act = read_name_act(alloc, tokens, depth)?;
-    tokens.end()?;
-    Ok(act)
+    tokens.end_after(act)
 }
 
 /// A statement of a callback that is no `if`.
@@ -158,8 +168,7 @@ fn read_act(alloc: Global, tokens: &mut Tokens<'_>, depth: u32) -> Result<RawStm
 {
     if tokens.next_is(Kind::Throw) {
         let thrown = read_thrown(alloc, tokens, depth)?;
-        tokens.end()?;
-        return Ok(RawStmt::Throw(thrown));
+        return tokens.end_after(RawStmt::Throw(thrown));
     }
     if tokens.next_is(Kind::Import) {
         return read_import_ended(alloc, tokens, depth);

@@ -1,17 +1,17 @@
 // Callbacks, with their parameters, and host closures.
 ghost use Rattle.std.specs.Prelude.{◌≡◌, map};
-ghost use Rattle.module_semantics.specs.Kinds.{COMMA, free_names};
+ghost use Rattle.module_semantics.specs.Kinds.{ARROW, COMMA, free_names};
 ghost use Rattle.module_semantics.specs.Readers.{mark, separated, ◌▷◌};
 ghost use Rattle.module_semantics.specs.Reading.{body, callback, callback_by, free_name, host_own, in_parens, inner, list_callback, once};
 ghost use Rattle.hot_grammar.specs.Kinds.{code_of};
 ghost use Rattle.hot_grammar.specs.Parts.{list_params, own_code};
-ghost use Rattle.hot_grammar.specs.Raw.{name_at_of, raw_handler_of, raw_once_of};
+ghost use Rattle.hot_grammar.specs.Raw.{name_at_of, raw_handler_of, raw_once_of, raw_stmts_of};
 ghost use Rattle.hot_grammar.specs.Reads.{Gives};
 
 use crate::block::read_body;
 use crate::kind::{BUT_HOST, FREE_NAMES};
 use crate::tokens::Tokens;
-use crate::{GrammarFault, Kind, NameAt, RawHandler, RawOnce};
+use crate::{GrammarFault, Kind, NameAt, RawHandler, RawOnce, RawStmt};
 use std::alloc::Global;
 
 /// Perhaps a parameter, in parentheses.
@@ -30,6 +30,19 @@ fn read_parens(alloc: Global, tokens: &mut Tokens<'_>) -> Result<Vec<NameAt>, Gr
     Ok(params)
 }
 
+/// An arrow, and the body of a callback.
+fn read_arrow_body(
+    alloc: Global,
+    tokens: &mut Tokens<'_>,
+    depth: u32,
+) -> Result<Vec<RawStmt>, GrammarFault>
+    ensures { Gives (λ ss. (raw_stmts_of ss.items, tokens.new)) result ((mark ARROW ▷ body (inner depth)) tokens.old) }
+{
+    tokens.mark(Kind::Arrow)?;
+    let body = read_body(alloc, tokens, depth)?;
+    Ok(body)
+}
+
 /// A callback whose parameter, where it stands alone, is of one of these kinds.
 fn read_callback_by(
     alloc: Global,
@@ -41,14 +54,12 @@ fn read_callback_by(
 {
     if tokens.next_is(Kind::Open) {
         let params = read_parens(alloc, tokens)?;
-        tokens.mark(Kind::Arrow)?;
-        let body = read_body(alloc, tokens, depth)?;
+        let body = read_arrow_body(alloc, tokens, depth)?;
         return Ok(RawHandler { params, body });
     }
     let mut params = Vec::new(alloc);
     params.push(tokens.name_at(alloc, kinds)?)?;
-    tokens.mark(Kind::Arrow)?;
-    let body = read_body(alloc, tokens, depth)?;
+    let body = read_arrow_body(alloc, tokens, depth)?;
     Ok(RawHandler { params, body })
 }
 
@@ -74,11 +85,9 @@ fn read_host(alloc: Global, tokens: &mut Tokens<'_>, depth: u32) -> Result<RawOn
     if tokens.next_is(Kind::Open) {
         tokens.mark(Kind::Open)?;
         let label = tokens.text(alloc)?;
-        tokens.mark(Kind::Close)?;
-        return Ok(RawOnce::Host(label));
+        return tokens.mark_after(RawOnce::Host(label), Kind::Close);
     }
-    tokens.mark(Kind::Arrow)?;
-    let body = read_body(alloc, tokens, depth)?;
+    let body = read_arrow_body(alloc, tokens, depth)?;
     Ok(RawOnce::Code(RawHandler { params, body }))
 }
 
@@ -147,9 +156,8 @@ fn read_list_params(alloc: Global, tokens: &mut Tokens<'_>) -> Result<Vec<NameAt
     }
     tokens.mark(Kind::OpenBracket)?;
     let names = read_names(alloc, tokens)?;
-    tokens.mark(Kind::CloseBracket)?;
-    tokens.mark(Kind::Close)?;
-    Ok(names)
+    let names = tokens.mark_after(names, Kind::CloseBracket)?;
+    tokens.mark_after(names, Kind::Close)
 }
 
 /// A callback of a list of dependencies.
@@ -162,7 +170,6 @@ pub(crate) fn read_list_callback(
     ensures { Gives (λ h. (raw_handler_of h, tokens.new)) result (list_callback (body (inner depth)) tokens.old) }
 {
     let params = read_list_params(alloc, tokens)?;
-    tokens.mark(Kind::Arrow)?;
-    let body = read_body(alloc, tokens, depth)?;
+    let body = read_arrow_body(alloc, tokens, depth)?;
     Ok(RawHandler { params, body })
 }

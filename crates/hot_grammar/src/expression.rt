@@ -34,15 +34,12 @@ pub(crate) fn read_expr(
     if !tokens.next_is(Kind::Question) {
         return Ok(condition);
     }
+    let condition = Box::new(alloc, condition)?;
     tokens.mark(Kind::Question)?;
-    let first = read_expr(alloc, tokens, depth - 1)?;
+    let first = Box::new(alloc, read_expr(alloc, tokens, depth - 1)?)?;
     tokens.mark(Kind::Colon)?;
-    let second = read_expr(alloc, tokens, depth - 1)?;
-    Ok(RawExpr::Choose(
-        Box::new(alloc, condition)?,
-        Box::new(alloc, first)?,
-        Box::new(alloc, second)?,
-    ))
+    let second = Box::new(alloc, read_expr(alloc, tokens, depth - 1)?)?;
+    Ok(RawExpr::Choose(condition, first, second))
 }
 
 /// One operand or more, with operators of one strength between.
@@ -165,8 +162,7 @@ fn read_prim(alloc: Global, tokens: &mut Tokens<'_>, depth: u32) -> Result<RawEx
     }
     tokens.mark(Kind::Open)?;
     let inner = read_expr(alloc, tokens, depth)?;
-    tokens.mark(Kind::Close)?;
-    Ok(inner)
+    tokens.mark_after(inner, Kind::Close)
 }
 
 /// An operand and what follows it in its row.

@@ -1,10 +1,11 @@
 // The calls of `import.meta.hot` at the top of a module: `accept`, `dispose`, `prune` and `decline`.
 ghost use Rattle.std.specs.Prelude.{◌≡◌, ◌∷◌, []};
-ghost use Rattle.module_semantics.specs.Kinds.{TEXT};
-ghost use Rattle.module_semantics.specs.Readers.{listed};
-ghost use Rattle.module_semantics.specs.Reading.{accepted, body, hot_call, hot_top, inner, text_token};
+ghost use Rattle.module_semantics.specs.Kinds.{CLOSE, OPEN, TEXT};
+ghost use Rattle.module_semantics.specs.Readers.{listed, mark, ◌▷◌, ◌◁◌};
+ghost use Rattle.module_semantics.specs.Reading.{accepted, body, hot_call, hot_top, inner, once, text_token};
+ghost use Rattle.hot_grammar.specs.Kinds.{code_of};
 ghost use Rattle.hot_grammar.specs.Parts.{list_deps, one_dep, told_hot};
-ghost use Rattle.hot_grammar.specs.Raw.{raw_item_of};
+ghost use Rattle.hot_grammar.specs.Raw.{raw_item_of, raw_once_of};
 ghost use Rattle.hot_grammar.specs.Reads.{Gives};
 
 use crate::act::read_bag_set;
@@ -12,7 +13,7 @@ use crate::callback::{read_callback, read_list_callback, read_once};
 use crate::hot::pass_hot;
 use crate::kind::OWN_FIRSTS;
 use crate::tokens::Tokens;
-use crate::{GrammarFault, Kind, RawItem};
+use crate::{GrammarFault, Kind, RawItem, RawOnce};
 use hmr_types::Text;
 use std::alloc::Global;
 
@@ -104,6 +105,21 @@ fn read_accepted(
     Ok(RawItem::Own(None))
 }
 
+/// `dispose` or `prune`, with its handler in parentheses.
+fn read_once_call(
+    alloc: Global,
+    tokens: &mut Tokens<'_>,
+    depth: u32,
+    word: Kind,
+) -> Result<RawOnce, GrammarFault>
+    ensures { Gives (λ o. (raw_once_of o, tokens.new)) result ((mark (code_of word) ▷ mark OPEN ▷ once (body (inner depth)) ◁ mark CLOSE) tokens.old) }
+{
+    tokens.mark(word)?;
+    tokens.mark(Kind::Open)?;
+    let once = read_once(alloc, tokens, depth)?;
+    tokens.mark_after(once, Kind::Close)
+}
+
 /// A call of `import.meta.hot`.
 #[tactic(auto, unfolding(module_semantics::specs::Reading::hot_call))]
 fn read_hot_call(
@@ -117,21 +133,14 @@ fn read_hot_call(
         tokens.mark(Kind::Accept)?;
         tokens.mark(Kind::Open)?;
         let item = read_accepted(alloc, tokens, depth)?;
-        tokens.mark(Kind::Close)?;
-        return Ok(item);
+        return tokens.mark_after(item, Kind::Close);
     }
     if tokens.next_is(Kind::Dispose) {
-        tokens.mark(Kind::Dispose)?;
-        tokens.mark(Kind::Open)?;
-        let once = read_once(alloc, tokens, depth)?;
-        tokens.mark(Kind::Close)?;
+        let once = read_once_call(alloc, tokens, depth, Kind::Dispose)?;
         return Ok(RawItem::Dispose(once));
     }
     if tokens.next_is(Kind::Prune) {
-        tokens.mark(Kind::Prune)?;
-        tokens.mark(Kind::Open)?;
-        let once = read_once(alloc, tokens, depth)?;
-        tokens.mark(Kind::Close)?;
+        let once = read_once_call(alloc, tokens, depth, Kind::Prune)?;
         return Ok(RawItem::Prune(once));
     }
     tokens.mark(Kind::Decline)?;
@@ -165,6 +174,5 @@ pub(crate) fn read_hot_top(
 {
     pass_hot(tokens)?;
     let item = read_told_hot(alloc, tokens, depth)?;
-    tokens.end()?;
-    Ok(item)
+    tokens.end_after(item)
 }

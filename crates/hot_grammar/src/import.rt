@@ -1,16 +1,26 @@
 // Imports: their names, and what they are of.
 ghost use Rattle.std.specs.Prelude.{◌≡◌, map};
-ghost use Rattle.module_semantics.specs.Kinds.{all_names};
-ghost use Rattle.module_semantics.specs.Readers.{listed};
-ghost use Rattle.module_semantics.specs.Reading.{import_item, import_name, inner};
-ghost use Rattle.hot_grammar.specs.Raw.{raw_import_of, raw_item_of};
+ghost use Rattle.module_semantics.specs.Kinds.{AS, FROM, all_names};
+ghost use Rattle.module_semantics.specs.Readers.{end, listed, mark, ◌▷◌, ◌◁◌};
+ghost use Rattle.module_semantics.specs.Reading.{free_name, import_item, import_name, inner, text_token};
+ghost use Rattle.hot_grammar.specs.Raw.{name_at_of, raw_import_of, raw_item_of};
 ghost use Rattle.hot_grammar.specs.Reads.{Gives};
 
 use crate::hot_call::read_hot_top;
 use crate::kind::{ALL_NAMES, FREE_NAMES, RESERVED};
 use crate::tokens::Tokens;
-use crate::{GrammarFault, Kind, RawImport, RawItem};
+use crate::{GrammarFault, Kind, NameAt, RawImport, RawItem};
+use hmr_types::Text;
 use std::alloc::Global;
+
+/// `as` and a local name.
+fn read_local_name(alloc: Global, tokens: &mut Tokens<'_>) -> Result<NameAt, GrammarFault>
+    ensures { Gives (λ n. (name_at_of n, tokens.new)) result ((mark AS ▷ free_name) tokens.old) }
+{
+    tokens.mark(Kind::As)?;
+    let local = tokens.name_at(alloc, &FREE_NAMES)?;
+    Ok(local)
+}
 
 /// One name of an import: a reserved word only before `as`.
 #[tactic(auto, unfolding(module_semantics::specs::Reading::import_name))]
@@ -19,8 +29,7 @@ fn read_import_name(alloc: Global, tokens: &mut Tokens<'_>) -> Result<RawImport,
 {
     if tokens.next_in(&RESERVED) {
         let exported = tokens.name(alloc, &RESERVED)?;
-        tokens.mark(Kind::As)?;
-        let local = tokens.name_at(alloc, &FREE_NAMES)?;
+        let local = read_local_name(alloc, tokens)?;
         return Ok(RawImport { exported, local });
     }
     let name = tokens.name_at(alloc, &FREE_NAMES)?;
@@ -31,8 +40,7 @@ fn read_import_name(alloc: Global, tokens: &mut Tokens<'_>) -> Result<RawImport,
             local: name,
         });
     }
-    tokens.mark(Kind::As)?;
-    let local = tokens.name_at(alloc, &FREE_NAMES)?;
+    let local = read_local_name(alloc, tokens)?;
     Ok(RawImport {
         exported: name.name,
         local,
@@ -57,6 +65,15 @@ fn read_import_names(alloc: Global, tokens: &mut Tokens<'_>) -> Result<Vec<RawIm
     Ok(names)
 }
 
+/// `from`, the text of what is imported, and the end.
+fn read_source(alloc: Global, tokens: &mut Tokens<'_>) -> Result<Text, GrammarFault>
+    ensures { Gives (λ t. (t, tokens.new)) result ((mark FROM ▷ text_token ◁ end) tokens.old) }
+{
+    tokens.mark(Kind::From)?;
+    let spec = tokens.text(alloc)?;
+    tokens.end_after(spec)
+}
+
 /// After `import`: a text, names in braces and a text, or what is said of `import.meta.hot`.
 #[tactic(auto, unfolding(module_semantics::specs::Reading::import_item))]
 pub(crate) fn read_import(
@@ -68,8 +85,7 @@ pub(crate) fn read_import(
 {
     if tokens.next_is(Kind::Text) {
         let spec = tokens.text(alloc)?;
-        tokens.end()?;
-        return Ok(RawItem::Import {
+        return tokens.end_after(RawItem::Import {
             spec,
             names: Vec::new(alloc),
         });
@@ -79,9 +95,7 @@ pub(crate) fn read_import(
     }
     tokens.mark(Kind::OpenBrace)?;
     let names = read_import_names(alloc, tokens)?;
-    tokens.mark(Kind::CloseBrace)?;
-    tokens.mark(Kind::From)?;
-    let spec = tokens.text(alloc)?;
-    tokens.end()?;
+    let names = tokens.mark_after(names, Kind::CloseBrace)?;
+    let spec = read_source(alloc, tokens)?;
     Ok(RawItem::Import { spec, names })
 }

@@ -3,7 +3,8 @@ ghost use Rattle.std.specs.Prelude.{◌≡◌, ◌∷◌, [], IfOk};
 ghost use Rattle.module_semantics.specs.Readers.{many};
 ghost use Rattle.module_semantics.specs.Reading.{declaration, guard, inner, item, plain_top, top, top_firsts};
 ghost use Rattle.hot_grammar.specs.Items.{declared};
-ghost use Rattle.hot_grammar.specs.Raw.{raw_item_of, raw_items_of};
+ghost use Rattle.hot_grammar.specs.Parts.{named_value};
+ghost use Rattle.hot_grammar.specs.Raw.{name_at_of, raw_expr_of, raw_item_of, raw_items_of};
 ghost use Rattle.hot_grammar.specs.Reads.{Gives};
 
 use crate::act::{read_name_act, read_thrown, read_value};
@@ -33,12 +34,10 @@ fn read_plain_top(
 {
     if tokens.next_is(Kind::Throw) {
         let thrown = read_thrown(alloc, tokens, depth)?;
-        tokens.end()?;
-        return Ok(RawItem::Act(RawStmt::Throw(thrown)));
+        return tokens.end_after(RawItem::Act(RawStmt::Throw(thrown)));
     }
     let act = read_name_act(alloc, tokens, depth)?;
-    tokens.end()?;
-    Ok(RawItem::Act(act))
+    tokens.end_after(RawItem::Act(act))
 }
 
 /// A statement or a call at the top.
@@ -91,8 +90,21 @@ fn read_guard(
     tokens.mark(Kind::Close)?;
     tokens.mark(Kind::OpenBrace)?;
     let items = read_tops(alloc, tokens, depth)?;
-    tokens.mark(Kind::CloseBrace)?;
-    Ok(items)
+    tokens.mark_after(items, Kind::CloseBrace)
+}
+
+/// The name that is declared, its value, and the end.
+fn read_named_value(
+    alloc: Global,
+    tokens: &mut Tokens<'_>,
+    depth: u32,
+) -> Result<(NameAt, RawExpr), GrammarFault>
+    ensures { Gives (λ v. ((name_at_of v.0, raw_expr_of v.1), tokens.new)) result (named_value (inner depth).expr tokens.old) }
+{
+    let name = tokens.name_at(alloc, &FREE_NAMES)?;
+    tokens.mark(Kind::Equals)?;
+    let value = read_value(alloc, tokens, depth)?;
+    tokens.end_after((name, value))
 }
 
 /// A declaration, without its `export`.
@@ -106,10 +118,7 @@ fn read_declaration(
 {
     if tokens.next_is(Kind::Const) {
         tokens.mark(Kind::Const)?;
-        let name = tokens.name_at(alloc, &FREE_NAMES)?;
-        tokens.mark(Kind::Equals)?;
-        let value = read_value(alloc, tokens, depth)?;
-        tokens.end()?;
+        let (name, value) = read_named_value(alloc, tokens, depth)?;
         return Ok(Declaration {
             mutable: false,
             name,
@@ -117,10 +126,7 @@ fn read_declaration(
         });
     }
     tokens.mark(Kind::Let)?;
-    let name = tokens.name_at(alloc, &FREE_NAMES)?;
-    tokens.mark(Kind::Equals)?;
-    let value = read_value(alloc, tokens, depth)?;
-    tokens.end()?;
+    let (name, value) = read_named_value(alloc, tokens, depth)?;
     Ok(Declaration {
         mutable: true,
         name,

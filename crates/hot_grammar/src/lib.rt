@@ -37,6 +37,3 @@ pub use name_at::NameAt;
 pub use raw_expr::RawExpr;
 pub use raw_item::{RawImport, RawItem};
 pub use raw_stmt::{RawHandler, RawOnce, RawStmt};
-
-#[cfg(test)]
-mod tests;

@@ -1,6 +1,6 @@
 // The tokens that are left, from which readers take one after another. The next one decides what is
 // read: `throw new` alone looks at two.
-ghost use Rattle.std.specs.Prelude.{◌≡◌, List, ◌∷◌, [], length, map};
+ghost use Rattle.std.specs.Prelude.{◌≡◌, List, ◌∷◌, [], IfOk, length, map};
 ghost use Rattle.module_semantics.specs.Kinds.{bytes_of, name_at, value_of, NUMBER, TEXT};
 ghost use Rattle.module_semantics.specs.Raw as plain;
 ghost use Rattle.module_semantics.specs.Readers.{deep, end, mark, next_in, next_two, taken};
@@ -99,6 +99,15 @@ impl<'a> Tokens<'a> {
         Ok(())
     }
 
+    /// Takes a token of this kind, which must follow a value that was read, and gives the value.
+    pub(crate) fn mark_after<T: Drop>(&mut self, value: T, kind: Kind) -> Result<T, GrammarFault>
+        ensures passed { Gives (λ _. past self.new) result (mark (code_of kind) self.old) }
+        ensures same { IfOk result (λ v. v ≡ value) }
+    {
+        self.mark(kind)?;
+        Ok(value)
+    }
+
     /// Takes a name of one of these kinds, with its place.
     pub(crate) fn name_at(&mut self, alloc: Global, kinds: &[Kind]) -> Result<NameAt, GrammarFault>
         ensures { Gives (λ n. (name_at_of n, self.new)) result (taken (map code_of kinds.now) name_at self.old) }
@@ -160,6 +169,15 @@ impl<'a> Tokens<'a> {
             }
             _ => Ok(()),
         }
+    }
+
+    /// Takes the end of a statement, which must follow a value that was read, and gives the value.
+    pub(crate) fn end_after<T: Drop>(&mut self, value: T) -> Result<T, GrammarFault>
+        ensures passed { Gives (λ _. past self.new) result (end self.old) }
+        ensures same { IfOk result (λ v. v ≡ value) }
+    {
+        self.end()?;
+        Ok(value)
     }
 
     /// Takes the end of the tokens.
