@@ -1,14 +1,14 @@
 -- What each part breaks first is the least of what it breaks.
-use Rattle.std.proofs.Common.{◌≡◌, ℕ, List, [], ◌∷◌, ◌++◌, Bool, true, false, not, ◌||◌, Option, Some, None, if◌then◌else◌, map, refl, ap, sym, ◌∙◌}
+use Rattle.std.proofs.Common.{◌≡◌, ℕ, List, [], ◌∷◌, ◌++◌, Bool, true, false, not, ◌||◌, Option, Some, None, if◌then◌else◌, map, refl, ap, ◌∙◌}
 use Rattle.std.specs.Str.{bytes_eq}
 use Rattle.hmr_types.specs.declared.analysis.FaultWord.TheVariants.{DuplicateName, NotAssignable, Unexpected}
 use Rattle.hmr_types.specs.declared.tree.Op.{Op}
 use Rattle.module_semantics.specs.Kinds.{NameAt}
-use Rattle.module_semantics.specs.NameRules.{Broken, Within, outside, in_once, in_accept, accepts, all_broken, alone_rule, bound_by, broken_if, cond_broken, expr_broken, exprs_broken, first_broken, handler_broken, has_name, is_bag, is_param, item_broken, least, lets_by, lets_of, maybe_broken, names_of, once_broken, repeated, stmt_broken, stmts_broken}
+use Rattle.module_semantics.specs.NameRules.{Broken, Within, outside, in_once, in_accept, accepts, all_broken, alone_rule, bound_by, broken_if, cond_broken, expr_broken, exprs_broken, first_broken, handler_broken, has_name, is_bag, is_param, item_broken, least, lets_of, maybe_broken, names_of, once_broken, repeated, stmt_broken, stmts_broken}
 use Rattle.module_semantics.specs.Raw as raw
 use Rattle.module_semantics.specs.Raw.{RawExpr, RawStmt, RawStmts, RawHandler, RawOnce, RawItem, no_stmts, one_stmt}
 use Rattle.module_semantics.specs.Reading.{flat, grouped}
-use Rattle.hot_parser.specs.Firsts.{accept_handler_first, accept_once_first, assign_first, cond_first, earlier, expr_first, exprs_first, first_if, has_let, item_first, items_first, maybe_first, module_first, once_first, once_handler_first, repeated_first, rowed_first, stmt_first, stmts_first}
+use Rattle.hot_parser.specs.Firsts.{accept_handler_first, accept_once_first, assign_first, cond_first, earlier, expr_first, exprs_first, first_if, item_first, items_first, maybe_first, module_first, once_first, once_handler_first, repeated_first, rowed_first, stmt_first, stmts_first}
 use Rattle.hot_parser.proofs.Earlier.{both, earlier_none, if_is, then_more}
 
 or_assoc : (a b c : Bool) → (a || (b || c)) ≡ ((a || b) || c)
@@ -25,11 +25,6 @@ has_name_append : (n : List ℕ) (xs ys : List (List ℕ)) → has_name n (xs ++
 unfolding has_name
 has_name_append n [] ys = refl
 has_name_append n (x ∷ xs) ys = ap (λ h. bytes_eq n x || h) (has_name_append n xs ys) ∙ or_assoc (bytes_eq n x) (has_name n xs) (has_name n ys)
-
-has_let_is : (n : List ℕ) (items : List RawItem) → has_let n items ≡ has_name n (lets_of items)
-unfolding has_name
-has_let_is n [] = refl
-has_let_is n (i ∷ is) = ap (λ h. has_name n (lets_by i) || h) (has_let_is n is) ∙ sym (has_name_append n (lets_by i) (lets_of is))
 
 next_same : (n m : List ℕ) (before other : List (List ℕ)) → has_name m before ≡ has_name m other → has_name m (before ++ n ∷ []) ≡ has_name m (n ∷ other)
 unfolding has_name
@@ -92,71 +87,75 @@ cond_is w (raw.neg a) = expr_is w (raw.neg a)
 cond_is w (raw.binary op a b) = expr_is w (raw.binary op a b)
 cond_is w (raw.choose c a b) = expr_is w (raw.choose c a b)
 
-assign_is : (items : List RawItem) (w : Within) (n : NameAt) → assign_first items w n ≡ least (broken_if (is_param w n.name || not (has_name n.name (lets_of items))) NotAssignable n.at)
-assign_is items w n =
-    ap (λ h. first_if (is_param w n.name || not h) NotAssignable n.at) (has_let_is n.name items) ∙ if_is (is_param w n.name || not (has_name n.name (lets_of items))) NotAssignable n.at
+assign_is : (lets : List (List ℕ)) (w : Within) (n : NameAt) → assign_first lets w n ≡ least (broken_if (is_param w n.name || not (has_name n.name lets)) NotAssignable n.at)
+assign_is lets w n = if_is (is_param w n.name || not (has_name n.name lets)) NotAssignable n.at
 
 empty_is : (found : Option Broken) → found ≡ earlier found (least [])
 unfolding least
 empty_is found = earlier_none found
 
 mutual
-  stmt_is : (items : List RawItem) (w : Within) (s : RawStmt) → stmt_first items w s ≡ least (stmt_broken (lets_of items) w s)
-  stmt_is items w (raw.log es) = exprs_are w es None
-  stmt_is items w (raw.assign n e) = both _ _ _ (expr_broken w e) (assign_is items w n) (expr_is w e)
-  stmt_is items w (raw.set n k e) = both _ _ _ (expr_broken w e) (if_is (not (is_bag w n.name)) Unexpected n.at) (expr_is w e)
-  stmt_is items w (raw.set_bag k e) = expr_is w e
-  stmt_is items w (raw.throw e) = expr_is w e
-  stmt_is items w (raw.invalidate at e) = both _ _ _ (maybe_broken w e) (if_is (not (accepts w)) Unexpected at) (maybe_is w e)
-  stmt_is items w (raw.branch c a b) =
-      both _ _ (cond_broken w c) (stmts_broken (lets_of items) w a ++ stmts_broken (lets_of items) w b) (cond_is w c)
-      (both _ _ (stmts_broken (lets_of items) w a) (stmts_broken (lets_of items) w b) (stmts_are items w a None) (stmts_are items w b None))
+  stmt_is : (lets : List (List ℕ)) (w : Within) (s : RawStmt) → stmt_first lets w s ≡ least (stmt_broken lets w s)
+  stmt_is lets w (raw.log es) = exprs_are w es None
+  stmt_is lets w (raw.assign n e) = both _ _ _ (expr_broken w e) (assign_is lets w n) (expr_is w e)
+  stmt_is lets w (raw.set n k e) = both _ _ _ (expr_broken w e) (if_is (not (is_bag w n.name)) Unexpected n.at) (expr_is w e)
+  stmt_is lets w (raw.set_bag k e) = expr_is w e
+  stmt_is lets w (raw.throw e) = expr_is w e
+  stmt_is lets w (raw.invalidate at e) = both _ _ _ (maybe_broken w e) (if_is (not (accepts w)) Unexpected at) (maybe_is w e)
+  stmt_is lets w (raw.branch c a b) =
+      both _ _ (cond_broken w c) (stmts_broken lets w a ++ stmts_broken lets w b) (cond_is w c)
+      (both _ _ (stmts_broken lets w a) (stmts_broken lets w b) (stmts_are lets w a None) (stmts_are lets w b None))
 
-  stmts_are : (items : List RawItem) (w : Within) (r : RawStmts) (found : Option Broken) → stmts_first items w found r ≡ earlier found (least (stmts_broken (lets_of items) w r))
-  stmts_are items w no_stmts found = empty_is found
-  stmts_are items w (one_stmt s r) found =
-      then_more found (stmt_first items w s) _ (stmt_broken (lets_of items) w s) (stmts_broken (lets_of items) w r) (stmt_is items w s) (stmts_are items w r (earlier found (stmt_first items w s)))
+  stmts_are : (lets : List (List ℕ)) (w : Within) (r : RawStmts) (found : Option Broken) → stmts_first lets w found r ≡ earlier found (least (stmts_broken lets w r))
+  stmts_are lets w no_stmts found = empty_is found
+  stmts_are lets w (one_stmt s r) found =
+      then_more found (stmt_first lets w s) _ (stmt_broken lets w s) (stmts_broken lets w r) (stmt_is lets w s) (stmts_are lets w r (earlier found (stmt_first lets w s)))
 
-accept_handler_is : (items : List RawItem) (h : RawHandler) → accept_handler_first items h ≡ least (handler_broken (lets_of items) in_accept h)
-accept_handler_is items h =
-    both _ _ (repeated [] h.params) (stmts_broken (lets_of items) (in_accept (names_of h.params)) h.body) (none_repeated h.params) (stmts_are items (in_accept (names_of h.params)) h.body None)
+accept_handler_is : (lets : List (List ℕ)) (h : RawHandler) → accept_handler_first lets h ≡ least (handler_broken lets in_accept h)
+accept_handler_is lets h =
+    both _ _ (repeated [] h.params) (stmts_broken lets (in_accept (names_of h.params)) h.body) (none_repeated h.params) (stmts_are lets (in_accept (names_of h.params)) h.body None)
 
-once_handler_is : (items : List RawItem) (h : RawHandler) → once_handler_first items h ≡ least (handler_broken (lets_of items) in_once h)
-once_handler_is items h =
-    both _ _ (repeated [] h.params) (stmts_broken (lets_of items) (in_once (names_of h.params)) h.body) (none_repeated h.params) (stmts_are items (in_once (names_of h.params)) h.body None)
+once_handler_is : (lets : List (List ℕ)) (h : RawHandler) → once_handler_first lets h ≡ least (handler_broken lets in_once h)
+once_handler_is lets h =
+    both _ _ (repeated [] h.params) (stmts_broken lets (in_once (names_of h.params)) h.body) (none_repeated h.params) (stmts_are lets (in_once (names_of h.params)) h.body None)
 
-accept_once_is : (items : List RawItem) (o : RawOnce) → accept_once_first items o ≡ least (once_broken (lets_of items) in_accept o)
+accept_once_is : (lets : List (List ℕ)) (o : RawOnce) → accept_once_first lets o ≡ least (once_broken lets in_accept o)
 unfolding least
-accept_once_is items (raw.code h) = accept_handler_is items h
-accept_once_is items (raw.host l) = refl
+accept_once_is lets (raw.code h) = accept_handler_is lets h
+accept_once_is lets (raw.host l) = refl
 
-once_is : (items : List RawItem) (o : RawOnce) → once_first items o ≡ least (once_broken (lets_of items) in_once o)
+once_is : (lets : List (List ℕ)) (o : RawOnce) → once_first lets o ≡ least (once_broken lets in_once o)
 unfolding least
-once_is items (raw.code h) = once_handler_is items h
-once_is items (raw.host l) = refl
+once_is lets (raw.code h) = once_handler_is lets h
+once_is lets (raw.host l) = refl
 
-item_is : (items : List RawItem) (i : RawItem) → item_first items i ≡ least (item_broken (lets_of items) i)
+item_is : (lets : List (List ℕ)) (i : RawItem) → item_first lets i ≡ least (item_broken lets i)
 unfolding least
-item_is items (raw.import s names) = refl
-item_is items (raw.declare exported mutable n e) = expr_is outside e
-item_is items (raw.act s) = stmt_is items outside s
-item_is items (raw.own None) = refl
-item_is items (raw.own (Some o)) = accept_once_is items o
-item_is items (raw.deps list specs None) = refl
-item_is items (raw.deps list specs (Some h)) = accept_handler_is items h
-item_is items (raw.dispose o) = once_is items o
-item_is items (raw.prune o) = once_is items o
-item_is items raw.decline = refl
+item_is lets (raw.import s names) = refl
+item_is lets (raw.declare exported mutable n e) = expr_is outside e
+item_is lets (raw.act s) = stmt_is lets outside s
+item_is lets (raw.own None) = refl
+item_is lets (raw.own (Some o)) = accept_once_is lets o
+item_is lets (raw.deps list specs None) = refl
+item_is lets (raw.deps list specs (Some h)) = accept_handler_is lets h
+item_is lets (raw.dispose o) = once_is lets o
+item_is lets (raw.prune o) = once_is lets o
+item_is lets raw.decline = refl
 
-items_are : (items is : List RawItem) (found : Option Broken) → items_first items found is ≡ earlier found (least (flat (map (item_broken (lets_of items)) is)))
+items_are : (lets : List (List ℕ)) (is : List RawItem) (found : Option Broken) → items_first lets found is ≡ earlier found (least (flat (map (item_broken lets) is)))
 unfolding least
-items_are items [] found = earlier_none found
-items_are items (i ∷ is) found =
-    then_more found (item_first items i) _ (item_broken (lets_of items) i) (flat (map (item_broken (lets_of items)) is)) (item_is items i) (items_are items is (earlier found (item_first items i)))
+items_are lets [] found = earlier_none found
+items_are lets (i ∷ is) found =
+    then_more found (item_first lets i) _ (item_broken lets i) (flat (map (item_broken lets) is)) (item_is lets i) (items_are lets is (earlier found (item_first lets i)))
 
--- what a module breaks first
-pub module_is : (items : List RawItem) → module_first items ≡ first_broken items
+module_is : (items : List RawItem) → module_first items ≡ first_broken items
 unfolding all_broken
 module_is items =
-    items_are items items (repeated_first [] None (flat (map bound_by items)))
+    items_are (lets_of items) items (repeated_first [] None (flat (map bound_by items)))
     ∙ both _ _ (repeated [] (flat (map bound_by items))) (flat (map (item_broken (lets_of items)) items)) (none_repeated (flat (map bound_by items))) refl
+
+-- what a module breaks first
+pub module_found : (items : List RawItem) (lets : List (List ℕ)) (bound : List NameAt) (first : Option Broken) → lets ≡ lets_of items → bound ≡ flat (map bound_by items)
+    → first ≡ repeated_first [] None bound → items_first lets first items ≡ first_broken items
+module_found items lets bound first are binds repeats =
+    ap (λ l. items_first l first items) are ∙ (ap (λ f. items_first (lets_of items) f items) (repeats ∙ ap (repeated_first [] None) binds) ∙ module_is items)

@@ -1,11 +1,11 @@
 -- What breaks a rule on names first, part by part. The parts so far are kept as the first that they break, so that a list is gone
 -- over once.
-use Rattle.std.specs.Prelude.{ℕ, List, [], ◌∷◌, ◌++◌, Bool, false, not, ◌||◌, if◌then◌else◌, Option, Some, None, map}
+use Rattle.std.specs.Prelude.{ℕ, List, [], ◌∷◌, ◌++◌, Bool, not, ◌||◌, if◌then◌else◌, Option, Some, None, map}
 use Rattle.hmr_types.specs.declared.analysis.FaultWord.{FaultWord}
 use Rattle.hmr_types.specs.declared.analysis.FaultWord.TheVariants.{DuplicateName, NotAssignable, Unexpected}
 use Rattle.hmr_types.specs.declared.tree.Op.{Op}
 use Rattle.module_semantics.specs.Kinds.{NameAt}
-use Rattle.module_semantics.specs.NameRules.{Broken, Within, outside, in_once, in_accept, accepts, bound_by, has_name, is_bag, is_param, lesser, lets_by, names_of}
+use Rattle.module_semantics.specs.NameRules.{Broken, Within, outside, in_once, in_accept, accepts, bound_by, has_name, is_bag, is_param, lesser, lets_of, names_of}
 use Rattle.module_semantics.specs.Raw as raw
 use Rattle.module_semantics.specs.Raw.{RawExpr, RawStmt, RawStmts, RawHandler, RawOnce, RawItem, no_stmts, one_stmt}
 use Rattle.module_semantics.specs.Reading.{flat}
@@ -24,11 +24,6 @@ first_if test word at = if test then Some (record { at = at; word = word }) else
 abbrev pub repeated_first : List (List ℕ) → Option Broken → List NameAt → Option Broken
 repeated_first before found [] = found
 repeated_first before found (n ∷ ns) = repeated_first (before ++ n.name ∷ []) (earlier found (first_if (has_name n.name before) DuplicateName n.at)) ns
-
--- `let` declares the name
-abbrev pub has_let : List ℕ → List RawItem → Bool
-has_let n [] = false
-has_let n (i ∷ is) = has_name n (lets_by i) || has_let n is
 
 -- in an expression
 abbrev pub expr_first : Within → RawExpr → Option Broken
@@ -67,60 +62,60 @@ abbrev pub cond_first : Within → RawExpr → Option Broken
 cond_first w e = cond_by w e (alone e)
 
 -- in the name that is assigned to
-abbrev pub assign_first : List RawItem → Within → NameAt → Option Broken
-assign_first items w n = first_if (is_param w n.name || not (has_let n.name items)) NotAssignable n.at
+abbrev pub assign_first : List (List ℕ) → Within → NameAt → Option Broken
+assign_first lets w n = first_if (is_param w n.name || not (has_name n.name lets)) NotAssignable n.at
 
--- in statements of a module of these items
+-- in statements of a module in which `let` declares these names
 abbrev mutual
-  pub stmt_first : List RawItem → Within → RawStmt → Option Broken
-  stmt_first items w (raw.log es) = exprs_first w None es
-  stmt_first items w (raw.assign n e) = earlier (assign_first items w n) (expr_first w e)
-  stmt_first items w (raw.set n k e) = earlier (first_if (not (is_bag w n.name)) Unexpected n.at) (expr_first w e)
-  stmt_first items w (raw.set_bag k e) = expr_first w e
-  stmt_first items w (raw.throw e) = expr_first w e
-  stmt_first items w (raw.invalidate at e) = earlier (first_if (not (accepts w)) Unexpected at) (maybe_first w e)
-  stmt_first items w (raw.branch c a b) = earlier (cond_first w c) (earlier (stmts_first items w None a) (stmts_first items w None b))
+  pub stmt_first : List (List ℕ) → Within → RawStmt → Option Broken
+  stmt_first lets w (raw.log es) = exprs_first w None es
+  stmt_first lets w (raw.assign n e) = earlier (assign_first lets w n) (expr_first w e)
+  stmt_first lets w (raw.set n k e) = earlier (first_if (not (is_bag w n.name)) Unexpected n.at) (expr_first w e)
+  stmt_first lets w (raw.set_bag k e) = expr_first w e
+  stmt_first lets w (raw.throw e) = expr_first w e
+  stmt_first lets w (raw.invalidate at e) = earlier (first_if (not (accepts w)) Unexpected at) (maybe_first w e)
+  stmt_first lets w (raw.branch c a b) = earlier (cond_first w c) (earlier (stmts_first lets w None a) (stmts_first lets w None b))
 
-  pub stmts_first : List RawItem → Within → Option Broken → RawStmts → Option Broken
-  stmts_first items w found no_stmts = found
-  stmts_first items w found (one_stmt s r) = stmts_first items w (earlier found (stmt_first items w s)) r
+  pub stmts_first : List (List ℕ) → Within → Option Broken → RawStmts → Option Broken
+  stmts_first lets w found no_stmts = found
+  stmts_first lets w found (one_stmt s r) = stmts_first lets w (earlier found (stmt_first lets w s)) r
 
 -- in a callback of `accept`
-abbrev pub accept_handler_first : List RawItem → RawHandler → Option Broken
-accept_handler_first items h = earlier (repeated_first [] None h.params) (stmts_first items (in_accept (names_of h.params)) None h.body)
+abbrev pub accept_handler_first : List (List ℕ) → RawHandler → Option Broken
+accept_handler_first lets h = earlier (repeated_first [] None h.params) (stmts_first lets (in_accept (names_of h.params)) None h.body)
 
 -- in a callback of `dispose` or `prune`
-abbrev pub once_handler_first : List RawItem → RawHandler → Option Broken
-once_handler_first items h = earlier (repeated_first [] None h.params) (stmts_first items (in_once (names_of h.params)) None h.body)
+abbrev pub once_handler_first : List (List ℕ) → RawHandler → Option Broken
+once_handler_first lets h = earlier (repeated_first [] None h.params) (stmts_first lets (in_once (names_of h.params)) None h.body)
 
 -- in what `accept` of the module itself takes
-abbrev pub accept_once_first : List RawItem → RawOnce → Option Broken
-accept_once_first items (raw.code h) = accept_handler_first items h
-accept_once_first items (raw.host l) = None
+abbrev pub accept_once_first : List (List ℕ) → RawOnce → Option Broken
+accept_once_first lets (raw.code h) = accept_handler_first lets h
+accept_once_first lets (raw.host l) = None
 
 -- in what `dispose` and `prune` take
-abbrev pub once_first : List RawItem → RawOnce → Option Broken
-once_first items (raw.code h) = once_handler_first items h
-once_first items (raw.host l) = None
+abbrev pub once_first : List (List ℕ) → RawOnce → Option Broken
+once_first lets (raw.code h) = once_handler_first lets h
+once_first lets (raw.host l) = None
 
--- in an item of a module of these items
-abbrev pub item_first : List RawItem → RawItem → Option Broken
-item_first items (raw.import s names) = None
-item_first items (raw.declare exported mutable n e) = expr_first outside e
-item_first items (raw.act s) = stmt_first items outside s
-item_first items (raw.own None) = None
-item_first items (raw.own (Some o)) = accept_once_first items o
-item_first items (raw.deps list specs None) = None
-item_first items (raw.deps list specs (Some h)) = accept_handler_first items h
-item_first items (raw.dispose o) = once_first items o
-item_first items (raw.prune o) = once_first items o
-item_first items raw.decline = None
+-- in an item of a module in which `let` declares these names
+abbrev pub item_first : List (List ℕ) → RawItem → Option Broken
+item_first lets (raw.import s names) = None
+item_first lets (raw.declare exported mutable n e) = expr_first outside e
+item_first lets (raw.act s) = stmt_first lets outside s
+item_first lets (raw.own None) = None
+item_first lets (raw.own (Some o)) = accept_once_first lets o
+item_first lets (raw.deps list specs None) = None
+item_first lets (raw.deps list specs (Some h)) = accept_handler_first lets h
+item_first lets (raw.dispose o) = once_first lets o
+item_first lets (raw.prune o) = once_first lets o
+item_first lets raw.decline = None
 
--- in these items of a module
-abbrev pub items_first : List RawItem → Option Broken → List RawItem → Option Broken
-items_first items found [] = found
-items_first items found (i ∷ is) = items_first items (earlier found (item_first items i)) is
+-- in these items of a module in which `let` declares these names
+abbrev pub items_first : List (List ℕ) → Option Broken → List RawItem → Option Broken
+items_first lets found [] = found
+items_first lets found (i ∷ is) = items_first lets (earlier found (item_first lets i)) is
 
 -- in a module
 abbrev pub module_first : List RawItem → Option Broken
-module_first items = items_first items (repeated_first [] None (flat (map bound_by items))) items
+module_first items = items_first (lets_of items) (repeated_first [] None (flat (map bound_by items))) items

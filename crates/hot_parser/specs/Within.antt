@@ -1,6 +1,4 @@
 -- Where a statement stands.
-use Rattle.std.specs.Prelude.{map}
-use Rattle.hot_grammar.specs.Raw.{name_at_of}
 use Rattle.module_semantics.specs.NameRules as rules
 use Rattle.module_semantics.specs.NameRules.{names_of}
 use Rattle.hot_parser.specs.declared.within.Within.{Within}
@@ -8,5 +6,5 @@ use Rattle.hot_parser.specs.declared.within.Within.TheVariants as places
 
 abbrev pub within_of : Within → rules.Within
 within_of places.Outside = rules.outside
-within_of (places.Once params) = rules.in_once (names_of (map name_at_of params.now))
-within_of (places.Accept params) = rules.in_accept (names_of (map name_at_of params.now))
+within_of (places.Once params) = rules.in_once (names_of params.now)
+within_of (places.Accept params) = rules.in_accept (names_of params.now)

@@ -9,6 +9,7 @@
 #![tactic(auto)]
 
 mod alone;
+mod name_table;
 mod names;
 mod parsing;
 mod resolving;

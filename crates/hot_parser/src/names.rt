@@ -3,14 +3,15 @@
 ghost use Rattle.std.specs.Prelude.{◌≡◌, ◌∷◌, ◌++◌, [], IfOk, None, OnOk, map};
 ghost use Rattle.std.specs.Option.{option_map};
 ghost use Rattle.hot_grammar.specs.Raw.{name_at_of, operation_of, raw_expr_of, raw_handler_of, raw_import_of, raw_item_of, raw_items_of, raw_once_of, raw_stmt_of, raw_stmts_of};
-ghost use Rattle.module_semantics.specs.NameRules.{bound_by, first_broken, has_name, is_bag, is_param, accepts, lets_by};
+ghost use Rattle.module_semantics.specs.NameRules.{bound_by, first_broken, is_bag, is_param, accepts, lets_by, lets_of, names_of};
 ghost use Rattle.module_semantics.specs.Reading.{flat};
-ghost use Rattle.hot_parser.specs.Firsts.{accept_handler_first, accept_once_first, assign_first, cond_first, earlier, expr_first, exprs_first, first_if, has_let, item_first, maybe_first, once_first, once_handler_first, repeated_first, rowed_first, stmt_first, stmts_first};
+ghost use Rattle.hot_parser.specs.Firsts.{accept_handler_first, accept_once_first, assign_first, cond_first, earlier, expr_first, exprs_first, first_if, item_first, items_first, maybe_first, once_first, once_handler_first, repeated_first, rowed_first, stmt_first, stmts_first};
 ghost use Rattle.hot_parser.specs.Told.{rule_word, told};
 ghost use Rattle.hot_parser.specs.Within.{within_of};
 
 use crate::alone::alone;
-use crate::within::{Within, has_param};
+use crate::name_table::NameTable;
+use crate::within::Within;
 use hmr_types::{Name, Op};
 use hot_grammar::{NameAt, RawExpr, RawHandler, RawImport, RawItem, RawOnce, RawStmt};
 use std::alloc::{AllocError, Global};
@@ -35,17 +36,17 @@ pub struct Broken {
     pub rule: NameRule,
 }
 
-/// What breaks a rule on names at the least place, unless the rules hold. A name is looked up among the
-/// declared names and among the parameters one by one; but for that the time is linear.
+/// What breaks a rule on names at the least place, unless the rules hold. Names are looked up in tables
+/// of the declared names, of those that `let` declares and of the parameters of a callback: the time is
+/// linear but for the logarithm of their number, and the memory is linear.
 pub fn first_broken(alloc: Global, items: &[RawItem]) -> Result<Option<Broken>, AllocError>
     ensures exact { IfOk result (λ found. told found ≡ first_broken (raw_items_of items.now)) }
 {
     let bound = bound_names(alloc, items)?;
-    let mut found = repeated(&bound);
-    for item in items {
-        found = earlier(found, item_first(items, item));
-    }
-    Ok(found)
+    let declared = let_names(alloc, items)?;
+    let lets = NameTable::new(alloc, &declared)?;
+    let found = repeated(&NameTable::new(alloc, &bound)?);
+    items_first(alloc, &lets, items, found)
 }
 
 /// The one at the lesser place.
@@ -123,139 +124,176 @@ fn add_copy(names: &mut Vec<NameAt>, name: &NameAt) -> Result<(), AllocError>
     Ok(())
 }
 
-/// The first name that is one of those before it.
-fn repeated(names: &[NameAt]) -> Option<Broken>
-    ensures { told result ≡ repeated_first [] None (map name_at_of names.now) }
+/// Copies of the names that `let` declares, in order.
+fn let_names(alloc: Global, items: &[RawItem]) -> Result<Vec<NameAt>, AllocError>
+    ensures { IfOk result (λ names. names_of (map name_at_of names.items) ≡ lets_of (raw_items_of items.now)) }
 {
-    let mut found = None;
-    for place in 0..names.len() {
-        let name = &names[place];
-        let again = has_param(&names[..place], &name.name);
-        found = earlier(found, first_if(again, NameRule::DuplicateName, name.at));
-    }
-    found
-}
-
-/// Whether `let` declares this name in the module.
-fn has_let(items: &[RawItem], name: &Name) -> bool
-    ensures { result ≡ has_let name.now (raw_items_of items.now) }
-{
+    let mut names = Vec::new(alloc);
     for item in items {
-        if is_let(item, name) {
-            return true;
-        }
+        add_let(&mut names, item)?;
     }
-    false
+    Ok(names)
 }
 
-#[tactic(auto, unfolding(module_semantics::specs::NameRules::has_name))]
-fn is_let(item: &RawItem, name: &Name) -> bool
-    ensures { result ≡ has_name name.now (lets_by (raw_item_of item.now)) }
+fn add_let(names: &mut Vec<NameAt>, item: &RawItem) -> Result<(), AllocError>
+    ensures { OnOk result (names_of (map name_at_of names.new.items) ≡ names_of (map name_at_of names.old.items) ++ lets_by (raw_item_of item.now)) }
 {
     match item {
         RawItem::Declare {
             exported: _,
             mutable,
-            name: declared,
+            name,
             value: _,
-        } => *mutable && *name == declared.name,
-        RawItem::Import { spec: _, names: _ } => false,
-        RawItem::Act(_) | RawItem::Own(_) | RawItem::Decline => false,
+        } => {
+            if *mutable {
+                add_copy(names, name)
+            } else {
+                Ok(())
+            }
+        }
+        RawItem::Import { spec: _, names: _ } => Ok(()),
+        RawItem::Act(_) | RawItem::Own(_) | RawItem::Decline => Ok(()),
         RawItem::Deps {
             list: _,
             specs: _,
             call: _,
-        } => false,
-        RawItem::Dispose(_) | RawItem::Prune(_) => false,
+        } => Ok(()),
+        RawItem::Dispose(_) | RawItem::Prune(_) => Ok(()),
     }
 }
 
-fn item_first(items: &[RawItem], item: &RawItem) -> Option<Broken>
-    ensures { told result ≡ item_first (raw_items_of items.now) (raw_item_of item.now) }
+/// The first name that is one of those before it.
+fn repeated(names: &NameTable<'_>) -> Option<Broken>
+    ensures { told result ≡ repeated_first [] None names.now }
+{
+    let all = names.as_slice();
+    let mut found = None;
+    for place in 0..all.len() {
+        let name = &all[place];
+        let again = names.has_before(place, &name.name);
+        found = earlier(found, first_if(again, NameRule::DuplicateName, name.at));
+    }
+    found
+}
+
+/// The one at the lesser place, of what was found before and of what the items break.
+fn items_first(
+    alloc: Global,
+    lets: &NameTable<'_>,
+    items: &[RawItem],
+    first: Option<Broken>,
+) -> Result<Option<Broken>, AllocError>
+    ensures { IfOk result (λ found. told found ≡ items_first (names_of lets.now) (told first) (raw_items_of items.now)) }
+{
+    let mut found = first;
+    for item in items {
+        found = earlier(found, item_first(alloc, lets, item)?);
+    }
+    Ok(found)
+}
+
+fn item_first(
+    alloc: Global,
+    lets: &NameTable<'_>,
+    item: &RawItem,
+) -> Result<Option<Broken>, AllocError>
+    ensures { IfOk result (λ found. told found ≡ item_first (names_of lets.now) (raw_item_of item.now)) }
 {
     match item {
-        RawItem::Import { spec: _, names: _ } => None,
+        RawItem::Import { spec: _, names: _ } => Ok(None),
         RawItem::Declare {
             exported: _,
             mutable: _,
             name: _,
             value,
-        } => expr_first(&Within::Outside, value),
-        RawItem::Act(stmt) => stmt_first(items, &Within::Outside, stmt),
-        RawItem::Own(None) => None,
-        RawItem::Own(Some(once)) => accept_once_first(items, once),
+        } => Ok(expr_first(&Within::Outside, value)),
+        RawItem::Act(stmt) => Ok(stmt_first(lets, &Within::Outside, stmt)),
+        RawItem::Own(None) => Ok(None),
+        RawItem::Own(Some(once)) => accept_once_first(alloc, lets, once),
         RawItem::Deps {
             list: _,
             specs: _,
             call: None,
-        } => None,
+        } => Ok(None),
         RawItem::Deps {
             list: _,
             specs: _,
             call: Some(code),
-        } => accept_handler_first(items, code),
-        RawItem::Dispose(once) => once_first(items, once),
-        RawItem::Prune(once) => once_first(items, once),
-        RawItem::Decline => None,
+        } => accept_handler_first(alloc, lets, code),
+        RawItem::Dispose(once) => once_first(alloc, lets, once),
+        RawItem::Prune(once) => once_first(alloc, lets, once),
+        RawItem::Decline => Ok(None),
     }
 }
 
-fn accept_once_first(items: &[RawItem], once: &RawOnce) -> Option<Broken>
-    ensures { told result ≡ accept_once_first (raw_items_of items.now) (raw_once_of once.now) }
+fn accept_once_first(
+    alloc: Global,
+    lets: &NameTable<'_>,
+    once: &RawOnce,
+) -> Result<Option<Broken>, AllocError>
+    ensures { IfOk result (λ found. told found ≡ accept_once_first (names_of lets.now) (raw_once_of once.now)) }
 {
     match once {
-        RawOnce::Code(code) => accept_handler_first(items, code),
-        RawOnce::Host(_) => None,
+        RawOnce::Code(code) => accept_handler_first(alloc, lets, code),
+        RawOnce::Host(_) => Ok(None),
     }
 }
 
-fn once_first(items: &[RawItem], once: &RawOnce) -> Option<Broken>
-    ensures { told result ≡ once_first (raw_items_of items.now) (raw_once_of once.now) }
+fn once_first(
+    alloc: Global,
+    lets: &NameTable<'_>,
+    once: &RawOnce,
+) -> Result<Option<Broken>, AllocError>
+    ensures { IfOk result (λ found. told found ≡ once_first (names_of lets.now) (raw_once_of once.now)) }
 {
     match once {
-        RawOnce::Code(code) => once_handler_first(items, code),
-        RawOnce::Host(_) => None,
+        RawOnce::Code(code) => once_handler_first(alloc, lets, code),
+        RawOnce::Host(_) => Ok(None),
     }
 }
 
-fn accept_handler_first(items: &[RawItem], code: &RawHandler) -> Option<Broken>
-    ensures { told result ≡ accept_handler_first (raw_items_of items.now) (raw_handler_of code.now) }
+fn accept_handler_first(
+    alloc: Global,
+    lets: &NameTable<'_>,
+    code: &RawHandler,
+) -> Result<Option<Broken>, AllocError>
+    ensures { IfOk result (λ found. told found ≡ accept_handler_first (names_of lets.now) (raw_handler_of code.now)) }
 {
-    let within = Within::Accept(&code.params);
-    earlier(
-        repeated(&code.params),
-        stmts_first(items, &within, &code.body),
-    )
+    let params = NameTable::new(alloc, &code.params)?;
+    let body = stmts_first(lets, &Within::Accept(&params), &code.body);
+    Ok(earlier(repeated(&params), body))
 }
 
-fn once_handler_first(items: &[RawItem], code: &RawHandler) -> Option<Broken>
-    ensures { told result ≡ once_handler_first (raw_items_of items.now) (raw_handler_of code.now) }
+fn once_handler_first(
+    alloc: Global,
+    lets: &NameTable<'_>,
+    code: &RawHandler,
+) -> Result<Option<Broken>, AllocError>
+    ensures { IfOk result (λ found. told found ≡ once_handler_first (names_of lets.now) (raw_handler_of code.now)) }
 {
-    let within = Within::Once(&code.params);
-    earlier(
-        repeated(&code.params),
-        stmts_first(items, &within, &code.body),
-    )
+    let params = NameTable::new(alloc, &code.params)?;
+    let body = stmts_first(lets, &Within::Once(&params), &code.body);
+    Ok(earlier(repeated(&params), body))
 }
 
 #[cycle(stmts)]
-fn stmts_first(items: &[RawItem], within: &Within<'_>, stmts: &[RawStmt]) -> Option<Broken>
-    ensures { told result ≡ stmts_first (raw_items_of items.now) (within_of within.now) None (raw_stmts_of stmts.now) }
+fn stmts_first(lets: &NameTable<'_>, within: &Within<'_>, stmts: &[RawStmt]) -> Option<Broken>
+    ensures { told result ≡ stmts_first (names_of lets.now) (within_of within.now) None (raw_stmts_of stmts.now) }
 {
     let mut found = None;
     for stmt in stmts {
-        found = earlier(found, stmt_first(items, within, stmt));
+        found = earlier(found, stmt_first(lets, within, stmt));
     }
     found
 }
 
 #[cycle(stmts)]
-fn stmt_first(items: &[RawItem], within: &Within<'_>, stmt: &RawStmt) -> Option<Broken>
-    ensures { told result ≡ stmt_first (raw_items_of items.now) (within_of within.now) (raw_stmt_of stmt.now) }
+fn stmt_first(lets: &NameTable<'_>, within: &Within<'_>, stmt: &RawStmt) -> Option<Broken>
+    ensures { told result ≡ stmt_first (names_of lets.now) (within_of within.now) (raw_stmt_of stmt.now) }
 {
     match stmt {
         RawStmt::Log(es) => exprs_first(within, es),
-        RawStmt::Assign(name, e) => earlier(assigned(items, within, name), expr_first(within, e)),
+        RawStmt::Assign(name, e) => earlier(assigned(lets, within, name), expr_first(within, e)),
         RawStmt::Set(name, _, e) => earlier(
             first_if(!is_bag(within, &name.name), NameRule::Unexpected, name.at),
             expr_first(within, e),
@@ -269,19 +307,19 @@ fn stmt_first(items: &[RawItem], within: &Within<'_>, stmt: &RawStmt) -> Option<
         RawStmt::Branch(condition, first, second) => earlier(
             cond_first(within, condition),
             earlier(
-                stmts_first(items, within, first),
-                stmts_first(items, within, second),
+                stmts_first(lets, within, first),
+                stmts_first(lets, within, second),
             ),
         ),
     }
 }
 
 /// An assignment names a `let` of the module that no parameter of the callback hides.
-fn assigned(items: &[RawItem], within: &Within<'_>, name: &NameAt) -> Option<Broken>
-    ensures { told result ≡ assign_first (raw_items_of items.now) (within_of within.now) (name_at_of name.now) }
+fn assigned(lets: &NameTable<'_>, within: &Within<'_>, name: &NameAt) -> Option<Broken>
+    ensures { told result ≡ assign_first (names_of lets.now) (within_of within.now) (name_at_of name.now) }
 {
     let hidden = is_param(within, &name.name);
-    let declared = has_let(items, &name.name);
+    let declared = lets.has(&name.name);
     first_if(hidden || !declared, NameRule::NotAssignable, name.at)
 }
 
@@ -360,7 +398,7 @@ fn is_param(within: &Within<'_>, name: &Name) -> bool
 {
     match within {
         Within::Outside => false,
-        Within::Once(params) | Within::Accept(params) => has_param(params, name),
+        Within::Once(params) | Within::Accept(params) => params.has(name),
     }
 }
 
@@ -369,7 +407,7 @@ fn is_bag(within: &Within<'_>, name: &Name) -> bool
     ensures { result ≡ is_bag (within_of within.now) name.now }
 {
     match within {
-        Within::Once(params) => has_param(params, name),
+        Within::Once(params) => params.has(name),
         Within::Outside | Within::Accept(_) => false,
     }
 }

@@ -32,8 +32,8 @@ use std::alloc::Global;
 /// Else the fault is the first of these that fails, at the line and column where it does, each from 1
 /// and in bytes; an unexpected token is the first after which no module text continues the tokens up
 /// to it, or a name that breaks a rule. `NoMemory` may come in place of either, with line and column 0.
-/// The stack grows with what stands in one another alone. Names are looked up among those declared one
-/// by one; but for that the time is linear, and so is the memory.
+/// The stack grows with what stands in one another alone. Each name is looked up in an ordered table:
+/// the time is linear but for the logarithm of the number of names, and the memory is linear.
 pub fn parse(alloc: Global, text: &[u8]) -> Result<Module, SyntaxFault>
     requires short { length text.now ≤ 4294967294 }
     ensures exact { Parses module_of result (parsing text.now) }

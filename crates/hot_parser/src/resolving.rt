@@ -6,20 +6,21 @@ ghost use Rattle.hmr_types.specs.Syntax.{binary};
 ghost use Rattle.hmr_types.specs.Tree.{cond_of, expr_of, handler_of, item_of, module_of, once_of, stmt_of, stmts_of};
 ghost use Rattle.hot_grammar.specs.Raw.{name_at_of, operation_of, raw_expr_of, raw_handler_of, raw_import_of, raw_item_of, raw_items_of, raw_once_of, raw_stmt_of, raw_stmts_of};
 ghost use Rattle.module_semantics.specs.NameRules.{names_of};
-ghost use Rattle.module_semantics.specs.Resolving.{accept_tree, cond_tree, expr_tree, handler_tree, import_name, item_tree, member_tree, module_tree, name_cond, once_handler_tree, once_tree, place_of, stmt_tree, stmts_tree};
+ghost use Rattle.module_semantics.specs.Resolving.{accept_tree, cond_tree, expr_tree, handler_tree, import_name, item_tree, member_tree, module_tree, name_cond, once_handler_tree, once_tree, stmt_tree, stmts_tree};
 ghost use Rattle.hot_parser.specs.Rows.{rowed};
 ghost use Rattle.hot_parser.specs.Within.{within_of};
 
 use crate::alone::alone;
-use crate::within::{Within, has_param};
+use crate::name_table::NameTable;
+use crate::within::Within;
 use hmr_types::{
     Cond, Expr, HandlerCode, ImportName, Item, Module, Name, Once, Op, Sequence, Stmt,
 };
 use hot_grammar::{NameAt, RawExpr, RawHandler, RawImport, RawItem, RawOnce, RawStmt};
 use std::alloc::{AllocError, Global};
 
-/// The tree of what the grammar tells of a module. It takes time and memory in proportion to it, but
-/// that a parameter is looked up among those of its callback.
+/// The tree of what the grammar tells of a module. Parameters are looked up in a table: the time is
+/// linear but for the logarithm of their number in a callback, and the memory is linear.
 pub fn module_tree(alloc: Global, items: &[RawItem]) -> Result<Module, AllocError>
     ensures exact { IfOk result (λ tree. module_of tree ≡ module_tree (raw_items_of items.now)) }
 {
@@ -103,9 +104,10 @@ fn once_tree(alloc: Global, once: &RawOnce) -> Result<Once, AllocError>
 fn handler_tree(alloc: Global, code: &RawHandler) -> Result<HandlerCode, AllocError>
     ensures { IfOk result (λ tree. handler_of tree ≡ handler_tree (raw_handler_of code.now)) }
 {
+    let params = NameTable::new(alloc, &code.params)?;
     Ok(HandlerCode {
         params: param_names(alloc, &code.params)?,
-        body: stmts_tree(alloc, &Within::Accept(&code.params), &code.body)?,
+        body: stmts_tree(alloc, &Within::Accept(&params), &code.body)?,
     })
 }
 
@@ -113,9 +115,10 @@ fn handler_tree(alloc: Global, code: &RawHandler) -> Result<HandlerCode, AllocEr
 fn once_handler_tree(alloc: Global, code: &RawHandler) -> Result<HandlerCode, AllocError>
     ensures { IfOk result (λ tree. handler_of tree ≡ once_handler_tree (raw_handler_of code.now)) }
 {
+    let params = NameTable::new(alloc, &code.params)?;
     Ok(HandlerCode {
         params: Sequence::new(alloc),
-        body: stmts_tree(alloc, &Within::Once(&code.params), &code.body)?,
+        body: stmts_tree(alloc, &Within::Once(&params), &code.body)?,
     })
 }
 
@@ -185,28 +188,13 @@ fn name_cond(within: &Within<'_>, name: &NameAt) -> Result<Cond, AllocError>
 {
     match within {
         Within::Accept(params) => {
-            if has_param(params, &name.name) {
-                return Ok(Cond::Param(place_of(params, &name.name)?));
+            if params.has(&name.name) {
+                return Ok(Cond::Param(params.place_of(&name.name)));
             }
             Ok(Cond::Value(Expr::Name(name.name.clone()?)))
         }
         Within::Outside | Within::Once(_) => Ok(Cond::Value(Expr::Name(name.name.clone()?))),
     }
-}
-
-/// The place of a parameter, from 0: their number, where it is none.
-#[tactic(auto, unfolding(module_semantics::specs::Resolving::place_of))]
-fn place_of(params: &[NameAt], name: &Name) -> Result<u32, AllocError>
-    ensures { IfOk result (λ place. place ≡ place_of name.now (names_of (map name_at_of params.now))) }
-{
-    let mut place = 0u32;
-    for param in params {
-        if *name == param.name {
-            return Ok(place);
-        }
-        place = place.checked_add(1).ok_or(AllocError)?;
-    }
-    Ok(place)
 }
 
 fn exprs_tree(alloc: Global, within: &Within<'_>, es: &[RawExpr]) -> Result<Vec<Expr>, AllocError>
@@ -292,7 +280,7 @@ fn member_tree(
         }),
         Within::Once(_) => Ok(Expr::Bag(key.clone()?)),
         Within::Accept(params) => Ok(Expr::Member {
-            param: place_of(params, &base.name)?,
+            param: params.place_of(&base.name),
             safe,
             name: key.clone()?,
         }),

@@ -230,3 +230,50 @@ fn a_row_of_operators_fills_a_text(rt: HostRuntime) -> Result<(), Fail> {
     assert!(rt; is.as_slice() == text.as_bytes());
     Ok(())
 }
+
+/// Declarations of so many names that begin alike, each with an assignment.
+fn declarations(alloc: Global, many: u32) -> Result<String, AllocError> {
+    let mut text = String::new(alloc);
+    for number in 0..many {
+        let lines = format!(in alloc;
+            "let a_front_of_many_names_{number} = 1\na_front_of_many_names_{number} = 2\n"
+        )?;
+        text.push_str(&lines)?;
+    }
+    Ok(text)
+}
+
+#[test]
+fn thousands_of_names_are_declared(rt: HostRuntime) -> Result<(), Fail> {
+    let alloc = rt.alloc();
+    let mut text = declarations(alloc, 4_600)?;
+    assert_eq!(rt; told(alloc, text.as_bytes())?.as_str(), "ok");
+    text.push_str("a_front_of_many_names_4600 = 1")?;
+    assert_eq!(rt;
+        told(alloc, text.as_bytes())?.as_str(),
+        "9201:1 not-assignable"
+    );
+    Ok(())
+}
+
+/// So many numbered names, each with this behind it.
+fn numbered(alloc: Global, many: u32, rest: &str) -> Result<String, AllocError> {
+    let mut text = String::new(alloc);
+    for number in 0..many {
+        let name = format!(in alloc; "m{number}{rest}")?;
+        text.push_str(&name)?;
+    }
+    Ok(text)
+}
+
+#[test]
+fn thousands_of_parameters_are_used(rt: HostRuntime) -> Result<(), Fail> {
+    let alloc = rt.alloc();
+    let params = numbered(alloc, 5_000, ", ")?;
+    let members = numbered(alloc, 5_000, ".a, ")?;
+    let text = format!(in alloc;
+        "import.meta.hot.accept(['./a.js'], ([{params}m]) => {{ console.log({members}m.a) }})"
+    )?;
+    assert_eq!(rt; told(alloc, text.as_bytes())?.as_str(), "ok");
+    Ok(())
+}

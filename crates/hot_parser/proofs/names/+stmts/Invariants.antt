@@ -1,5 +1,6 @@
 use Rattle.std.proofs.Common.{◌≡◌, None, drop}
-use Rattle.hot_grammar.specs.Raw.{raw_items_of, raw_stmts_of}
+use Rattle.hot_grammar.specs.Raw.{raw_stmts_of}
+use Rattle.module_semantics.specs.NameRules.{names_of}
 use Rattle.hot_parser.specs.Firsts.{stmts_first}
 use Rattle.hot_parser.specs.Told.{told}
 use Rattle.hot_parser.specs.Within.{within_of}
@@ -8,4 +9,4 @@ use Rattle.hot_parser.proofs.names.+stmts.Given as goal
 -- what was found, and what is left, tell the first of all
 abbrev pub invariant-stmts_first-loop-stmt : goal.invariant-stmts_first-loop-stmt
 invariant-stmts_first-loop-stmt l =
-    stmts_first (raw_items_of l.items) (within_of l.within) (told l.found) (raw_stmts_of (drop l.stmt-index l.stmts)) ≡ stmts_first (raw_items_of l.items) (within_of l.within) None (raw_stmts_of l.stmts)
+    stmts_first (names_of l.lets) (within_of l.within) (told l.found) (raw_stmts_of (drop l.stmt-index l.stmts)) ≡ stmts_first (names_of l.lets) (within_of l.within) None (raw_stmts_of l.stmts)

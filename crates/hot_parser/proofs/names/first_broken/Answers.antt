@@ -1,13 +1,16 @@
-use Rattle.std.proofs.Common.{◌≡◌, arith, sym, ◌∙◌}
-use Rattle.std.proofs.lemmas.List.{at_drop_all}
+use Rattle.std.proofs.Common.{◌≡◌, [], None, IfOk, map, rules, subst}
 use Rattle.hot_grammar.specs.Raw.{raw_items_of}
-use Rattle.hot_parser.specs.Firsts.{items_first, module_first}
+use Rattle.module_semantics.specs.NameRules.{bound_by, lets_of, names_of}
+use Rattle.module_semantics.specs.Reading.{flat}
+use Rattle.hot_parser.specs.Firsts.{repeated_first}
 use Rattle.hot_parser.specs.Told.{told}
-use Rattle.hot_parser.proofs.Firsts.{module_is}
+use Rattle.hot_parser.proofs.Firsts.{module_found}
 use Rattle.hot_parser.proofs.names.first_broken.Goals as goal
 
 pub returns : goal.returns
 returns c =
-    let whole : told c.loop-item.found ≡ module_first (raw_items_of c.args.items.now) =
-    sym (at_drop_all (λ is. items_first (raw_items_of c.args.items.now) (told c.loop-item.found) (raw_items_of is)) c.args.items.now c.loop-item.item-index (omega arith)) ∙ c.loop-item.invariant in
-    record { exact = whole ∙ module_is (raw_items_of c.args.items.now) }
+    let lets : names_of c.in_ok-lets.lets ≡ lets_of (raw_items_of c.args.items.now) = search rules in
+    let bound : c.in_ok-new.field-0 ≡ flat (map bound_by (raw_items_of c.args.items.now)) = search rules in
+    let first : told c.repeated-found.result ≡ repeated_first [] None c.in_ok-new.field-0 = search rules in
+    let whole = module_found (raw_items_of c.args.items.now) (names_of c.in_ok-lets.lets) c.in_ok-new.field-0 (told c.repeated-found.result) lets bound first in
+    record { exact = subst (λ y. IfOk c.items_first.result (λ f. told f ≡ y)) whole c.items_first.ensures }

@@ -8,4 +8,4 @@ use Rattle.hot_parser.proofs.names.repeated.Given as goal
 -- what was found, and what is left, tell the first of all
 abbrev pub invariant-loop-place : goal.invariant-loop-place
 invariant-loop-place l =
-    repeated_first (names_of (map name_at_of (take l.place l.names))) (told l.found) (map name_at_of (drop l.place l.names)) ≡ repeated_first [] None (map name_at_of l.names)
+    repeated_first (names_of (map name_at_of (take l.place l.all))) (told l.found) (map name_at_of (drop l.place l.all)) ≡ repeated_first [] None (map name_at_of l.all)
