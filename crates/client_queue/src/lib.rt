@@ -10,6 +10,3 @@ mod queue;
 mod sorted;
 
 pub use queue::ClientQueue;
-
-#[cfg(test)]
-mod tests;

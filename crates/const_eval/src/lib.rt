@@ -12,8 +12,6 @@ mod module;
 mod scope;
 mod state;
 mod statements;
-#[cfg(test)]
-mod tests;
 mod values;
 
 pub use body::{Ran, run_body};

@@ -1,5 +1,5 @@
 -- Closures by their label.
-use Rattle.std.specs.Prelude.{ℕ, zero, suc, Bool, List, [], ◌∷◌, map, Option, bytes_eq, find}
+use Rattle.std.specs.Prelude.{◌≡◌, ℕ, zero, suc, Bool, List, [], ◌∷◌, ◌++◌, map, Option, bytes_eq, find}
 use Rattle.std.specs.Set.{remove_key}
 use Rattle.handler_table.specs.Held.{Closure}
 
@@ -23,3 +23,8 @@ marks_of hs = map (λ h. (h.label, h.number)) hs
 abbrev pub numbered : List ℕ → ℕ → ℕ → List (List ℕ × ℕ)
 numbered label first zero = []
 numbered label first (suc count) = (label, first) ∷ numbered label (suc first) count
+
+-- the closures of before, with others behind them
+pub record Extends {F : Type 0} (old new : List (Closure F)) : Type 0 where
+  pub added : List (Closure F)
+  pub is : new ≡ old ++ added

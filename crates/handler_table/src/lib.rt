@@ -13,8 +13,6 @@ mod held;
 mod host;
 mod laws;
 mod shelf;
-#[cfg(test)]
-mod tests;
 
 pub use dep::Dep;
 pub use handler::Handler;

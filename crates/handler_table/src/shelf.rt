@@ -2,7 +2,7 @@
 ghost use Rattle.std.specs.Prelude.{◌≡◌, ◌++◌, ◌∷◌, ◌-◌, [], ℕ, IfErr, OnOk, OnErr};
 ghost use Rattle.std.specs.List.{All};
 ghost use Rattle.handler_table.specs.Held.{IsHost};
-ghost use Rattle.handler_table.specs.Shelf.{first_of, marks_of, numbered, without_first};
+ghost use Rattle.handler_table.specs.Shelf.{Extends, first_of, marks_of, numbered, without_first};
 
 use crate::held::Held;
 use const_eval::Ran;
@@ -58,7 +58,7 @@ impl<F> Shelf<F> {
 impl<F: FnOnce(Bag) -> Result<Ran, AllocError> + Drop> Shelf<F> {
     /// Adds closures of this label behind the others, which `make` makes of their numbers, from `first`
     /// on and before `end`. Only want of memory refuses; the shelf then has some of them, and the closure
-    /// that it was about is gone.
+    /// that it was about is gone. The closures of before stay where they are.
     pub fn fill<M: Fn(u32) -> F + Drop>(
         &mut self,
         label: &Text,
@@ -69,6 +69,7 @@ impl<F: FnOnce(Bag) -> Result<Ran, AllocError> + Drop> Shelf<F> {
         requires makes { M.IsAlwaysCallable make }
         requires callable { (f : F) → F.IsAlwaysCallable f }
         requires hosts { (n : ℕ) (f : F) → M.post make n f → IsHost F.post (record { label = label.now; number = n; call = f }) }
+        ensures stays { Extends self.old self.new }
         ensures numbers { OnOk result (marks_of self.new ≡ marks_of self.old ++ numbered label.now first (end - first)) }
         ensures hosts { All (IsHost F.post) self.old → All (IsHost F.post) self.new }
     {

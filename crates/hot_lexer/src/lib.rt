@@ -24,6 +24,3 @@ pub use lexer::lex;
 pub use module_semantics::{LexFault, LexKind};
 pub use punct::Punct;
 pub use token::{Token, TokenKind};
-
-#[cfg(test)]
-mod tests;

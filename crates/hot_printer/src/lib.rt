@@ -17,6 +17,3 @@ mod statement;
 mod text;
 
 pub use module::print;
-
-#[cfg(test)]
-mod tests;

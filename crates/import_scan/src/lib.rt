@@ -18,6 +18,3 @@ pub use analysis::analyse;
 pub use link::{Link, links};
 pub use module_semantics::ScanFault;
 pub use transformed::{Transformed, transform};
-
-#[cfg(test)]
-mod tests;

@@ -87,14 +87,6 @@ take_last xs i d h = subst (λ l. Contains l (get_or xs i d)) (sym (take_more xs
 take_cases : {X : Type 0} (xs : List X) (i : ℕ) (d m : X) → i < length xs → Contains (take (i + 1) xs) m → Contains (take i xs) m ⊎ (get_or xs i d ≡ m)
 take_cases xs i d m h c = Contains-push_cases (take i xs) (get_or xs i d) m (subst (λ l. Contains l m) (take_more xs i d h) c)
 
--- a name further, all that were met so far are listed
-pub among_more : (listed names : List Name) (i : ℕ) (x : Name) → i < length names → x ≡ get_or names i x → ((n : Name) → Contains (take i names) n → has listed n ≡ true) → has listed x ≡ true → (n : Name) → Contains (take (i + 1) names) n → has listed n ≡ true
-among_more listed names i x h is f t n c = either (take_cases names i x n h c)
-  where
-    either : Contains (take i names) n ⊎ (get_or names i x ≡ n) → has listed n ≡ true
-    either (inl k) = f n k
-    either (inr e) = subst (λ m. has listed m ≡ true) (is ∙ e) t
-
 pub extends_kept : (old : List Trail) (path next before : List Name) (cur : List Trail) (i : ℕ) (d : Name) → i < length next → Extended old path (take i next) before cur → has before (get_or next i d) ≡ true → Extended old path (take (i + 1) next) before cur
 extends_kept old path next before cur i d h s known = record {
   kept = s.kept;

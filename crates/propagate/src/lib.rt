@@ -16,6 +16,3 @@ mod trails;
 
 pub use outcome::{Reason, Spread};
 pub use spreading::spread;
-
-#[cfg(test)]
-mod tests;

@@ -8,6 +8,3 @@
 mod pruning;
 
 pub use pruning::unreached;
-
-#[cfg(test)]
-mod tests;

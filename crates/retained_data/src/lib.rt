@@ -9,8 +9,6 @@
 mod bag;
 mod bags;
 mod entries;
-#[cfg(test)]
-mod tests;
 
 pub use bag::{Bag, BagFault};
 pub use bags::Bags;

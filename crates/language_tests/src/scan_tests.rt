@@ -1,9 +1,9 @@
 // Worked rows from outside of the definitions, and what no clause says: that the calls succeed with
 // ample memory. Items are written as words: `i:SPEC` imports, `a:SPEC,SPEC` accepts, `e:NAME` exports,
 // `h:NAME` declares without an export. An analysis is written in the same words.
-use super::*;
 use hmr_types::limits::TEXT_BYTES;
 use hmr_types::{Analysis, Expr, Item, ModName, Module, Name, Outcome, Sequence, SpecFault, Text};
+use import_scan::{ScanFault, analyse, links, transform};
 use std::alloc::{AllocError, Global};
 use std::test::Fail;
 

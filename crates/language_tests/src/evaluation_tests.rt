@@ -1,8 +1,7 @@
 // What no clause says: that evaluations succeed with ample memory, over the worked expressions, each
 // fault in a module and in a handler, imports without a value, and a row as long as a text allows.
 // Expressions are written with their operators last: `2 3 4 * -` is `2 - 3 * 4`.
-use super::*;
-use crate::values::put_value;
+use const_eval::{Evaluated, eval_module, run_body};
 use hmr_types::{
     EvalFault, Expr, HandlerCode, Item, Kind, Module, Name, Once, Op, Sequence, Slot, Stmt, Text,
     Value,
@@ -114,6 +113,14 @@ fn word(fault: &EvalFault) -> &'static str {
     }
 }
 
+fn put_value(alloc: Global, out: &mut String, value: &Value) -> Result<(), AllocError> {
+    match value {
+        Value::Num(n) => out.push_str(&format!(in alloc; "{n}")?),
+        Value::Str(text) => out.push_str(text.as_str()),
+        Value::Undef => out.push_str("undefined"),
+    }
+}
+
 /// The fault's word or what the last variable holds, then the lines.
 fn told(
     alloc: Global,
@@ -124,7 +131,7 @@ fn told(
     let mut out = String::new(alloc);
     match (fault, vars) {
         (Some(fault), _) => out.push_str(word(fault))?,
-        (None, [.., (_, Slot::Val(value))]) => put_value(&mut out, value)?,
+        (None, [.., (_, Slot::Val(value))]) => put_value(alloc, &mut out, value)?,
         _ => out.push_str("unset")?,
     }
     for line in lines {

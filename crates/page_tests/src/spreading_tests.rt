@@ -3,9 +3,9 @@
 ghost use Rattle.std.specs.Prelude.{◌≡◌, IsTrue, Contains, true};
 ghost use Rattle.core_model.specs.Names.{Name, has};
 
-use super::*;
 use hmr_types::{Analysis, ModName, Sequence};
 use module_graph::{View, has_name};
+use propagate::{Reason, Spread, spread};
 use std::alloc::{AllocError, Global};
 use std::slice;
 use std::test::Fail;

@@ -6,8 +6,10 @@ ghost use Rattle.handler_table.specs.Handler.{KeepsItsWord};
 ghost use Rattle.handler_table.specs.Handlers.{KeepTheirWord};
 ghost use Rattle.handler_table.specs.Held.{IsHost};
 
-use super::*;
 use const_eval::Ran;
+use handler_table::{
+    Handler, Handlers, Held, Shelf, host_run, shelves_keep_their_word, tables_keep_their_word,
+};
 use hmr_types::{Expr, HandlerCode, ModName, Name, Sequence, Stmt, Text, Value};
 use module_semantics::{Env, ModParam};
 use retained_data::Bag;

@@ -1,7 +1,7 @@
 // A worked page: two modules that import each other, and a root that imports neither.
-use super::*;
 use hmr_types::{Analysis, ModName, Sequence};
 use module_graph::View;
+use prune_list::unreached;
 use std::alloc::{AllocError, Global};
 use std::test::Fail;
 

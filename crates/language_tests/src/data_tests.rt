@@ -1,7 +1,7 @@
 // What no clause says: that `set` succeeds with ample memory, up to the 64th key, and that bags go out and
 // come back.
-use super::*;
 use hmr_types::{ModName, Name, Value};
+use retained_data::{Bag, BagFault, Bags};
 use std::alloc::{AllocError, Global};
 use std::test::Fail;
 

@@ -1,6 +1,6 @@
 // What no clause says: that the calls succeed with ample memory. The worked row is that of two faults
 // of one module, which are told as one.
-use super::*;
+use client_queue::ClientQueue;
 use hmr_types::{FaultWord, ModName, NameFault, TextFault};
 use std::alloc::Global;
 use std::test::Fail;

@@ -1,6 +1,6 @@
 // What no clause says: that texts are lexed with ample memory, and what the definitions make of each
 // kind of token, of each fault and of the limit.
-use super::*;
+use hot_lexer::{LexFault, LexKind, Punct, Token, TokenKind, lex};
 use std::alloc::{AllocError, Global};
 use std::test::Fail;
 
