@@ -4,3 +4,4 @@ pub mod Leaving
 pub mod Texts
 pub mod Reading
 pub mod Keeping
+pub mod Specifiers

@@ -1,2 +1,3 @@
 pub mod ModuleLanguage
 pub mod Examples
+pub mod Meaning

@@ -2,6 +2,7 @@
 // text, name and bag.
 ghost use Rattle.std.specs.Prelude.{◌≡◌, ℕ, true, List, [], Option, Ok, Err, flat_map};
 ghost use Rattle.hmr_types.specs.Syntax.{HandlerTree, ModuleTree};
+ghost use Rattle.hmr_types.specs.declared.analysis.Analysis.{Analysis};
 ghost use Rattle.hmr_types.specs.declared.analysis.TextFault.{TextFault};
 ghost use Rattle.core_model.specs.declared.message.ServerMsg.{ServerMsg};
 ghost use Rattle.core_model.specs.Names.{Name};
@@ -12,7 +13,10 @@ ghost use Rattle.client_model.specs.Taking.{runtime_after};
 ghost use Rattle.module_semantics.specs.Entries.{is_bag, names_of};
 ghost use Rattle.module_semantics.specs.ModuleText.{parsing};
 ghost use Rattle.module_semantics.specs.Modules.{declared_names};
+ghost use Rattle.module_language.specs.Meaning.{ItemsMean};
 ghost use Rattle.module_language.specs.ModuleLanguage.{module_language, linked_by};
+
+use hmr_types::Outcome;
 
 /// Each binding of a module's text is from one of the module's imports.
 pub fn module_texts_bind_their_imports()
@@ -24,6 +28,12 @@ pub fn module_texts_bind_their_imports()
 pub fn links_are_the_texts_imports()
     ensures module { (n : Name) (t : Text) (m : ModuleTree) → parsing t ≡ Ok m → links_of module_language n t ≡ flat_map (linked_by n) m }
     ensures none { (n : Name) (t : Text) (fault : TextFault) → parsing t ≡ Err fault → links_of module_language n t ≡ [] }
+{}
+
+/// Where a text has a good outcome, each specifier of it means a module; so the modules that a callback lists
+/// stand in the places of its specifiers.
+pub fn specifiers_of_good_texts_mean_modules()
+    ensures { (n : Name) (t : Text) (m : ModuleTree) (a : Analysis) → parsing t ≡ Ok m → module_language.transformed n t ≡ Outcome.Good a → ItemsMean n m }
 {}
 
 /// A bag of at most 64 different keys is left as one: by evaluations, by callbacks and by closures of
