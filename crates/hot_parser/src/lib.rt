@@ -19,6 +19,3 @@ mod within;
 pub use hot_printer::print;
 pub use parsing::parse;
 pub use syntax_fault::{SyntaxFault, SyntaxKind};
-
-#[cfg(test)]
-mod tests;

@@ -1,5 +1,5 @@
 // Worked rows from outside of the definitions: how many items a text has, or where and how it leaves
-// the grammar. The parser's own rows say more of faults.
+// the grammar. The rows of `parser_tests` say more of faults.
 use hot_parser::parse;
 use std::alloc::{AllocError, Global};
 use std::test::Fail;

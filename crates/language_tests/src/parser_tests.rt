@@ -1,7 +1,7 @@
 // Worked rows from outside of the definitions, and what no clause says: that texts are parsed and
 // printed with ample memory.
-use super::*;
 use hot_lexer::LexKind;
+use hot_parser::{SyntaxKind, parse, print};
 use std::alloc::{AllocError, Global};
 use std::test::Fail;
 
