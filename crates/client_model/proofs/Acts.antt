@@ -1,7 +1,7 @@
 -- What holds of each thing that a client does, where it does it, holds of what it does with a plan: every
 -- way through the end of old instances, the making of new ones, callbacks and prunes is gone once, here.
 use Rattle.std.proofs.Common.{ℕ, Bool, true, false, List, [], ◌∷◌, ◌≡◌, refl}
-use Rattle.std.specs.Prelude.{Option, Some, None, if◌then◌else◌, slice_get, ⊤}
+use Rattle.std.specs.Prelude.{Option, Some, None, if◌then◌else◌, slice_get}
 use Rattle.hmr_types.specs.declared.words.PlanKind.{PlanKind}
 use Rattle.hmr_types.specs.declared.words.PlanKind.TheVariants.{Load, Reload, Update}
 use Rattle.hmr_types.specs.declared.words.FaultPlace.{FaultPlace}
@@ -14,7 +14,7 @@ use Rattle.core_model.specs.Page.{Plan}
 use Rattle.client_model.specs.Language.{Language, Slots, Ran}
 use Rattle.client_model.specs.Instance.{Instance, Handler, numbered, places_of, live_at, is_held, disposes, prunes, accepts_own, accepts_dep}
 use Rattle.client_model.specs.Runtime.{Runtime, Did, nothing, and_then, for_each, write, bag_of}
-use Rattle.client_model.specs.Running.{scope_of, run_deed, no_arguments, did_run, run_handler, run_of, run_each, drop_each, end_instance, give_up_bag}
+use Rattle.client_model.specs.Running.{scope_of, run_deed, no_arguments, did_run, run_handler, run_of, run_each, drop_each, end_instance, give_up_bag, TakesNothing}
 use Rattle.client_model.specs.Making.{Birth, make, make_unrun, make_run, has_failed_link}
 use Rattle.client_model.specs.Applying.{is_left_behind, fate_by, itself_in, listed_in, reload_instance, reload_all, give_up_all_bags, live_of, replace_instance, replaced_instances, end_old, births, run_own, run_dep, tell_boundary, tell_all, set_aside, drop_set_aside, prune_instance}
 use Rattle.client_model.specs.Linking.{new_names, number_after, number_in}
@@ -27,14 +27,6 @@ did_if Q false did other f g = g
 -- a new instance isn't run, or it is
 pub by_make : (Q : Did → Type 0) (language : Language) (b : Birth) (r : Runtime) → Q (make_unrun b r) → Q (make_run language b r) → Q (make language b r)
 by_make Q language b r unrun run = did_if Q (has_failed_link r.instances b.links) (make_unrun b r) (make_run language b r) unrun run
-
--- a disposer and a prune handler get no argument
-abbrev pub GetsNone : FaultPlace → List (Option Slots) → Type 0
-GetsNone place.Module arguments = ⊤
-GetsNone place.Dispose arguments = arguments ≡ []
-GetsNone place.Prune arguments = arguments ≡ []
-GetsNone place.Own arguments = ⊤
-GetsNone place.Dep arguments = ⊤
 
 -- a plan is applied, up to the moment at which the page is the plan's
 abbrev pub before_finish : Language → Plan → Runtime → Did
@@ -49,7 +41,7 @@ before_finish language p r =
 pub record IsHandled (language : Language) (P : Runtime → Did → Type 0) : Type 0 where
   pub nothing : (r : Runtime) → P r (r, [])
   pub after : (r : Runtime) (did : Did) (next : Runtime → Did) → P r did → P did.0 (next did.0) → P r (and_then did next)
-  pub run : (spent_at : FaultPlace) (k : ℕ) (i : Instance) (spot : ℕ) (h : Handler) (arguments : List (Option Slots)) (r : Runtime) → numbered r.instances k ≡ Some i → slice_get i.handlers spot ≡ Some h → GetsNone spent_at arguments
+  pub run : (spent_at : FaultPlace) (k : ℕ) (i : Instance) (spot : ℕ) (h : Handler) (arguments : List (Option Slots)) (r : Runtime) → numbered r.instances k ≡ Some i → slice_get i.handlers spot ≡ Some h → TakesNothing spent_at arguments
       → P r (did_run spent_at i spot h (run_deed language h.deed (scope_of language r i) arguments (bag_of r i.name)) r)
   pub drop : (test : Handler → Bool) (k : ℕ) (r : Runtime) → P r (drop_each test k r)
   pub wrote : (l : OutLine) (r : Runtime) → P r (write l r)
@@ -59,7 +51,7 @@ module _ (language : Language) (P : Runtime → Did → Type 0) (k : IsHandled l
   handled_each act f [] r = k.nothing r
   handled_each act f (x ∷ xs) r = k.after r (act x r) (for_each act xs) (f x r) (handled_each act f xs (act x r).0)
 
-  module _ (spent_at : FaultPlace) (arguments : Runtime → Handler → List (Option Slots)) (takes : (s : Runtime) (h : Handler) → GetsNone spent_at (arguments s h)) where
+  module _ (spent_at : FaultPlace) (arguments : Runtime → Handler → List (Option Slots)) (takes : (s : Runtime) (h : Handler) → TakesNothing spent_at (arguments s h)) where
     handled_handler : (number : ℕ) (i : Instance) (spot : ℕ) (r : Runtime) → numbered r.instances number ≡ Some i → (h : Option Handler) → slice_get i.handlers spot ≡ h → P r (run_handler language spent_at arguments i spot h r)
     handled_handler number i spot r e None g = k.nothing r
     handled_handler number i spot r e (Some h) g = k.run spent_at number i spot h (arguments r h) r e g (takes r h)

@@ -1,11 +1,12 @@
 -- Handlers leave an instance: they are run, or dropped. An instance ends.
-use Rattle.std.specs.Prelude.{ℕ, Bool, List, [], ◌∷◌, ◌++◌, map, fold, slice_get, Option, Some, None, if◌then◌else◌}
+use Rattle.std.specs.Prelude.{◌≡◌, ℕ, Bool, List, [], ◌∷◌, ◌++◌, map, fold, slice_get, Option, Some, None, if◌then◌else◌, ⊤}
 use Rattle.hmr_types.specs.declared.value.Value.{Value}
 use Rattle.hmr_types.specs.declared.value.Slot.{Slot}
 use Rattle.hmr_types.specs.declared.value.Slot.TheVariants.{Unset, Val}
 use Rattle.hmr_types.specs.declared.words.Kind.{Kind}
 use Rattle.hmr_types.specs.declared.words.Kind.TheVariants as kind
 use Rattle.hmr_types.specs.declared.words.FaultPlace.{FaultPlace}
+use Rattle.hmr_types.specs.declared.words.FaultPlace.TheVariants as place
 use Rattle.hmr_types.specs.declared.words.HandlerEnd.{HandlerEnd}
 use Rattle.hmr_types.specs.declared.words.HandlerEnd.TheVariants.{Held, Spent}
 use Rattle.hmr_types.specs.declared.words.InstanceFate.{InstanceFate}
@@ -112,3 +113,11 @@ end_instance fate k n r = (record r { instances = with_change k (λ i. record i 
 -- the bag of a name is given up
 abbrev pub give_up_bag : Name → Runtime → Did
 give_up_bag n r = (record r { bags = without n r.bags }, gave_up n ∷ [])
+
+-- a disposer and a prune handler get no modules as arguments
+abbrev pub TakesNothing : FaultPlace → List (Option Slots) → Type 0
+TakesNothing place.Module arguments = ⊤
+TakesNothing place.Dispose arguments = arguments ≡ []
+TakesNothing place.Prune arguments = arguments ≡ []
+TakesNothing place.Own arguments = ⊤
+TakesNothing place.Dep arguments = ⊤

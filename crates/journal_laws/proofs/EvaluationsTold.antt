@@ -13,12 +13,12 @@ use Rattle.client_model.specs.Language.{Language, Slots, Bag, Ran, Evaluated}
 use Rattle.client_model.specs.Instance.{Instance, Handler, Deed, numbered, with_dropped, places_of}
 use Rattle.client_model.specs.Journal.{Journal, made, evaluated, not_run, ran}
 use Rattle.client_model.specs.Runtime.{Runtime, Did, and_then, bag_of}
-use Rattle.client_model.specs.Running.{assigned, imported_slots, end_after, after_run, scope_of, run_deed, did_run, drop_each, end_instance}
+use Rattle.client_model.specs.Running.{assigned, imported_slots, end_after, after_run, scope_of, run_deed, did_run, drop_each, end_instance, TakesNothing}
 use Rattle.client_model.specs.Making.{Registry, Birth, born, register_in, status_after, is_failed, has_failed_link, make_unrun, make_run, evaluate, make}
 use Rattle.client_model.specs.Taking.{take, runtime_after, journal_of}
 use Rattle.world_laws.proofs.Members.{head_in}
 use Rattle.world_laws.proofs.Frames.{found_in}
-use Rattle.journal_laws.specs.Values.{values_left, imports_left, TakesNothing, IsEvaluationOf, IsUnrun, IsRunOf}
+use Rattle.journal_laws.specs.Values.{values_left, imports_left, IsEvaluationOf, IsUnrun, IsRunOf}
 use Rattle.journal_laws.proofs.ValuesWalk.{IsStepped}
 use Rattle.journal_laws.proofs.ValuesRegistry.{IsJoined, drops_join, registry_joins}
 use Rattle.journal_laws.proofs.ValuesTaking.{steps_take}

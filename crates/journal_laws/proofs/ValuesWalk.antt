@@ -6,7 +6,6 @@ use Rattle.std.specs.Prelude.{cond, slice_get, ◌==◌, Option, Some, None}
 use Rattle.std.proofs.Math.Path.{subst}
 use Rattle.std.proofs.lemmas.List.{length-map}
 use Rattle.hmr_types.specs.declared.words.FaultPlace.{FaultPlace}
-use Rattle.hmr_types.specs.declared.words.FaultPlace.TheVariants as place
 use Rattle.hmr_types.specs.declared.words.InstanceFate.{InstanceFate}
 use Rattle.hmr_types.specs.declared.out_line.OutLine.{OutLine}
 use Rattle.core_model.specs.Names.{Name, has}
@@ -14,14 +13,13 @@ use Rattle.core_model.specs.Page.{Plan}
 use Rattle.client_model.specs.Language.{Language, Slots}
 use Rattle.client_model.specs.Instance.{Instance, Handler, numbered}
 use Rattle.client_model.specs.Runtime.{Runtime, Did, and_then, for_each, write, bag_of}
-use Rattle.client_model.specs.Running.{scope_of, run_deed, did_run, drop_each, end_instance, give_up_bag}
+use Rattle.client_model.specs.Running.{scope_of, run_deed, did_run, drop_each, end_instance, give_up_bag, TakesNothing}
 use Rattle.client_model.specs.Making.{Birth, make}
 use Rattle.client_model.specs.Applying.{give_up_all_bags, live_of, end_old, births, prune_instance}
 use Rattle.client_model.specs.Linking.{new_names}
-use Rattle.client_model.proofs.Acts.{GetsNone, IsWalked, before_finish, walked_applying, walked_pruning, by_make}
+use Rattle.client_model.proofs.Acts.{IsWalked, before_finish, walked_applying, walked_pruning, by_make}
 use Rattle.world_laws.proofs.Frames.{Frame, frame, frames, Numbered, cut, cut_length, cut_numbered, ended_by, apart}
 use Rattle.world_laws.proofs.Ending.{ended_names, ends_old}
-use Rattle.journal_laws.specs.Values.{TakesNothing}
 use Rattle.journal_laws.proofs.Numbers.{none_beyond, Rising, births_rise}
 
 -- P holds of what changes neither instances nor bags, of one thing after another, and of each single thing
@@ -58,20 +56,13 @@ old_below language p r d k l =
     none_beyond after k (subst Numbered (sym cut_is) (cut_numbered ends (frames r.instances) d))
     (omega (arith, l, length-map after frame, ap (λ (fs : List Frame). length fs) cut_is, cut_length ends (frames r.instances), length-map r.instances frame))
 
-gets_none : (spent_at : FaultPlace) (arguments : List (Option Slots)) → GetsNone spent_at arguments → TakesNothing spent_at arguments
-gets_none place.Module arguments none = tt
-gets_none place.Dispose arguments none = none
-gets_none place.Prune arguments none = none
-gets_none place.Own arguments none = tt
-gets_none place.Dep arguments none = tt
-
 module _ (language : Language) (P : Runtime → Did → Type 0) (k : IsStepped language P) where
   walk : IsWalked language P
   walk = record {
     handled = record {
       nothing = λ r. k.quiet r r refl refl;
       after = k.after;
-      run = λ spent_at number i spot h arguments r e g none. k.run spent_at number i spot h arguments r e g (gets_none spent_at arguments none);
+      run = λ spent_at number i spot h arguments r e g none. k.run spent_at number i spot h arguments r e g none;
       drop = k.drop;
       wrote = k.wrote;
     };

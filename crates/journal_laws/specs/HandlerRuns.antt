@@ -1,17 +1,8 @@
--- Steps that bring a client to an accepted update, and to a prune, and what its journal tells then.
+-- Steps that bring a client to an accepted update, and to a prune.
 use Rattle.std.specs.Prelude.{List, [], ◌∷◌, Some}
-use Rattle.client_model.specs.Journal.{Journal}
-use Rattle.client_model.specs.Taking.{journal_of}
 use Rattle.world_model.specs.World.{Step, edits, settles, opens, turn}
-use Rattle.world_model.specs.Turning.{shelf_of}
-use Rattle.world_model.specs.Playing.{Stage}
 use Rattle.world_model.specs.SmallPages.{m, x}
 use Rattle.world_model.specs.HandlerScripts.{with_x, without_x, seeing_x, hosting_1, hosting_2}
-use Rattle.world_laws.specs.Taken.{messages_of}
-
--- all that happened in the first client, after these steps
-abbrev pub first_journal : Stage → List Step → Journal
-first_journal stage past = journal_of stage.language (shelf_of stage.shelves 1) (messages_of stage.language stage.roots stage.shelves past 1)
 
 -- a module that registers two disposers and a prune handler is loaded, and then replaced; the newest first
 abbrev pub replacing : List Step

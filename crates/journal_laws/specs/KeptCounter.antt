@@ -6,15 +6,14 @@ use Rattle.hmr_types.specs.declared.words.InstanceFate.{InstanceFate}
 use Rattle.core_model.specs.Names.{Name}
 use Rattle.core_model.specs.Sources.{Text}
 use Rattle.client_model.specs.Language.{Bag}
-use Rattle.client_model.specs.Journal.{Happening, Journal, made, evaluated, not_run, registered, no_host, ran, dropped, ended, gave_up, gave_up_all, told}
-use Rattle.client_model.specs.Taking.{journal_of}
+use Rattle.client_model.specs.Journal.{Happening, made, evaluated, not_run, registered, no_host, ran, dropped, ended, gave_up, gave_up_all, told}
 use Rattle.world_model.specs.World.{Step, edits, settles, opens}
 use Rattle.world_model.specs.Playing.{Stage}
 use Rattle.world_model.specs.SmallLanguage.{Module}
 use Rattle.world_model.specs.SmallPages.{m, c, importing, exporting, accepting, self_accepting, module_of, page_of, callback}
 use Rattle.world_model.specs.UpdateScripts.{count, kept_count_plus}
 use Rattle.world_laws.specs.Quiet.{turns}
-use Rattle.world_laws.specs.Taken.{messages_of}
+use Rattle.journal_laws.specs.FirstClient.{journal_in}
 
 -- an evaluation's number, its name and the bag that it starts with
 abbrev pub start_of : Happening → List (ℕ × Name × Bag)
@@ -85,14 +84,10 @@ pruned = turns 1 4 (settles m 4 ∷ edits m (Some without_counter) ∷ replaced)
 abbrev pub imported_again : List Step
 imported_again = turns 1 4 (settles m 5 ∷ edits m (Some with_counter) ∷ pruned)
 
--- all that happened in the client
-abbrev pub kept_journal : List Step → Journal
-kept_journal past = journal_of keeping.language [] (messages_of keeping.language keeping.roots keeping.shelves past 1)
-
 -- with which bags its instances started
 abbrev pub starts_after : List Step → List (ℕ × Name × Bag)
-starts_after past = flat_map start_of (kept_journal past)
+starts_after past = flat_map start_of (journal_in keeping past)
 
 -- how they ended
 abbrev pub ends_after : List Step → List (ℕ × Name × InstanceFate)
-ends_after past = flat_map end_of (kept_journal past)
+ends_after past = flat_map end_of (journal_in keeping past)

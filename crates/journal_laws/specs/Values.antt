@@ -4,7 +4,6 @@ use Rattle.std.specs.List.{list_any}
 use Rattle.hmr_types.specs.declared.value.Slot.{Slot}
 use Rattle.hmr_types.specs.declared.value.Slot.TheVariants.{Unset}
 use Rattle.hmr_types.specs.declared.words.FaultPlace.{FaultPlace}
-use Rattle.hmr_types.specs.declared.words.FaultPlace.TheVariants as place
 use Rattle.hmr_types.specs.declared.words.InstanceStatus.{InstanceStatus}
 use Rattle.hmr_types.specs.declared.words.InstanceStatus.TheVariants.{Done, Faulted, Unrun}
 use Rattle.core_model.specs.Names.{Name, at}
@@ -12,7 +11,7 @@ use Rattle.client_model.specs.Language.{Language, Slots, Bag, Evaluated, Ran, sl
 use Rattle.client_model.specs.Instance.{Instance, Handler}
 use Rattle.client_model.specs.Journal.{Happening, Journal, made, evaluated, not_run, registered, no_host, ran, dropped, ended, gave_up, gave_up_all, told, bag_left}
 use Rattle.client_model.specs.Runtime.{Runtime}
-use Rattle.client_model.specs.Running.{assigned, run_deed}
+use Rattle.client_model.specs.Running.{assigned, run_deed, TakesNothing}
 use Rattle.client_model.specs.Making.{status_after}
 
 -- The variables of instance k after one thing more happened: its evaluation makes them, and the runs of
@@ -117,14 +116,6 @@ evaluations_by Unrun = 0
 -- each instance was evaluated once, unless it wasn't run
 abbrev pub AreEvaluatedOnce : Runtime → Journal → Type 0
 AreEvaluatedOnce r journal = (i : Instance) → Contains r.instances i → length (filter (is_evaluation_of i.number) journal) ≡ evaluations_by i.status
-
--- a disposer and a prune handler get no modules as arguments
-abbrev pub TakesNothing : FaultPlace → List (Option Slots) → Type 0
-TakesNothing place.Module arguments = Unit {0}
-TakesNothing place.Dispose arguments = arguments ≡ []
-TakesNothing place.Prune arguments = arguments ≡ []
-TakesNothing place.Own arguments = Unit {0}
-TakesNothing place.Dep arguments = Unit {0}
 
 -- A run of the handler at a place of instance k after all this: of its code over the instance's own
 -- variables and what its links hold, with the modules that it is told of, and over its name's bag; or of

@@ -2,35 +2,18 @@
 use Rattle.std.specs.Prelude.{ℕ, pos, List, [], ◌∷◌, length, map, filter, reverse, option_map, Option, Some}
 use Rattle.hmr_types.specs.declared.value.Value.TheVariants.{Num}
 use Rattle.hmr_types.specs.declared.value.Slot.TheVariants.{Val}
-use Rattle.core_model.specs.declared.message.ServerMsg.{ServerMsg}
 use Rattle.core_model.specs.Names.{Name}
 use Rattle.client_model.specs.Language.{Slots}
 use Rattle.client_model.specs.Instance.{numbered}
-use Rattle.client_model.specs.Journal.{Journal}
-use Rattle.client_model.specs.Runtime.{Runtime}
-use Rattle.client_model.specs.Taking.{runtime_after, journal_of}
 use Rattle.world_model.specs.World.{Step, edits, settles, opens, turn}
 use Rattle.world_model.specs.Playing.{Stage}
-use Rattle.world_model.specs.Turning.{shelf_of}
 use Rattle.world_model.specs.Steps.{world_after}
 use Rattle.world_model.specs.SmallPages.{m, x}
 use Rattle.world_model.specs.HandlerScripts.{faulting_m, faulting_x}
-use Rattle.world_laws.specs.Taken.{messages_of}
 use Rattle.world_laws.specs.CounterTurns.{loading, updating}
+use Rattle.journal_laws.specs.FirstClient.{client_of, journal_in}
 use Rattle.journal_laws.specs.Values.{values_left, imports_left, is_evaluation_of}
 use Rattle.journal_laws.specs.FreshValues.{Valued, fresh_values}
-
--- what the first client of a page took
-abbrev pub taken_by : Stage → List Step → List ServerMsg
-taken_by stage past = messages_of stage.language stage.roots stage.shelves past 1
-
--- the client
-abbrev pub client_of : Stage → List Step → Runtime
-client_of stage past = runtime_after stage.language (shelf_of stage.shelves 1) (taken_by stage past)
-
--- all that happened in it
-abbrev pub journal_in : Stage → List Step → Journal
-journal_in stage past = journal_of stage.language (shelf_of stage.shelves 1) (taken_by stage past)
 
 -- what the journal left of the instances of these numbers
 abbrev pub values_in : Stage → List Step → List ℕ → List Slots
