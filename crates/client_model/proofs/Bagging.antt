@@ -2,12 +2,12 @@
 use Rattle.std.proofs.Common.{◌≡◌, ℕ, Bool, true, false, List, [], ◌∷◌, ◌++◌, refl, ap, sym, ◌∙◌}
 use Rattle.std.specs.Prelude.{fold, map, Option, Some, None, if◌then◌else◌}
 use Rattle.std.proofs.lemmas.List.Sums.{fold-append}
-use Rattle.hmr_types.specs.Syntax as syntax
-use Rattle.hmr_types.specs.Syntax.{OnceTree}
-use Rattle.hmr_types.specs.declared.words.FaultPlace.{FaultPlace}
-use Rattle.hmr_types.specs.declared.words.FaultPlace.TheVariants as place
-use Rattle.hmr_types.specs.declared.words.InstanceFate.{InstanceFate}
-use Rattle.core_model.specs.declared.message.ServerMsg.{ServerMsg}
+use Rattle.module_tree.specs.Syntax as syntax
+use Rattle.module_tree.specs.Syntax.{OnceTree}
+use Rattle.output_lines.specs.declared.words.FaultPlace.{FaultPlace}
+use Rattle.output_lines.specs.declared.words.FaultPlace.TheVariants as place
+use Rattle.output_lines.specs.declared.words.InstanceFate.{InstanceFate}
+use Rattle.update_msgs.specs.declared.message.ServerMsg.{ServerMsg}
 use Rattle.core_model.specs.Names.{Name, same_name, has, at, with_row}
 use Rattle.core_model.specs.Sources.{Text}
 use Rattle.core_model.specs.Page.{Plan}

@@ -4,15 +4,15 @@ use Rattle.hmr_types.specs.declared.analysis.Outcome.{Outcome}
 use Rattle.hmr_types.specs.declared.analysis.Outcome.TheVariants.{Good, Bad}
 use Rattle.hmr_types.specs.declared.words.PlanKind.{PlanKind}
 use Rattle.hmr_types.specs.declared.words.PlanKind.TheVariants.{Load, Reload, Update}
-use Rattle.hmr_types.specs.declared.words.AbortWord.{AbortWord}
-use Rattle.hmr_types.specs.declared.words.AbortWord.TheVariants as outcome
-use Rattle.hmr_types.specs.declared.out_line.OutLine.{OutLine}
-use Rattle.hmr_types.specs.declared.out_line.OutLine.TheVariants as line
-use Rattle.core_model.specs.declared.message.ClientMsg.{ClientMsg}
-use Rattle.core_model.specs.declared.message.ClientMsg.TheVariants as request_is
-use Rattle.core_model.specs.declared.message.ServerMsg.{ServerMsg}
-use Rattle.core_model.specs.declared.message.ServerMsg.TheVariants as msg
-use Rattle.core_model.specs.declared.message.JsUpdate.{JsUpdate}
+use Rattle.output_lines.specs.declared.words.AbortWord.{AbortWord}
+use Rattle.output_lines.specs.declared.words.AbortWord.TheVariants as outcome
+use Rattle.output_lines.specs.declared.out_line.OutLine.{OutLine}
+use Rattle.output_lines.specs.declared.out_line.OutLine.TheVariants as line
+use Rattle.update_msgs.specs.declared.message.ClientMsg.{ClientMsg}
+use Rattle.update_msgs.specs.declared.message.ClientMsg.TheVariants as request_is
+use Rattle.update_msgs.specs.declared.message.ServerMsg.{ServerMsg}
+use Rattle.update_msgs.specs.declared.message.ServerMsg.TheVariants as msg
+use Rattle.update_msgs.specs.declared.message.JsUpdate.{JsUpdate}
 use Rattle.core_model.specs.Names.{Name, sorted, with_row}
 use Rattle.core_model.specs.Sources.{Text}
 use Rattle.core_model.specs.Page.{Plan, begun, staged, given_up, forced_too}

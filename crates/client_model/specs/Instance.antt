@@ -1,14 +1,14 @@
 -- Instances of modules, and their handlers.
 use Rattle.std.specs.Prelude.{ℕ, zero, suc, ◌==◌, Bool, true, false, ◌&&◌, List, [], ◌∷◌, map, Option, Some, None, find, if◌then◌else◌}
-use Rattle.hmr_types.specs.Syntax.{HandlerTree}
-use Rattle.hmr_types.specs.declared.words.Kind.{Kind}
-use Rattle.hmr_types.specs.declared.words.Kind.TheVariants as kind
-use Rattle.hmr_types.specs.declared.words.HandlerEnd.{HandlerEnd}
-use Rattle.hmr_types.specs.declared.words.HandlerEnd.TheVariants.{Held, Spent, Dropped}
-use Rattle.hmr_types.specs.declared.words.InstanceStatus.{InstanceStatus}
-use Rattle.hmr_types.specs.declared.words.InstanceStatus.TheVariants.{Done, Faulted, Unrun}
-use Rattle.hmr_types.specs.declared.words.InstanceFate.{InstanceFate}
-use Rattle.hmr_types.specs.declared.words.InstanceFate.TheVariants.{Live, Replaced, Pruned, Reloaded}
+use Rattle.module_tree.specs.Syntax.{HandlerTree}
+use Rattle.hmr_types.specs.declared.words.HandlerKind.{HandlerKind}
+use Rattle.hmr_types.specs.declared.words.HandlerKind.TheVariants as kind
+use Rattle.output_lines.specs.declared.words.HandlerEnd.{HandlerEnd}
+use Rattle.output_lines.specs.declared.words.HandlerEnd.TheVariants.{Held, Spent, Dropped}
+use Rattle.output_lines.specs.declared.words.InstanceStatus.{InstanceStatus}
+use Rattle.output_lines.specs.declared.words.InstanceStatus.TheVariants.{Done, Faulted, Unrun}
+use Rattle.output_lines.specs.declared.words.InstanceFate.{InstanceFate}
+use Rattle.output_lines.specs.declared.words.InstanceFate.TheVariants.{Live, Replaced, Pruned, Reloaded}
 use Rattle.core_model.specs.Names.{Name, has, same_name}
 use Rattle.core_model.specs.Sources.{Text}
 use Rattle.client_model.specs.Language.{Slots}
@@ -20,7 +20,7 @@ pub data Deed : Type 0 where
 
 -- a handler of an instance; deps are the modules that a dependency callback lists
 pub record Handler : Type 0 where
-  pub kind : Kind
+  pub kind : HandlerKind
   pub deps : List Name
   pub deed : Deed
   pub end : HandlerEnd
@@ -82,28 +82,28 @@ abbrev pub is_held : Handler → Bool
 is_held h = is_held_end h.end
 
 -- a disposer
-abbrev pub is_dispose : Kind → Bool
+abbrev pub is_dispose : HandlerKind → Bool
 is_dispose kind.Dispose = true
 is_dispose kind.Prune = false
 is_dispose kind.Own = false
 is_dispose kind.Dep = false
 
 -- a prune handler
-abbrev pub is_prune : Kind → Bool
+abbrev pub is_prune : HandlerKind → Bool
 is_prune kind.Dispose = false
 is_prune kind.Prune = true
 is_prune kind.Own = false
 is_prune kind.Dep = false
 
 -- a callback of a module on itself
-abbrev pub is_own : Kind → Bool
+abbrev pub is_own : HandlerKind → Bool
 is_own kind.Dispose = false
 is_own kind.Prune = false
 is_own kind.Own = true
 is_own kind.Dep = false
 
 -- a callback on dependencies
-abbrev pub is_dep : Kind → Bool
+abbrev pub is_dep : HandlerKind → Bool
 is_dep kind.Dispose = false
 is_dep kind.Prune = false
 is_dep kind.Own = false

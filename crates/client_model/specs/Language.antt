@@ -9,8 +9,8 @@ use Rattle.hmr_types.specs.declared.value.Value.{Value}
 use Rattle.hmr_types.specs.declared.value.Slot.{Slot}
 use Rattle.hmr_types.specs.declared.value.Slot.TheVariants.{Unset}
 use Rattle.hmr_types.specs.declared.value.EvalFault.{EvalFault}
-use Rattle.hmr_types.specs.declared.words.Kind.{Kind}
-use Rattle.hmr_types.specs.Syntax.{HandlerTree, OnceTree}
+use Rattle.hmr_types.specs.declared.words.HandlerKind.{HandlerKind}
+use Rattle.module_tree.specs.Syntax.{HandlerTree, OnceTree}
 use Rattle.core_model.specs.Names.{Name, has, at}
 use Rattle.core_model.specs.Sources.{Text}
 
@@ -39,7 +39,7 @@ pub record Binding : Type 0 where
 
 -- a handler that an evaluation registered; deps are the modules that a dependency callback lists
 pub record Registered : Type 0 where
-  pub kind : Kind
+  pub kind : HandlerKind
   pub deps : List Name
   pub what : OnceTree
 

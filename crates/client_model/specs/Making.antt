@@ -1,14 +1,14 @@
 -- A new instance is made and evaluated.
 use Rattle.std.specs.Prelude.{ℕ, Bool, false, not, List, [], ◌∷◌, ◌++◌, map, fold, Option, Some, None, if◌then◌else◌}
 use Rattle.std.specs.List.{list_any}
-use Rattle.hmr_types.specs.Syntax as syntax
-use Rattle.hmr_types.specs.Syntax.{OnceTree}
-use Rattle.hmr_types.specs.declared.words.Kind.{Kind}
-use Rattle.hmr_types.specs.declared.words.Kind.TheVariants as kind
-use Rattle.hmr_types.specs.declared.words.HandlerEnd.TheVariants.{Held}
-use Rattle.hmr_types.specs.declared.words.InstanceStatus.{InstanceStatus}
-use Rattle.hmr_types.specs.declared.words.InstanceStatus.TheVariants.{Done, Faulted, Unrun}
-use Rattle.hmr_types.specs.declared.words.InstanceFate.TheVariants.{Live}
+use Rattle.module_tree.specs.Syntax as syntax
+use Rattle.module_tree.specs.Syntax.{OnceTree}
+use Rattle.hmr_types.specs.declared.words.HandlerKind.{HandlerKind}
+use Rattle.hmr_types.specs.declared.words.HandlerKind.TheVariants as kind
+use Rattle.output_lines.specs.declared.words.HandlerEnd.TheVariants.{Held}
+use Rattle.output_lines.specs.declared.words.InstanceStatus.{InstanceStatus}
+use Rattle.output_lines.specs.declared.words.InstanceStatus.TheVariants.{Done, Faulted, Unrun}
+use Rattle.output_lines.specs.declared.words.InstanceFate.TheVariants.{Live}
 use Rattle.hmr_types.specs.declared.value.EvalFault.{EvalFault}
 use Rattle.core_model.specs.Names.{Name, same_name, at, with_row}
 use Rattle.core_model.specs.Sources.{Text}
@@ -26,7 +26,7 @@ pub record Registry : Type 0 where
   pub journal : Journal
 
 -- a module has one disposer and one prune handler: a later one displaces an earlier one
-abbrev pub is_displaced_by : Kind → Handler → Bool
+abbrev pub is_displaced_by : HandlerKind → Handler → Bool
 is_displaced_by kind.Dispose h = disposes h
 is_displaced_by kind.Prune h = prunes h
 is_displaced_by kind.Own h = false

@@ -1,11 +1,11 @@
 -- What a client shows of itself: its modules, the values of their exports, and the fates of its instances
 -- and their handlers.
 use Rattle.std.specs.Prelude.{ℕ, Bool, true, false, not, ◌&&◌, List, [], ◌∷◌, ◌++◌, map, flat_map, reverse, Option, Some, None, is_none}
-use Rattle.hmr_types.specs.declared.words.Handled.{Handled}
-use Rattle.hmr_types.specs.declared.words.Handled.TheVariants as handled
-use Rattle.hmr_types.specs.declared.words.ClientState.{ClientState}
-use Rattle.hmr_types.specs.declared.out_line.OutLine.{OutLine}
-use Rattle.hmr_types.specs.declared.out_line.OutLine.TheVariants as line
+use Rattle.output_lines.specs.declared.words.Handled.{Handled}
+use Rattle.output_lines.specs.declared.words.Handled.TheVariants as handled
+use Rattle.output_lines.specs.declared.words.ClientState.{ClientState}
+use Rattle.output_lines.specs.declared.out_line.OutLine.{OutLine}
+use Rattle.output_lines.specs.declared.out_line.OutLine.TheVariants as line
 use Rattle.core_model.specs.Names.{Name, names_of, sorted}
 use Rattle.core_model.specs.View.{table_of}
 use Rattle.client_model.specs.Language.{slot_at}

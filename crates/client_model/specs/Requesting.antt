@@ -1,8 +1,8 @@
 -- The request that stands: what a client asks or tells next.
 use Rattle.std.specs.Prelude.{◌==◌, List, [], ◌∷◌, Option, Some, None, if◌then◌else◌}
-use Rattle.core_model.specs.declared.message.ClientMsg.{ClientMsg}
-use Rattle.core_model.specs.declared.message.ClientMsg.TheVariants as msg
-use Rattle.core_model.specs.declared.message.AbortCause.TheVariants as abort
+use Rattle.update_msgs.specs.declared.message.ClientMsg.{ClientMsg}
+use Rattle.update_msgs.specs.declared.message.ClientMsg.TheVariants as msg
+use Rattle.update_msgs.specs.declared.message.AbortCause.TheVariants as abort
 use Rattle.core_model.specs.Names.{Name}
 use Rattle.core_model.specs.View.{table_of}
 use Rattle.core_model.specs.Page.{Plan, new_view}

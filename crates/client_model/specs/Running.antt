@@ -3,13 +3,13 @@ use Rattle.std.specs.Prelude.{◌≡◌, ℕ, Bool, List, [], ◌∷◌, ◌++�
 use Rattle.hmr_types.specs.declared.value.Value.{Value}
 use Rattle.hmr_types.specs.declared.value.Slot.{Slot}
 use Rattle.hmr_types.specs.declared.value.Slot.TheVariants.{Unset, Val}
-use Rattle.hmr_types.specs.declared.words.Kind.{Kind}
-use Rattle.hmr_types.specs.declared.words.Kind.TheVariants as kind
-use Rattle.hmr_types.specs.declared.words.FaultPlace.{FaultPlace}
-use Rattle.hmr_types.specs.declared.words.FaultPlace.TheVariants as place
-use Rattle.hmr_types.specs.declared.words.HandlerEnd.{HandlerEnd}
-use Rattle.hmr_types.specs.declared.words.HandlerEnd.TheVariants.{Held, Spent}
-use Rattle.hmr_types.specs.declared.words.InstanceFate.{InstanceFate}
+use Rattle.hmr_types.specs.declared.words.HandlerKind.{HandlerKind}
+use Rattle.hmr_types.specs.declared.words.HandlerKind.TheVariants as kind
+use Rattle.output_lines.specs.declared.words.FaultPlace.{FaultPlace}
+use Rattle.output_lines.specs.declared.words.FaultPlace.TheVariants as place
+use Rattle.output_lines.specs.declared.words.HandlerEnd.{HandlerEnd}
+use Rattle.output_lines.specs.declared.words.HandlerEnd.TheVariants.{Held, Spent}
+use Rattle.output_lines.specs.declared.words.InstanceFate.{InstanceFate}
 use Rattle.core_model.specs.Names.{Name, same_name, at, with_row, without}
 use Rattle.core_model.specs.Sources.{Text}
 use Rattle.client_model.specs.Language.{Language, Slots, Bag, Ran, slot_at}
@@ -53,7 +53,7 @@ abbrev pub assigned : Slots → Name × Value → Slots
 assigned slots change = map (λ row. if same_name row.0 change.0 then (row.0, Val change.1) else row) slots
 
 -- a dependency callback is held on, every other handler is spent
-abbrev pub end_after : Kind → HandlerEnd
+abbrev pub end_after : HandlerKind → HandlerEnd
 end_after kind.Dispose = Spent
 end_after kind.Prune = Spent
 end_after kind.Own = Spent
@@ -69,7 +69,7 @@ abbrev pub invalidation : Runtime → Name → Text → Invalidation
 invalidation r n message = record { name = n; version = version_in (live_at r.instances n); message = message }
 
 -- what a run leaves of the instance
-abbrev pub after_run : ℕ → Kind → Ran → Instance → Instance
+abbrev pub after_run : ℕ → HandlerKind → Ran → Instance → Instance
 after_run spot kind left i = record i { values = fold assigned i.values left.changes; handlers = with_end spot (end_after kind) i.handlers }
 
 -- the handler at a place of the instance was run, with its name's bag

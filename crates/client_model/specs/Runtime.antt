@@ -1,6 +1,6 @@
 -- What a client keeps, and how one thing that it does follows another.
 use Rattle.std.specs.Prelude.{ℕ, Bool, false, List, [], ◌∷◌, ◌++◌, Option, Some, None}
-use Rattle.hmr_types.specs.declared.out_line.OutLine.{OutLine}
+use Rattle.output_lines.specs.declared.out_line.OutLine.{OutLine}
 use Rattle.core_model.specs.Names.{Name, at}
 use Rattle.core_model.specs.Sources.{Text}
 use Rattle.core_model.specs.Page.{Page, new_page}

@@ -1,11 +1,11 @@
 -- A client takes a message: the answer to its request, or one that it can't take.
 use Rattle.std.specs.Prelude.{ℕ, ◌+◌, nat_lt, Bool, true, false, not, ◌&&◌, List, [], ◌∷◌, ◌++◌, length, Option, Some, None, if◌then◌else◌}
 use Rattle.hmr_types.specs.declared.limits.TheConstants.{INSTANCES}
-use Rattle.hmr_types.specs.declared.out_line.OutLine.{OutLine}
-use Rattle.core_model.specs.declared.message.ClientMsg.{ClientMsg}
-use Rattle.core_model.specs.declared.message.ClientMsg.TheVariants as request_is
-use Rattle.core_model.specs.declared.message.ServerMsg.{ServerMsg}
-use Rattle.core_model.specs.declared.message.ServerMsg.TheVariants as msg
+use Rattle.output_lines.specs.declared.out_line.OutLine.{OutLine}
+use Rattle.update_msgs.specs.declared.message.ClientMsg.{ClientMsg}
+use Rattle.update_msgs.specs.declared.message.ClientMsg.TheVariants as request_is
+use Rattle.update_msgs.specs.declared.message.ServerMsg.{ServerMsg}
+use Rattle.update_msgs.specs.declared.message.ServerMsg.TheVariants as msg
 use Rattle.core_model.specs.Sources.{Text}
 use Rattle.core_model.specs.Page.{Plan}
 use Rattle.client_model.specs.Language.{Language}

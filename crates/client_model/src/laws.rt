@@ -5,7 +5,7 @@ ghost use Rattle.core_model.specs.Paths.{Reaches};
 ghost use Rattle.core_model.specs.View.{View};
 ghost use Rattle.core_model.specs.Page.{Plan, plan_imports, met_of};
 ghost use Rattle.core_model.specs.Sources.{Text};
-ghost use Rattle.core_model.specs.declared.message.ServerMsg.{ServerMsg};
+ghost use Rattle.update_msgs.specs.declared.message.ServerMsg.{ServerMsg};
 ghost use Rattle.client_model.specs.Language.{Language};
 ghost use Rattle.client_model.specs.Instance.{Instance};
 ghost use Rattle.client_model.specs.Journal.{bag_left};

@@ -1,14 +1,14 @@
 -- Rows of operators: the operator and the right side of each node, the outermost first.
 use Rattle.std.proofs.Common.{◌≡◌, ℕ, suc, ◌+◌, ◌<◌, ◌≤◌, List, [], ◌∷◌, ◌++◌, Result, Ok, Err, refl, ap, ◌∙◌, sym, subst, map, arith, Bor}
-use Rattle.hmr_types.specs.Tree.{expr_of}
-use Rattle.hmr_types.specs.declared.tree.Expr.{Expr}
-use Rattle.hmr_types.specs.Syntax as tree
-use Rattle.hmr_types.specs.Syntax.{ExprTree}
+use Rattle.module_tree.specs.Tree.{expr_of}
+use Rattle.module_tree.specs.declared.tree.Expr.{Expr}
+use Rattle.module_tree.specs.Syntax as tree
+use Rattle.module_tree.specs.Syntax.{ExprTree}
 use Rattle.hmr_types.specs.Results.{◌>>=◌}
 use Rattle.module_semantics.specs.Scope.{Scope}
 use Rattle.module_semantics.specs.Values.{with_right}
 use Rattle.module_semantics.specs.Evaluation.{value_of}
-use Rattle.hmr_types.specs.declared.tree.Op.{Op}
+use Rattle.module_tree.specs.declared.tree.Op.{Op}
 use Rattle.hmr_types.specs.declared.value.Value.{Value}
 use Rattle.hmr_types.specs.declared.value.EvalFault.{EvalFault}
 

@@ -1,13 +1,14 @@
 // The run of a handler's body.
 ghost use Rattle.std.specs.Prelude.{◌≡◌, ◌++◌, IfOk, OnOk};
-ghost use Rattle.hmr_types.specs.Tree.{handler_of};
+ghost use Rattle.module_tree.specs.Tree.{handler_of};
 ghost use Rattle.module_semantics.specs.Bodies.{body_run};
 ghost use Rattle.const_eval.specs.Answers.{ran_seen};
 
 use crate::state::{Context, opening};
 use crate::statements::run_stmts;
-use hmr_types::{EvalFault, HandlerCode, Name, Sequence, Slot, Text, Value};
+use hmr_types::{EvalFault, Name, Sequence, Slot, Text, Value};
 use module_semantics::{Env, ModParam};
+use module_tree::HandlerCode;
 use retained_data::Bag;
 use std::alloc::{AllocError, Global};
 

@@ -3,14 +3,15 @@
 // right sides, and these are then worked off from the innermost. What else stands inside an expression
 // is at most as deep as the module language allows, and is evaluated by recursion.
 ghost use Rattle.std.specs.Prelude.{◌≡◌, IfOk, map};
-ghost use Rattle.hmr_types.specs.Tree.{expr_of};
+ghost use Rattle.module_tree.specs.Tree.{expr_of};
 ghost use Rattle.module_semantics.specs.Evaluation.{value_of, values_of};
 ghost use Rattle.module_semantics.specs.Values.{with_right};
 ghost use Rattle.const_eval.specs.Reads.{scope_of, on_ok};
 
 use crate::scope::{Scope, read_bag, read_member, read_name};
 use crate::values::{literal, negate, text, truth, with_op};
-use hmr_types::{EvalFault, Expr, Op, Value};
+use hmr_types::{EvalFault, Value};
+use module_tree::{Expr, Op};
 use std::alloc::{AllocError, Global};
 
 /// The value of an expression, or its fault. It takes time in proportion to the expression and to the

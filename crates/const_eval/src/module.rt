@@ -1,7 +1,7 @@
 // The evaluation of a module: its items in order, up to the first fault.
 ghost use Rattle.std.specs.Prelude.{◌≡◌, ◌++◌, IfOk, OnOk, OnErr, [], map};
 ghost use Rattle.std.specs.Option.{option_map};
-ghost use Rattle.hmr_types.specs.Tree.{expr_of, handler_of, item_of, module_of, once_of};
+ghost use Rattle.module_tree.specs.Tree.{expr_of, handler_of, item_of, module_of, once_of};
 ghost use Rattle.module_semantics.specs.Bodies.{opening, scope_of, with_result};
 ghost use Rattle.module_semantics.specs.Evaluation.{value_of};
 ghost use Rattle.module_semantics.specs.Modules.{declare, declared_names, item_run, items_run, module_run, register, register_deps, register_own, unset};
@@ -11,10 +11,9 @@ ghost use Rattle.const_eval.specs.States.{context_of, state_of};
 use crate::expression::eval_expr;
 use crate::state::{Context, State, Step, declare, opening, reads};
 use crate::statements::run_stmt;
-use hmr_types::{
-    EvalFault, Expr, HandlerCode, Item, Kind, Module, Name, Once, Sequence, Slot, Text,
-};
+use hmr_types::{EvalFault, HandlerKind, Name, Sequence, Slot, Text};
 use module_semantics::{Env, ModParam, Registered};
+use module_tree::{Expr, HandlerCode, Item, Module, Once};
 use retained_data::Bag;
 use std::alloc::{AllocError, Global};
 
@@ -106,8 +105,8 @@ fn eval_item(alloc: Global, item: &Item, context: &Context, state: &mut State) -
             specs,
             call,
         } => register_deps(alloc, specs, call, state),
-        Item::Dispose(what) => register(alloc, Kind::Dispose, what, state),
-        Item::Prune(what) => register(alloc, Kind::Prune, what, state),
+        Item::Dispose(what) => register(alloc, HandlerKind::Dispose, what, state),
+        Item::Prune(what) => register(alloc, HandlerKind::Prune, what, state),
     }
 }
 
@@ -126,7 +125,7 @@ fn eval_declaration(
     }
 }
 
-fn register(alloc: Global, kind: Kind, what: &Once, state: &mut State) -> Step
+fn register(alloc: Global, kind: HandlerKind, what: &Once, state: &mut State) -> Step
     ensures { IfOk result (λ fault. (state_of state.new, fault) ≡ register kind [] (once_of what.now) (state_of state.old)) }
 {
     let what = what.copy(alloc)?;
@@ -142,7 +141,7 @@ fn register_own(alloc: Global, what: &Option<Once>, state: &mut State) -> Step
     ensures { IfOk result (λ fault. (state_of state.new, fault) ≡ register_own (option_map once_of what.now) (state_of state.old)) }
 {
     match what {
-        Some(what) => register(alloc, Kind::Own, what, state),
+        Some(what) => register(alloc, HandlerKind::Own, what, state),
         None => Ok(None),
     }
 }
@@ -161,7 +160,7 @@ fn register_deps(
     };
     let deps = copy_texts(specs)?;
     state.registered.push(Registered {
-        kind: Kind::Dep,
+        kind: HandlerKind::Dep,
         deps,
         what: Once::Code(code),
     })?;

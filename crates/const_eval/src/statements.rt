@@ -1,7 +1,7 @@
 // What statements do. A fault ends all that would follow.
 ghost use Rattle.std.specs.Prelude.{◌≡◌, IfOk, map, slice_get};
 ghost use Rattle.std.specs.Option.{option_map};
-ghost use Rattle.hmr_types.specs.Tree.{cond_of, expr_of, stmt_of, stmts_of};
+ghost use Rattle.module_tree.specs.Tree.{cond_of, expr_of, stmt_of, stmts_of};
 ghost use Rattle.module_semantics.specs.Bodies.{add_line, holds, invalidate, is_module, run, run_all, scope_of, with_result};
 ghost use Rattle.module_semantics.specs.Evaluation.{values_of};
 ghost use Rattle.const_eval.specs.States.{context_of, state_of};
@@ -9,8 +9,9 @@ ghost use Rattle.const_eval.specs.States.{context_of, state_of};
 use crate::expression::{eval_all, eval_expr};
 use crate::state::{Context, State, Step, add_invalidation, add_line, assign, keep, reads};
 use crate::values::{text_of, truth};
-use hmr_types::{Cond, EvalFault, Expr, Stmt, Text};
+use hmr_types::{EvalFault, Text};
 use module_semantics::ModParam;
+use module_tree::{Cond, Expr, Stmt};
 use std::alloc::{AllocError, Global};
 
 /// Runs statements in order, up to the first fault.

@@ -3,7 +3,8 @@ ghost use Rattle.std.specs.Prelude.{◌≡◌, ◌++◌, IfOk, OnOk, pos, ◌+�
 ghost use Rattle.module_semantics.specs.Values.{number, text, in_range, written, added, subtracted, multiplied, negated, truth, with_op};
 
 use hmr_types::limits::{LARGEST_NUMBER, VALUE_BYTES};
-use hmr_types::{EvalFault, Op, Text, Value};
+use hmr_types::{EvalFault, Text, Value};
+use module_tree::Op;
 use std::alloc::{AllocError, Global};
 
 const LARGEST: i64 = LARGEST_NUMBER as i64;

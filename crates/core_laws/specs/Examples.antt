@@ -4,7 +4,7 @@ use Rattle.hmr_types.specs.declared.analysis.Analysis.{Analysis}
 use Rattle.hmr_types.specs.declared.analysis.TextFault.{TextFault}
 use Rattle.hmr_types.specs.declared.analysis.Outcome.TheVariants.{Good, Bad}
 use Rattle.hmr_types.specs.declared.analysis.FaultWord.TheVariants.{BadByte}
-use Rattle.core_model.specs.declared.message.JsUpdate.{JsUpdate}
+use Rattle.update_msgs.specs.declared.message.JsUpdate.{JsUpdate}
 use Rattle.core_model.specs.Names.{Name, with_row}
 use Rattle.core_model.specs.Sources.{Text, Serving, edit, result}
 use Rattle.core_model.specs.FreshLoad.{Served}

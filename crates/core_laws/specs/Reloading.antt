@@ -1,7 +1,7 @@
 -- When a full reload is the answer to an Ask.
 use Rattle.std.specs.Prelude.{◌≡◌, true, false, List, [], None}
 use Rattle.hmr_types.specs.declared.words.ReloadCause.{ReloadCause}
-use Rattle.core_model.specs.declared.message.ServerMsg.TheVariants as msg
+use Rattle.update_msgs.specs.declared.message.ServerMsg.TheVariants as msg
 use Rattle.core_model.specs.Names.{Name}
 use Rattle.core_model.specs.Sources.{Sources}
 use Rattle.core_model.specs.Spread.{IsReloadWanted}

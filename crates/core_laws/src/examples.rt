@@ -1,7 +1,7 @@
 // Small runs of the core, computed by the checker: what the laws speak of does happen.
 ghost use Rattle.std.specs.Prelude.{◌≡◌, [], ◌∷◌, ◌++◌, Some, None, IfSome};
 ghost use Rattle.hmr_types.specs.declared.words.ReloadCause.TheVariants.{Root};
-ghost use Rattle.core_model.specs.declared.message.ServerMsg.TheVariants as msg;
+ghost use Rattle.update_msgs.specs.declared.message.ServerMsg.TheVariants as msg;
 ghost use Rattle.core_model.specs.Names.{at};
 ghost use Rattle.core_model.specs.FreshLoad.{fresh_table, missing_of};
 ghost use Rattle.core_model.specs.Requests.{ask, fetch, aborted, invalidate, to_client};

@@ -3,7 +3,7 @@ ghost use Rattle.std.specs.Prelude.{◌≡◌, ◌↔◌, ℕ, ◌==◌, true, f
 ghost use Rattle.hmr_types.specs.declared.analysis.Analysis.{Analysis};
 ghost use Rattle.hmr_types.specs.declared.analysis.Outcome.{Outcome};
 ghost use Rattle.hmr_types.specs.declared.words.ReloadCause.{ReloadCause};
-ghost use Rattle.core_model.specs.declared.message.ServerMsg.TheVariants as msg;
+ghost use Rattle.update_msgs.specs.declared.message.ServerMsg.TheVariants as msg;
 ghost use Rattle.core_model.specs.Sent.{IsReloadSent};
 ghost use Rattle.core_model.specs.Names.{Name, at};
 ghost use Rattle.core_model.specs.Sources.{Sources, Text, Change, serve, result_answer, sources_after};

@@ -2,7 +2,7 @@
 use Rattle.std.specs.Prelude.{ℕ, Bool, true, false, List, [], ◌∷◌, Option, Some, None}
 use Rattle.hmr_types.specs.declared.analysis.TextFault.{TextFault}
 use Rattle.hmr_types.specs.declared.words.PlanKind.TheVariants.{Load, Reload, Update}
-use Rattle.core_model.specs.declared.message.JsUpdate.{JsUpdate}
+use Rattle.update_msgs.specs.declared.message.JsUpdate.{JsUpdate}
 use Rattle.core_model.specs.Names.{Name, at}
 use Rattle.core_model.specs.FreshLoad.{version_in}
 use Rattle.core_model.specs.Sources.{Sources}

@@ -1,7 +1,7 @@
 -- The server core: its events, what it answers, and what it keeps.
 use Rattle.std.specs.Prelude.{ℕ, ◌+◌, ◌==◌, nat_le, Bool, true, false, not, ◌||◌, List, [], ◌∷◌, length, map, filter, reverse, Option, Some, None, if◌then◌else◌}
 use Rattle.hmr_types.specs.declared.limits.TheConstants.{CLIENTS, LARGEST_CLIENT}
-use Rattle.core_model.specs.declared.message.ServerMsg.TheVariants as msg
+use Rattle.update_msgs.specs.declared.message.ServerMsg.TheVariants as msg
 use Rattle.core_model.specs.declared.refusal.Refusal.TheVariants.{UnknownClient, TooManyClients}
 use Rattle.core_model.specs.Names.{Name}
 use Rattle.core_model.specs.Sources.{Sources, Change, edit, result, edit_answer, result_answer, changed_by, no_sources}

@@ -1,9 +1,9 @@
 -- A client's message as an event of the core, and the reply as a message to the client.
 use Rattle.std.specs.Prelude.{ℕ, Some, None}
-use Rattle.core_model.specs.declared.message.ClientMsg.{ClientMsg}
-use Rattle.core_model.specs.declared.message.ClientMsg.TheVariants as told
-use Rattle.core_model.specs.declared.message.ServerMsg.{ServerMsg}
-use Rattle.core_model.specs.declared.message.ServerMsg.TheVariants as msg
+use Rattle.update_msgs.specs.declared.message.ClientMsg.{ClientMsg}
+use Rattle.update_msgs.specs.declared.message.ClientMsg.TheVariants as told
+use Rattle.update_msgs.specs.declared.message.ServerMsg.{ServerMsg}
+use Rattle.update_msgs.specs.declared.message.ServerMsg.TheVariants as msg
 use Rattle.core_model.specs.declared.refusal.Refusal.{Refusal}
 use Rattle.core_model.specs.declared.refusal.Refusal.TheVariants.{UnknownClient, TooManyClients, OutOfTurn, Mismatch, Unfetched, Ignored}
 use Rattle.core_model.specs.Requests.{ask, fetch, applied_as, aborted, invalidate, Reply, edited, settled, to_client, refused, gone}

@@ -1,8 +1,8 @@
 -- The requests of a client: what each one makes of the client's record, and the reply.
 use Rattle.std.specs.Prelude.{ℕ, ◌==◌, Bool, true, false, not, ◌&&◌, List, [], ◌∷◌, ◌++◌, map, filter, Option, Some, None}
 use Rattle.hmr_types.specs.declared.analysis.TextFault.{TextFault}
-use Rattle.core_model.specs.declared.message.ServerMsg.{ServerMsg}
-use Rattle.core_model.specs.declared.message.ServerMsg.TheVariants as msg
+use Rattle.update_msgs.specs.declared.message.ServerMsg.{ServerMsg}
+use Rattle.update_msgs.specs.declared.message.ServerMsg.TheVariants as msg
 use Rattle.core_model.specs.declared.refusal.Refusal.{Refusal}
 use Rattle.core_model.specs.declared.refusal.Refusal.TheVariants.{OutOfTurn, Mismatch, Unfetched, Ignored}
 use Rattle.core_model.specs.Names.{Name, at, names_of, sorted}

@@ -3,7 +3,7 @@ ghost use Rattle.std.specs.Prelude.{◌≡◌, [], ◌∷◌, Some, None};
 ghost use Rattle.hmr_types.specs.declared.words.ReloadCause.TheVariants.{Root, Declined};
 ghost use Rattle.core_model.specs.Spread.{reason_of, cause_of, replaced_of, pairs_of};
 ghost use Rattle.core_model.specs.View.{dropped_of};
-ghost use Rattle.core_model.specs.declared.message.ServerMsg.TheVariants as msg;
+ghost use Rattle.update_msgs.specs.declared.message.ServerMsg.TheVariants as msg;
 ghost use Rattle.core_model.specs.declared.refusal.Refusal.TheVariants.{UnknownClient, OutOfTurn, Mismatch, Unfetched, Ignored};
 ghost use Rattle.core_model.specs.Requests.{to_client, refused};
 ghost use Rattle.core_model.specs.Core.{replies};

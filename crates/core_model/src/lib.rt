@@ -10,8 +10,6 @@
 
 pub mod examples;
 pub mod laws;
-mod message;
 mod refusal;
 
-pub use message::{AbortCause, ClientMsg, JsUpdate, ServerMsg};
 pub use refusal::Refusal;

@@ -1,7 +1,7 @@
 -- What a script makes of a page, and the lines and bytes that it writes.
 use Rattle.std.specs.Prelude.{◌≡◌, ℕ, zero, suc, List, [], ◌∷◌, ◌++◌, map, Bool, Option, Some, None, if◌then◌else◌}
 use Rattle.std.specs.List.{flat_map}
-use Rattle.hmr_types.specs.declared.out_line.OutLine.{OutLine}
+use Rattle.output_lines.specs.declared.out_line.OutLine.{OutLine}
 use Rattle.core_model.specs.Names.{Name}
 use Rattle.play_text.specs.Lines.{line_text}
 use Rattle.hmr_world.specs.Moves.{edit, settle, connect, turn, show, fresh}

@@ -1,6 +1,6 @@
 -- Handlers, what is asked of them, and what their run leaves.
 use Rattle.std.specs.Prelude.{ℕ, List}
-use Rattle.hmr_types.specs.Tree.{handler_of}
+use Rattle.module_tree.specs.Tree.{handler_of}
 use Rattle.hmr_types.specs.declared.value.Slot.{Slot}
 use Rattle.module_semantics.specs.Bodies.{Ran, body_run, host_ran}
 use Rattle.module_semantics.specs.Entries.{Kept}

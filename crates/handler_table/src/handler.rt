@@ -5,8 +5,8 @@ ghost use Rattle.handler_table.specs.Handler.{KeepsItsWord, spent};
 
 use crate::held::Held;
 use const_eval::{Ran, run_body};
-use hmr_types::HandlerCode;
 use module_semantics::{Env, ModParam};
+use module_tree::HandlerCode;
 use retained_data::Bag;
 use std::alloc::{AllocError, Global};
 

@@ -5,7 +5,8 @@ ghost use Rattle.std.specs.Option.{option_map};
 
 use crate::dep::Dep;
 use crate::handler::Handler;
-use hmr_types::{HandlerCode, ModName, Sequence};
+use hmr_types::{ModName, Sequence};
+use module_tree::HandlerCode;
 use std::alloc::{AllocError, Global};
 use std::collections::VecDeque;
 use std::marker::Model;

@@ -29,7 +29,7 @@ pub enum FaultWord {
     BadEscape,
     /// A number is over 9007199254740991.
     NumberTooLarge,
-    /// There are more than 32,768 tokens.
+    /// There are more than 65,536 tokens.
     TooManyTokens,
     /// No module text continues with this token.
     Unexpected,

@@ -4,13 +4,13 @@
 pub const NAME_BYTES: usize = 255;
 
 /// The most bytes that the text of a module has.
-pub const TEXT_BYTES: usize = 65_536;
+pub const TEXT_BYTES: usize = 131_072;
 
 /// The most names that have a source at one time.
-pub const SOURCE_NAMES: usize = 4_096;
+pub const SOURCE_NAMES: usize = 8_192;
 
-/// The most bytes that all current sources have together: 16 MiB.
-pub const SOURCE_BYTES: usize = 16_777_216;
+/// The most bytes that all current sources have together: 32 MiB.
+pub const SOURCE_BYTES: usize = 33_554_432;
 
 /// The largest version, and the largest whole number of the module language: 2^53 - 1.
 pub const LARGEST_NUMBER: u64 = 9_007_199_254_740_991;
@@ -22,7 +22,7 @@ pub const IMPORTS: usize = 256;
 pub const DEPTH: u32 = 64;
 
 /// The most tokens of a module text.
-pub const TOKENS: usize = 32_768;
+pub const TOKENS: usize = 65_536;
 
 /// The most roots of a page.
 pub const ROOTS: usize = 16;
@@ -47,3 +47,6 @@ pub const SCRIPT_LINE_BYTES: usize = 65_535;
 
 /// The most bytes of a script: 16 MiB.
 pub const SCRIPT_BYTES: usize = 16_777_216;
+
+/// The most bytes of one message, and of the names and texts of one request or job: 16 MiB.
+pub const MESSAGE_BYTES: usize = 16_777_216;

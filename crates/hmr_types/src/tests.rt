@@ -1,5 +1,5 @@
 // Worked rows from outside of the definitions, and what no clause says: that the calls succeed with
-// ample memory, and that a row of operators that fills a text costs no stack.
+// ample memory.
 use super::*;
 use std::alloc::{AllocError, Global};
 use std::test::Fail;
@@ -134,36 +134,5 @@ fn tables_have_rising_names_and_counted_versions(rt: HostRuntime) -> Result<(), 
         assert!(rt; Table::of(pairs).is_some() == is_table);
     }
     assert!(rt; Table::of(Vec::new(alloc)).is_some());
-    Ok(())
-}
-
-fn sum_of(alloc: Global, operands: usize) -> Result<Expr, AllocError> {
-    let mut row = Expr::Num(0);
-    for _ in 1..operands {
-        row = Expr::Binary(
-            Op::Add,
-            Box::new(alloc, row)?,
-            Box::new(alloc, Expr::Num(1))?,
-        );
-    }
-    Ok(row)
-}
-
-#[test]
-fn a_row_that_fills_a_text_is_copied_and_let_go(rt: HostRuntime) -> Result<(), Fail> {
-    let alloc = rt.alloc();
-    let row = sum_of(alloc, 300_000)?;
-    let copy = row.copy(alloc)?;
-    let mut operators: u32 = 0;
-    let mut rest = &copy;
-    while let Expr::Binary(_, left, _) = rest {
-        operators = operators.wrapping_add(1);
-        rest = left;
-    }
-    assert_eq!(rt; operators, 299_999);
-
-    let items = vec![in alloc; Item::Do(Stmt::Throw(copy))]?;
-    let module = Module { items };
-    assert_eq!(rt; module.copy(alloc)?.items.len(), 1);
     Ok(())
 }

@@ -3,9 +3,9 @@ use Rattle.std.proofs.Common.{◌≡◌, ℕ, Bool, true, false, not, if◌then�
 use Rattle.std.specs.List.{All, AllByRecursion as ByRecursion}
 use Rattle.std.proofs.lemmas.Bool.{eqb-true}
 use Rattle.std.proofs.lemmas.List.Elements.{All-nil, All-cons, All-filter, recursion_from_All}
-use Rattle.hmr_types.specs.declared.out_line.OutLine.{OutLine}
-use Rattle.hmr_types.specs.declared.out_line.OutLine.TheVariants as lines
-use Rattle.hmr_types.specs.declared.words.ClientState.TheVariants.{Up}
+use Rattle.output_lines.specs.declared.out_line.OutLine.{OutLine}
+use Rattle.output_lines.specs.declared.out_line.OutLine.TheVariants as lines
+use Rattle.output_lines.specs.declared.words.ClientState.TheVariants.{Up}
 use Rattle.core_model.specs.Names.{Name, at, with_entry}
 use Rattle.core_model.specs.Sources.{Serving, Sources, EditAnswer, job, same, removed, refused, after_edit, late, after_result, is_awaited, answer_of, Text}
 use Rattle.core_model.specs.FreshLoad.{Served, imported_of, reached_by, version_in, fresh_table, missing_of}

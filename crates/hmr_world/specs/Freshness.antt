@@ -1,8 +1,8 @@
 -- A client that is caught up shows what a page would load anew; and the jobs stand in order.
 use Rattle.std.specs.Prelude.{◌≡◌, ℕ, ◌<◌, ◌≤◌, true, List, [], ◌∷◌, map}
-use Rattle.hmr_types.specs.declared.out_line.OutLine.{OutLine}
-use Rattle.hmr_types.specs.declared.out_line.OutLine.TheVariants as lines
-use Rattle.hmr_types.specs.declared.words.ClientState.TheVariants.{Up}
+use Rattle.output_lines.specs.declared.out_line.OutLine.{OutLine}
+use Rattle.output_lines.specs.declared.out_line.OutLine.TheVariants as lines
+use Rattle.output_lines.specs.declared.words.ClientState.TheVariants.{Up}
 use Rattle.core_model.specs.FreshLoad.{fresh_table, missing_of}
 use Rattle.hmr_world.specs.Moves.{show, fresh}
 use Rattle.hmr_world.specs.Versions.{Job}

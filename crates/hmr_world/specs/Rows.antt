@@ -1,13 +1,13 @@
 -- Worked runs: what is asked, step by step, and the lines that are written.
 use Rattle.std.specs.Prelude.{List, [], ◌∷◌, Some, codes}
-use Rattle.hmr_types.specs.declared.out_line.OutLine.{OutLine}
-use Rattle.hmr_types.specs.declared.out_line.OutLine.TheVariants.{Edit, Settle, Open, OpenRefused, Unknown, Applied, Reload, Aborted, Wait, Client, Module, Fresh, Missing}
-use Rattle.hmr_types.specs.declared.words.EditWord.TheVariants.{Job, Same}
-use Rattle.hmr_types.specs.declared.words.SettleWord.TheVariants.{Served, Late, NotIssued}
+use Rattle.output_lines.specs.declared.out_line.OutLine.{OutLine}
+use Rattle.output_lines.specs.declared.out_line.OutLine.TheVariants.{Edit, Settle, Open, OpenRefused, Unknown, Applied, Reload, Aborted, Wait, Client, Module, Fresh, Missing}
+use Rattle.output_lines.specs.declared.words.EditWord.TheVariants.{Job, Same}
+use Rattle.output_lines.specs.declared.words.SettleWord.TheVariants.{Served, Late, NotIssued}
 use Rattle.hmr_types.specs.declared.words.PlanKind.TheVariants as plans
-use Rattle.hmr_types.specs.declared.words.AbortWord.TheVariants as aborts
+use Rattle.output_lines.specs.declared.words.AbortWord.TheVariants as aborts
 use Rattle.hmr_types.specs.declared.words.ReloadCause.TheVariants.{Root}
-use Rattle.hmr_types.specs.declared.words.ClientState.TheVariants.{Up, Behind}
+use Rattle.output_lines.specs.declared.words.ClientState.TheVariants.{Up, Behind}
 use Rattle.core_model.specs.Names.{Name}
 use Rattle.core_model.specs.Sources.{Text}
 use Rattle.hmr_world.specs.Moves.{Move, edit, settle, connect, turn, show, fresh}

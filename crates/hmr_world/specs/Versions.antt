@@ -4,8 +4,8 @@ use Rattle.std.specs.Prelude.{ℕ, ◌==◌, Bool, false, ◌&&◌, List, [], �
 use Rattle.hmr_types.specs.declared.analysis.Analysis.{Analysis}
 use Rattle.hmr_types.specs.declared.analysis.Outcome.{Outcome}
 use Rattle.hmr_types.specs.declared.analysis.Outcome.TheVariants.{Good}
-use Rattle.hmr_types.specs.declared.words.SettleWord.{SettleWord}
-use Rattle.hmr_types.specs.declared.words.SettleWord.TheVariants as settling
+use Rattle.output_lines.specs.declared.words.SettleWord.{SettleWord}
+use Rattle.output_lines.specs.declared.words.SettleWord.TheVariants as settling
 use Rattle.core_model.specs.Names.{Name, same_name, at}
 use Rattle.core_model.specs.Sources.{Text, Source, Sources, no_sources, EditAnswer, job, same, removed, refused, text_or_none, after_edit, is_outstanding, ResultAnswer, serve, refuse, late, result_answer, after_result}
 use Rattle.core_model.specs.FreshLoad.{version_in}

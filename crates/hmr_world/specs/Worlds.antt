@@ -1,14 +1,14 @@
 -- The world: what it has, what each step makes of that, and the lines that the step writes.
 use Rattle.std.specs.Prelude.{◌≡◌, ℕ, ◌==◌, Bool, true, false, List, [], ◌∷◌, ◌++◌, map, Option, Some, None, if◌then◌else◌}
-use Rattle.hmr_types.specs.declared.out_line.OutLine.{OutLine}
-use Rattle.hmr_types.specs.declared.out_line.OutLine.TheVariants as lines
-use Rattle.hmr_types.specs.declared.words.EditWord.TheVariants as edits
-use Rattle.hmr_types.specs.declared.words.RemoveWord.TheVariants as removals
-use Rattle.hmr_types.specs.declared.words.AbortWord.TheVariants.{Missing}
+use Rattle.output_lines.specs.declared.out_line.OutLine.{OutLine}
+use Rattle.output_lines.specs.declared.out_line.OutLine.TheVariants as lines
+use Rattle.output_lines.specs.declared.words.EditWord.TheVariants as edits
+use Rattle.output_lines.specs.declared.words.RemoveWord.TheVariants as removals
+use Rattle.output_lines.specs.declared.words.AbortWord.TheVariants.{Missing}
 use Rattle.hmr_types.specs.declared.words.ReloadCause.TheVariants.{Root}
-use Rattle.hmr_types.specs.declared.words.SettleWord.{SettleWord}
-use Rattle.hmr_types.specs.declared.words.ClientState.{ClientState}
-use Rattle.hmr_types.specs.declared.words.ClientState.TheVariants.{Up, Behind}
+use Rattle.output_lines.specs.declared.words.SettleWord.{SettleWord}
+use Rattle.output_lines.specs.declared.words.ClientState.{ClientState}
+use Rattle.output_lines.specs.declared.words.ClientState.TheVariants.{Up, Behind}
 use Rattle.core_model.specs.Names.{Name}
 use Rattle.core_model.specs.Sources.{Text, EditAnswer, job, same, removed, refused, edit_answer}
 use Rattle.core_model.specs.FreshLoad.{fresh_table, missing_of}

@@ -1,7 +1,8 @@
 // What no clause says: that the calls succeed with ample memory, and that worked runs write what was
 // worked out by hand.
 use super::*;
-use hmr_types::{ClientState, EditWord, ModName, OutLine, PlanKind, SettleWord, Ver};
+use hmr_types::{ModName, PlanKind, Ver};
+use output_lines::{ClientState, EditWord, OutLine, SettleWord};
 use std::alloc::{AllocError, Global};
 use std::test::Fail;
 

@@ -4,7 +4,7 @@
 // unless a newer edit came meanwhile.
 ghost use Rattle.std.specs.Prelude.{◌≡◌, ◌+◌, IfNone, IfOk, IfSome, OnErr, OnOk, Some, length, map, position};
 ghost use Rattle.std.specs.Option.{option_map};
-ghost use Rattle.hmr_types.specs.declared.out_line.OutLine.TheVariants as lines;
+ghost use Rattle.output_lines.specs.declared.out_line.OutLine.TheVariants as lines;
 ghost use Rattle.core_model.specs.Names.{Name, at};
 ghost use Rattle.core_model.specs.Sources.{edit_answer, has_text, is_awaited, job};
 ghost use Rattle.hmr_world.specs.Kept.{has_version, job_of, source_of};
@@ -13,7 +13,8 @@ ghost use Rattle.hmr_world.specs.Worlds.{edit_line, fresh_lines};
 
 use crate::client::Offer;
 use hmr_types::limits::{LARGEST_NUMBER, TEXT_BYTES};
-use hmr_types::{EditRefusal, EditWord, ModName, OutLine, Sequence, SettleWord, Ver};
+use hmr_types::{EditRefusal, ModName, Sequence, Ver};
+use output_lines::{EditWord, OutLine, SettleWord};
 use std::alloc::{AllocError, Global};
 use std::marker::Model;
 

@@ -8,7 +8,8 @@ ghost use Rattle.hmr_world.specs.Worlds.{IsTaken, client_at, is_caught_up, openi
 use crate::client::{CLIENT, Client, Turned};
 use crate::step::Step;
 use crate::versions::ModuleVersions;
-use hmr_types::{AbortWord, ClientId, ClientState, ModName, OutLine, ReloadCause, Sequence, Ver};
+use hmr_types::{ClientId, ModName, ReloadCause, Sequence, Ver};
+use output_lines::{AbortWord, ClientState, OutLine};
 use std::alloc::{AllocError, Global};
 use std::marker::Model;
 

@@ -1,6 +1,6 @@
 -- A row of operators, whatever their strength.
 use Rattle.std.proofs.Common.{◌≡◌, ℕ, List, Ok, refl, sym, ◌∙◌, subst}
-use Rattle.hmr_types.specs.declared.tree.Op.{Op}
+use Rattle.module_tree.specs.declared.tree.Op.{Op}
 use Rattle.module_semantics.specs.Token.{LineToken}
 use Rattle.module_semantics.specs.Raw.{RawExpr}
 use Rattle.module_semantics.specs.Readers.{Reader, ◌&◌, many, mapped}

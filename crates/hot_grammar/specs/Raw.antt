@@ -1,7 +1,7 @@
 -- The plain data that the grammar's values stand for.
 use Rattle.std.specs.Prelude.{List, map}
 use Rattle.std.specs.Option.{option_map}
-use Rattle.hmr_types.specs.declared.tree.Op.{Op}
+use Rattle.module_tree.specs.declared.tree.Op.{Op}
 use Rattle.module_semantics.specs.Kinds as names
 use Rattle.module_semantics.specs.Raw as plain
 use Rattle.module_semantics.specs.Raw.{stmts_of}

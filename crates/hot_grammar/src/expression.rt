@@ -14,7 +14,8 @@ use crate::kind::{ALL_NAMES, EXPR_FIRSTS, FREE_NAMES};
 use crate::level::Level;
 use crate::tokens::Tokens;
 use crate::{GrammarFault, Kind, RawExpr};
-use hmr_types::{Name, Op};
+use hmr_types::Name;
+use module_tree::Op;
 use std::alloc::{AllocError, Global};
 
 /// An expression in which at most `depth` others stand in one another.

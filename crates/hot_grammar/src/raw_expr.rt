@@ -1,7 +1,8 @@
 // Expressions as the grammar tells them. A row of operators of one strength is one node, whatever its
 // length, so only what stands inside something else is deep.
 use crate::NameAt;
-use hmr_types::{Name, Op, Text};
+use hmr_types::{Name, Text};
+use module_tree::Op;
 
 /// An expression.
 #[derive(Drop)]

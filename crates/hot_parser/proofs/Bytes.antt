@@ -4,7 +4,7 @@ use Rattle.std.specs.Prelude.{IsUtf8, Some}
 use Rattle.std.specs.Str.{is_utf8}
 use Rattle.std.specs.Str.Lossy.{utf8_valid_len}
 use Rattle.std.proofs.lemmas.Str.{IsUtf8-from_is_utf8, is_utf8-from_IsUtf8}
-use Rattle.hmr_types.specs.Syntax.{ModuleTree}
+use Rattle.module_tree.specs.Syntax.{ModuleTree}
 use Rattle.hmr_types.specs.declared.analysis.FaultWord.TheVariants as words
 use Rattle.module_semantics.specs.Lexing.{lexing}
 use Rattle.module_semantics.specs.ModuleText.{fault_at, parsing, read_tokens}

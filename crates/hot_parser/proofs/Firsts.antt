@@ -2,7 +2,7 @@
 use Rattle.std.proofs.Common.{◌≡◌, ℕ, List, [], ◌∷◌, ◌++◌, Bool, true, false, not, ◌||◌, Option, Some, None, if◌then◌else◌, map, refl, ap, ◌∙◌}
 use Rattle.std.specs.Str.{bytes_eq}
 use Rattle.hmr_types.specs.declared.analysis.FaultWord.TheVariants.{DuplicateName, NotAssignable, Unexpected}
-use Rattle.hmr_types.specs.declared.tree.Op.{Op}
+use Rattle.module_tree.specs.declared.tree.Op.{Op}
 use Rattle.module_semantics.specs.Kinds.{NameAt}
 use Rattle.module_semantics.specs.NameRules.{Broken, Within, outside, in_once, in_accept, accepts, all_broken, alone_rule, bound_by, broken_if, cond_broken, expr_broken, exprs_broken, first_broken, handler_broken, has_name, is_bag, is_param, item_broken, least, lets_of, maybe_broken, names_of, once_broken, repeated, stmt_broken, stmts_broken}
 use Rattle.module_semantics.specs.Raw as raw

@@ -3,8 +3,8 @@ use Rattle.std.proofs.Common.{◌≡◌, ◌⊎◌, inl, inr, ℕ, List, Bool, t
 use Rattle.std.specs.Prelude.{IfOk, IfErr, IfSome, is_some}
 use Rattle.std.proofs.lemmas.Bool.{false≢true}
 use Prim.{⊥}
-use Rattle.hmr_types.specs.Tree.{module_of}
-use Rattle.hmr_types.specs.declared.tree.Module.{Module}
+use Rattle.module_tree.specs.Tree.{module_of}
+use Rattle.module_tree.specs.declared.tree.Module.{Module}
 use Rattle.hmr_types.specs.declared.analysis.FaultWord.{FaultWord}
 use Rattle.hmr_types.specs.declared.analysis.FaultWord.TheVariants as words
 use Rattle.hmr_types.specs.declared.analysis.TextFault.{TextFault}

@@ -1,13 +1,13 @@
 -- Rows of operators, and conditions.
 use Rattle.std.proofs.Common.{◌≡◌, List, [], ◌∷◌, refl, ap, length, ◌<◌, arith, map, Box, Vec, Global, sym, ◌∙◌}
 use Rattle.std.specs.Prelude.{Some, None}
-use Rattle.hmr_types.specs.Syntax as tree
-use Rattle.hmr_types.specs.declared.tree.Op.{Op}
+use Rattle.module_tree.specs.Syntax as tree
+use Rattle.module_tree.specs.declared.tree.Op.{Op}
 use Rattle.module_semantics.specs.Kinds.{NameAt}
 use Rattle.module_semantics.specs.NameRules.{Within}
 use Rattle.module_semantics.specs.Raw as raw
 use Rattle.module_semantics.specs.Raw.{RawExpr, RawStmt, stmts_of}
-use Rattle.hmr_types.specs.Tree.{stmts}
+use Rattle.module_tree.specs.Tree.{stmts}
 use Rattle.hot_grammar.specs.declared.raw_expr.RawExpr as code
 use Rattle.hot_grammar.specs.declared.raw_expr.RawExpr.TheViews.{Row}
 use Rattle.hot_grammar.specs.declared.raw_expr.RawExpr.TheFolds.{fold-roll-RawExpr}

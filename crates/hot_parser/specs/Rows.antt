@@ -1,8 +1,8 @@
 -- The tree of a row of operators.
 use Rattle.std.specs.Prelude.{List, [], ◌∷◌}
-use Rattle.hmr_types.specs.Syntax as tree
-use Rattle.hmr_types.specs.Syntax.{ExprTree}
-use Rattle.hmr_types.specs.declared.tree.Op.{Op}
+use Rattle.module_tree.specs.Syntax as tree
+use Rattle.module_tree.specs.Syntax.{ExprTree}
+use Rattle.module_tree.specs.declared.tree.Op.{Op}
 use Rattle.module_semantics.specs.NameRules.{Within}
 use Rattle.module_semantics.specs.Raw.{RawExpr}
 use Rattle.module_semantics.specs.Resolving.{expr_tree}

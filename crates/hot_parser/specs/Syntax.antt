@@ -1,7 +1,7 @@
 -- Faults of a module text as code gives them.
 use Rattle.std.specs.Prelude.{◌≡◌, Option, Some, None, Result, Ok, Err}
 use Rattle.std.specs.Option.{option_map}
-use Rattle.hmr_types.specs.Syntax.{ModuleTree}
+use Rattle.module_tree.specs.Syntax.{ModuleTree}
 use Rattle.hmr_types.specs.declared.analysis.FaultWord.{FaultWord}
 use Rattle.hmr_types.specs.declared.analysis.FaultWord.TheVariants as words
 use Rattle.hmr_types.specs.declared.analysis.TextFault.{TextFault}

@@ -12,8 +12,9 @@ ghost use Rattle.hot_parser.specs.Within.{within_of};
 use crate::alone::alone;
 use crate::name_table::NameTable;
 use crate::within::Within;
-use hmr_types::{Name, Op};
+use hmr_types::Name;
 use hot_grammar::{NameAt, RawExpr, RawHandler, RawImport, RawItem, RawOnce, RawStmt};
+use module_tree::Op;
 use std::alloc::{AllocError, Global};
 
 /// A rule on names.

@@ -2,7 +2,7 @@
 // and what is wrong first is told.
 ghost use Rattle.std.specs.Option.{option_map};
 ghost use Rattle.std.specs.Prelude.{◌≡◌, ◌≤◌, ◌⊎◌, IfErr, IfOk, IfSome, List, None, Result, Err, Ok, length};
-ghost use Rattle.hmr_types.specs.Tree.{module_of};
+ghost use Rattle.module_tree.specs.Tree.{module_of};
 ghost use Rattle.hmr_types.specs.declared.limits.TheConstants.{DEPTH};
 ghost use Rattle.hot_grammar.specs.Raw.{raw_items_of};
 ghost use Rattle.module_semantics.specs.Lexing as lexing;
@@ -20,9 +20,9 @@ ghost use Rattle.hot_parser.specs.declared.syntax_fault.SyntaxKind.TheVariants.{
 use crate::names::{Broken, NameRule, first_broken};
 use crate::resolving::module_tree;
 use crate::syntax_fault::{SyntaxFault, SyntaxKind, fault_at};
-use hmr_types::Module;
 use hot_grammar::{GrammarFault, LineToken, RawItem, line_tokens, read_items};
 use hot_lexer::{LexFault, LexKind, lex};
+use module_tree::Module;
 use std::alloc::Global;
 
 /// The module that a text is, or its first fault. The text has at most 4,294,967,294 bytes.

@@ -2,8 +2,8 @@
 // callback of `dispose` or `prune` the keys of its parameter are those of the bag, and in one of `accept`
 // a parameter is told by its place.
 ghost use Rattle.std.specs.Prelude.{◌≡◌, IfOk, map};
-ghost use Rattle.hmr_types.specs.Syntax.{binary};
-ghost use Rattle.hmr_types.specs.Tree.{cond_of, expr_of, handler_of, item_of, module_of, once_of, stmt_of, stmts_of};
+ghost use Rattle.module_tree.specs.Syntax.{binary};
+ghost use Rattle.module_tree.specs.Tree.{cond_of, expr_of, handler_of, item_of, module_of, once_of, stmt_of, stmts_of};
 ghost use Rattle.hot_grammar.specs.Raw.{name_at_of, operation_of, raw_expr_of, raw_handler_of, raw_import_of, raw_item_of, raw_items_of, raw_once_of, raw_stmt_of, raw_stmts_of};
 ghost use Rattle.module_semantics.specs.NameRules.{names_of};
 ghost use Rattle.module_semantics.specs.Resolving.{accept_tree, cond_tree, expr_tree, handler_tree, import_name, item_tree, member_tree, module_tree, name_cond, once_handler_tree, once_tree, stmt_tree, stmts_tree};
@@ -13,10 +13,9 @@ ghost use Rattle.hot_parser.specs.Within.{within_of};
 use crate::alone::alone;
 use crate::name_table::NameTable;
 use crate::within::Within;
-use hmr_types::{
-    Cond, Expr, HandlerCode, ImportName, Item, Module, Name, Once, Op, Sequence, Stmt,
-};
+use hmr_types::{Name, Sequence};
 use hot_grammar::{NameAt, RawExpr, RawHandler, RawImport, RawItem, RawOnce, RawStmt};
+use module_tree::{Cond, Expr, HandlerCode, ImportName, Item, Module, Once, Op, Stmt};
 use std::alloc::{AllocError, Global};
 
 /// The tree of what the grammar tells of a module. Parameters are looked up in a table: the time is

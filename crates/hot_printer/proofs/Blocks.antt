@@ -1,8 +1,8 @@
 -- Indentation, and the other body of an if.
 use Rattle.std.proofs.Common.{◌≡◌, ℕ, zero, suc, ◌+◌, ◌<◌, List, [], ◌∷◌, ◌++◌, length, append_assoc, refl, ap, ◌∙◌, arith, sym}
 use Rattle.std.specs.Prelude.{Result, OnOk, codes}
-use Rattle.hmr_types.specs.Tree.{stmts_of}
-use Rattle.hmr_types.specs.declared.tree.Stmt.{Stmt}
+use Rattle.module_tree.specs.Tree.{stmts_of}
+use Rattle.module_tree.specs.declared.tree.Stmt.{Stmt}
 use Rattle.module_semantics.specs.Canon.{else_text, indent}
 use Rattle.hot_printer.proofs.Puts.{three_puts}
 

@@ -2,11 +2,11 @@
 use Rattle.std.proofs.Common.{◌≡◌, ℕ, suc, ◌+◌, ◌<◌, ◌≤◌, List, [], ◌∷◌, ◌++◌, Bool, true, false, refl, ap, ◌∙◌, sym, subst, map, arith, append_assoc, Bor}
 use Rattle.std.specs.Prelude.{codes, nat_lt, if◌then◌else◌}
 use Rattle.std.proofs.lemmas.List.{append-nil}
-use Rattle.hmr_types.specs.Tree.{expr_of}
-use Rattle.hmr_types.specs.declared.tree.Expr.{Expr}
-use Rattle.hmr_types.specs.declared.tree.Op.{Op}
-use Rattle.hmr_types.specs.Syntax as tree
-use Rattle.hmr_types.specs.Syntax.{ExprTree}
+use Rattle.module_tree.specs.Tree.{expr_of}
+use Rattle.module_tree.specs.declared.tree.Expr.{Expr}
+use Rattle.module_tree.specs.declared.tree.Op.{Op}
+use Rattle.module_tree.specs.Syntax as tree
+use Rattle.module_tree.specs.Syntax.{ExprTree}
 use Rattle.module_semantics.specs.Canon.{op_level}
 use Rattle.hot_printer.specs.Rows.{after_left, at_place, closing, opening, right_text}
 

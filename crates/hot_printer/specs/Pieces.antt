@@ -1,6 +1,6 @@
 -- Pieces of the canonical text that are written by one function each.
 use Rattle.std.specs.Prelude.{ℕ, suc, List, ◌++◌, codes}
-use Rattle.hmr_types.specs.Syntax.{CondTree, ExprTree, HandlerTree, StmtTrees}
+use Rattle.module_tree.specs.Syntax.{CondTree, ExprTree, HandlerTree, StmtTrees}
 use Rattle.module_semantics.specs.Canon.{cond_text, expr_text, indent, stmts_text}
 
 -- what is given to a variable or a key

@@ -1,7 +1,7 @@
 -- The text of a row of operators, from its front.
 use Rattle.std.specs.Prelude.{ℕ, suc, List, [], ◌++◌, Bool, true, false, codes}
-use Rattle.hmr_types.specs.Syntax.{ExprTree}
-use Rattle.hmr_types.specs.declared.tree.Op.{Op}
+use Rattle.module_tree.specs.Syntax.{ExprTree}
+use Rattle.module_tree.specs.declared.tree.Op.{Op}
 use Rattle.module_semantics.specs.Canon.{expr_text, level, op_level, op_text, placed}
 
 -- an expression at a place that asks for this level

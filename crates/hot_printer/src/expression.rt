@@ -4,14 +4,15 @@
 // the innermost out. What else stands inside an expression is at most as deep as the module language
 // allows, and is written by recursion.
 ghost use Rattle.std.specs.Prelude.{◌≡◌, ◌≤◌, ◌++◌, OnOk, codes, map};
-ghost use Rattle.hmr_types.specs.Syntax.{choose, member, neg};
-ghost use Rattle.hmr_types.specs.Tree.{expr_of};
+ghost use Rattle.module_tree.specs.Syntax.{choose, member, neg};
+ghost use Rattle.module_tree.specs.Tree.{expr_of};
 ghost use Rattle.module_semantics.specs.Canon.{comma_then, commas, dot_text, expr_text, level, op_level, op_text};
 ghost use Rattle.hot_printer.specs.Rows.{at_place, closing, opening, right_text};
 
 use crate::names::put_param;
 use crate::text::{put, put_both, put_number, put_quoted};
-use hmr_types::{Expr, Name, Op};
+use hmr_types::Name;
+use module_tree::{Expr, Op};
 use std::alloc::{AllocError, Global};
 
 /// Puts an expression. It takes time in proportion to the expression and to its text.

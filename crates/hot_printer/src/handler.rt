@@ -1,13 +1,14 @@
 // The text of callbacks: their parameters, and their statements inside one block.
 ghost use Rattle.std.specs.Prelude.{◌≡◌, ◌++◌, OnOk};
-ghost use Rattle.hmr_types.specs.Tree.{handler_of, once_of, stmts_of};
+ghost use Rattle.module_tree.specs.Tree.{handler_of, once_of, stmts_of};
 ghost use Rattle.module_semantics.specs.Canon.{handler_text, list_handler_text, list_params, once_text};
 ghost use Rattle.hot_printer.specs.Pieces.{body_text};
 
 use crate::names::put_names;
 use crate::statement::put_stmts;
 use crate::text::{put, put_quoted};
-use hmr_types::{HandlerCode, Name, Once};
+use hmr_types::Name;
+use module_tree::{HandlerCode, Once};
 use std::alloc::{AllocError, Global};
 
 /// Puts a callback or a host closure.

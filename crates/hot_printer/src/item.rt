@@ -1,15 +1,16 @@
 // The text of an item: each production has its function.
 ghost use Rattle.std.specs.Prelude.{◌≡◌, ◌++◌, OnOk, codes, map};
 ghost use Rattle.std.specs.Option.{option_map};
-ghost use Rattle.hmr_types.specs.Tree.{expr_of, handler_of, item_of, once_of};
+ghost use Rattle.module_tree.specs.Tree.{expr_of, handler_of, item_of, once_of};
 ghost use Rattle.module_semantics.specs.Canon.{call_text, comma_then, commas, declare_text, deps_handler_text, export_text, import_name_text, import_text, item_text, once_text, own_text, quoted, specs_text};
-ghost use Rattle.hmr_types.specs.Syntax.{declare, deps, own};
+ghost use Rattle.module_tree.specs.Syntax.{declare, deps, own};
 
 use crate::expression::put_expr;
 use crate::handler::{put_handler, put_list_handler, put_once};
 use crate::statement::put_stmt;
 use crate::text::{put, put_quoted};
-use hmr_types::{Expr, HandlerCode, ImportName, Item, Name, Once, Text};
+use hmr_types::{Name, Text};
+use module_tree::{Expr, HandlerCode, ImportName, Item, Once};
 use std::alloc::{AllocError, Global};
 
 /// Puts an item.

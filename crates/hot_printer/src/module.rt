@@ -1,10 +1,10 @@
 // The text of a module: its items, in order.
 ghost use Rattle.std.specs.Prelude.{◌≡◌, ◌++◌, IfOk, OnOk, map};
-ghost use Rattle.hmr_types.specs.Tree.{item_of, module_of};
+ghost use Rattle.module_tree.specs.Tree.{item_of, module_of};
 ghost use Rattle.module_semantics.specs.Canon.{canon};
 
 use crate::item::put_item;
-use hmr_types::{Item, Module};
+use module_tree::{Item, Module};
 use std::alloc::{AllocError, Global};
 
 /// The canonical text of a module: each item and statement on lines of its own, two spaces for each

@@ -1,15 +1,16 @@
 // The text of statements: each on lines of its own, two spaces further in for each block round it.
 ghost use Rattle.std.specs.Prelude.{◌≡◌, ◌++◌, OnOk, map, suc};
 ghost use Rattle.std.specs.Option.{option_map};
-ghost use Rattle.hmr_types.specs.Syntax.{assign, bag_set, invalidate, log, throw};
-ghost use Rattle.hmr_types.specs.Tree.{cond_of, expr_of, stmt_of, stmts_of};
+ghost use Rattle.module_tree.specs.Syntax.{assign, bag_set, invalidate, log, throw};
+ghost use Rattle.module_tree.specs.Tree.{cond_of, expr_of, stmt_of, stmts_of};
 ghost use Rattle.hot_printer.specs.Pieces.{block_text, if_text, value_text};
 ghost use Rattle.module_semantics.specs.Canon.{cond_text, else_text, indent, stmt_text, stmts_text, told_text};
 
 use crate::expression::{put_expr, put_exprs, put_key};
 use crate::names::put_param;
 use crate::text::put;
-use hmr_types::{Cond, Expr, Name, Stmt};
+use hmr_types::Name;
+use module_tree::{Cond, Expr, Stmt};
 use std::alloc::{AllocError, Global};
 
 /// Puts statements in order, inside so many blocks.

@@ -4,7 +4,7 @@ use Rattle.std.specs.Prelude.{flat_map, if◌then◌else◌}
 use Rattle.std.proofs.lemmas.Bool.{le-ltb, lt-ltb}
 use Rattle.std.proofs.lemmas.List.{length-take, take_all}
 use Rattle.hmr_types.specs.Specifier as specifier
-use Rattle.hmr_types.specs.Syntax.{ModuleTree}
+use Rattle.module_tree.specs.Syntax.{ModuleTree}
 use Rattle.hmr_types.specs.declared.analysis.Analysis.{Analysis}
 use Rattle.hmr_types.specs.declared.specifier.SpecFault.{SpecFault}
 use Rattle.hmr_types.specs.declared.specifier.SpecFault.TheVariants as specs

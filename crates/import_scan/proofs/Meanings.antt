@@ -4,8 +4,8 @@ use Rattle.std.specs.Prelude.{flat_map}
 use Rattle.std.proofs.lemmas.List.{append_assoc, append-nil}
 use Rattle.hmr_types.specs.Results.{◌>>=◌}
 use Rattle.hmr_types.specs.Specifier.{resolve}
-use Rattle.hmr_types.specs.Syntax as tree
-use Rattle.hmr_types.specs.Syntax.{ItemTree, ModuleTree}
+use Rattle.module_tree.specs.Syntax as tree
+use Rattle.module_tree.specs.Syntax.{ItemTree, ModuleTree}
 use Rattle.hmr_types.specs.declared.specifier.SpecFault.{SpecFault}
 use Rattle.module_semantics.specs.Analysis.{accepted_by, first_refusal, imported_by, meant, name_and, refusal_or, specifiers_of}
 use Rattle.import_scan.specs.Scanning.{Meant, accept_more, import_more, meant_in, none_meant, unless, with_accepts, with_items}

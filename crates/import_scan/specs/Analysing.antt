@@ -1,7 +1,7 @@
 -- The steps of an analysis.
 use Rattle.std.specs.Prelude.{filter, flat_map, Option, Some, None}
 use Rattle.std.specs.List.{list_any}
-use Rattle.hmr_types.specs.Syntax.{ModuleTree}
+use Rattle.module_tree.specs.Syntax.{ModuleTree}
 use Rattle.hmr_types.specs.declared.analysis.Analysis.{Analysis}
 use Rattle.hmr_types.specs.declared.analysis.FaultWord.{FaultWord}
 use Rattle.hmr_types.specs.declared.analysis.FaultWord.TheVariants as words

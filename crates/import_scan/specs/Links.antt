@@ -1,11 +1,11 @@
 -- Which names a module imports from which dependency.
 use Rattle.std.specs.Prelude.{ℕ, List, [], flat_map, map, Result, Ok, Err}
-use Rattle.hmr_types.specs.Syntax as tree
-use Rattle.hmr_types.specs.Syntax.{ItemTree, ModuleTree}
+use Rattle.module_tree.specs.Syntax as tree
+use Rattle.module_tree.specs.Syntax.{ItemTree, ModuleTree}
 use Rattle.hmr_types.specs.Specifier.{resolve}
 use Rattle.hmr_types.specs.declared.specifier.SpecFault.{SpecFault}
 use Rattle.hmr_types.specs.declared.analysis.TextFault.{TextFault}
-use Rattle.hmr_types.specs.declared.tree.ImportName.{ImportName}
+use Rattle.module_tree.specs.declared.tree.ImportName.{ImportName}
 use Rattle.module_semantics.specs.ModuleText.{parsing}
 
 -- the dependency with each of the names

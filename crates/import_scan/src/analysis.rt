@@ -2,7 +2,7 @@
 // since the first that means no module goes before every other fault.
 ghost use Rattle.std.specs.List.{list_any};
 ghost use Rattle.std.specs.Prelude.{◌≡◌, IfOk, filter, flat_map, map};
-ghost use Rattle.hmr_types.specs.Tree.{item_of, module_of};
+ghost use Rattle.module_tree.specs.Tree.{item_of, module_of};
 ghost use Rattle.module_semantics.specs.Analysis.{analysed, exported_by, firsts, is_decline, is_own};
 ghost use Rattle.module_semantics.specs.Entries.{has_name};
 ghost use Rattle.import_scan.specs.Analysing.{analysis_with, scan_fault};
@@ -11,8 +11,9 @@ ghost use Rattle.import_scan.specs.Scanning.{add_among, meant_of};
 
 use crate::specifiers::{Meant, meant_in};
 use hmr_types::limits::IMPORTS;
-use hmr_types::{Analysis, Item, ModName, Module, Name, Sequence, SpecFault};
+use hmr_types::{Analysis, ModName, Name, Sequence, SpecFault};
 use module_semantics::ScanFault;
+use module_tree::{Item, Module};
 use std::alloc::{AllocError, Global};
 
 /// The analysis of a module of the name `base`: its imports and the imports that it accepts, each

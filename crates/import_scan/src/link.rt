@@ -2,11 +2,12 @@
 // keeps the dependencies without the names.
 ghost use Rattle.std.specs.Prelude.{◌≡◌, ◌+◌, ◌++◌, ◌<◌, ◌^◌, IfOk, length, map};
 ghost use Rattle.hmr_types.specs.Specifier.{resolve};
-ghost use Rattle.hmr_types.specs.Tree.{item_of};
+ghost use Rattle.module_tree.specs.Tree.{item_of};
 ghost use Rattle.import_scan.specs.Links.{linked, links, links_of, with_names};
 
-use hmr_types::{ImportName, Item, ModName, Name, SpecFault, Text, resolve};
+use hmr_types::{ModName, Name, SpecFault, Text, resolve};
 use hot_parser::parse;
+use module_tree::{ImportName, Item};
 use std::alloc::{AllocError, Global};
 use std::marker::Model;
 

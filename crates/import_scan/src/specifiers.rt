@@ -1,11 +1,12 @@
 // What the specifiers of a module mean, in the order of the text, up to the first that means none.
 ghost use Rattle.std.specs.Prelude.{◌≡◌, IfOk, map};
 ghost use Rattle.hmr_types.specs.Specifier.{Gives};
-ghost use Rattle.hmr_types.specs.Tree.{item_of};
+ghost use Rattle.module_tree.specs.Tree.{item_of};
 ghost use Rattle.import_scan.specs.Scanning.{add_import, meant_in, meant_of, with_accepts, with_import, with_item, with_items};
 
 use hmr_types::limits::IMPORTS;
-use hmr_types::{Item, ModName, SpecFault, Text, resolve};
+use hmr_types::{ModName, SpecFault, Text, resolve};
+use module_tree::Item;
 use std::alloc::{AllocError, Global};
 
 /// The modules that specifiers mean.

@@ -1,15 +1,16 @@
 // A module text with its outcome.
 ghost use Rattle.std.specs.Prelude.{◌≡◌, ◌+◌, ◌<◌, ◌^◌, IfOk, length};
-ghost use Rattle.hmr_types.specs.Tree.{module_of};
+ghost use Rattle.module_tree.specs.Tree.{module_of};
 ghost use Rattle.module_semantics.specs.ModuleText.{parsing};
 ghost use Rattle.module_semantics.specs.Analysis.{analysed, scan_outcome, transformed};
 ghost use Rattle.import_scan.specs.Analysing.{told_word};
 ghost use Rattle.import_scan.specs.Transform.{Transform};
 
 use crate::analyse;
-use hmr_types::{FaultWord, ModName, Module, Outcome, SpecFault, TextFault};
+use hmr_types::{FaultWord, ModName, Outcome, SpecFault, TextFault};
 use hot_parser::parse;
 use module_semantics::ScanFault;
+use module_tree::Module;
 use std::alloc::{AllocError, Global};
 use std::marker::Model;
 

@@ -4,16 +4,16 @@ use Rattle.std.proofs.Common.{◌≡◌, ℕ, suc, ◌+◌, Bool, true, false, L
 use Rattle.std.specs.Prelude.{map, ◌&&◌, ◌||◌, if◌then◌else◌}
 use Rattle.std.specs.List.{list_any}
 use Rattle.std.proofs.lemmas.Bool.{false≢true}
-use Rattle.hmr_types.specs.declared.words.Kind.{Kind}
-use Rattle.hmr_types.specs.declared.words.Kind.TheVariants as kind
-use Rattle.hmr_types.specs.declared.words.HandlerEnd.{HandlerEnd}
-use Rattle.hmr_types.specs.declared.words.HandlerEnd.TheVariants.{Held, Dropped}
-use Rattle.hmr_types.specs.declared.words.FaultPlace.{FaultPlace}
-use Rattle.hmr_types.specs.declared.words.FaultPlace.TheVariants as place
-use Rattle.hmr_types.specs.declared.words.InstanceFate.{InstanceFate}
-use Rattle.hmr_types.specs.declared.words.InstanceFate.TheVariants.{Live, Replaced, Pruned, Reloaded}
+use Rattle.hmr_types.specs.declared.words.HandlerKind.{HandlerKind}
+use Rattle.hmr_types.specs.declared.words.HandlerKind.TheVariants as kind
+use Rattle.output_lines.specs.declared.words.HandlerEnd.{HandlerEnd}
+use Rattle.output_lines.specs.declared.words.HandlerEnd.TheVariants.{Held, Dropped}
+use Rattle.output_lines.specs.declared.words.FaultPlace.{FaultPlace}
+use Rattle.output_lines.specs.declared.words.FaultPlace.TheVariants as place
+use Rattle.output_lines.specs.declared.words.InstanceFate.{InstanceFate}
+use Rattle.output_lines.specs.declared.words.InstanceFate.TheVariants.{Live, Replaced, Pruned, Reloaded}
 use Rattle.core_model.specs.Sources.{Text}
-use Rattle.core_model.specs.declared.message.ServerMsg.{ServerMsg}
+use Rattle.update_msgs.specs.declared.message.ServerMsg.{ServerMsg}
 use Rattle.client_model.specs.Language.{Language}
 use Rattle.client_model.specs.Instance.{Handler, is_live_fate, is_held_end, is_held, is_dispose, is_prune, disposes, prunes, accepts_own, accepts_dep, places_from}
 use Rattle.client_model.specs.Running.{end_after}
@@ -32,20 +32,20 @@ use Rattle.journal_laws.proofs.CountsWords.{is_use_at, count_of, count_then, use
 use Rattle.journal_laws.proofs.CountsSteps.{uses_used_at, uses_lost_at}
 
 -- some handler is of a kind that passes the test
-abbrev pub has_kind : (Kind → Bool) → List Handler → Bool
+abbrev pub has_kind : (HandlerKind → Bool) → List Handler → Bool
 has_kind target hs = list_any (λ h. target h.kind) hs
 
-kinds_stay : (target : Kind → Bool) (test : Handler → Bool) (end : Handler → HandlerEnd) (hs : List Handler) → has_kind target (map (changed test end) hs) ≡ has_kind target hs
+kinds_stay : (target : HandlerKind → Bool) (test : Handler → Bool) (end : Handler → HandlerEnd) (hs : List Handler) → has_kind target (map (changed test end) hs) ≡ has_kind target hs
 kinds_stay target test end [] = refl
 kinds_stay target test end (h ∷ hs) = ap (λ k. target k || has_kind target (map (changed test end) hs)) (changed_kind test end h) ∙ ap (λ b. target h.kind || b) (kinds_stay target test end hs)
 
 -- Of the handlers of a kind that displace one another all but the last are displaced; that one is held.
 
-module _ (target : Kind → Bool) (P : Kind → HandlerEnd → Type 0) (displacing : (earlier later : Kind) → target earlier ≡ true → displaces later earlier ≡ target later) (holds : (k : Kind) (e : HandlerEnd) → target k ≡ true → P k e → e ≡ Held) where
+module _ (target : HandlerKind → Bool) (P : HandlerKind → HandlerEnd → Type 0) (displacing : (earlier later : HandlerKind) → target earlier ≡ true → displaces later earlier ≡ target later) (holds : (k : HandlerKind) (e : HandlerEnd) → target k ≡ true → P k e → e ≡ Held) where
   abbrev held_of : Handler → Bool
   held_of h = is_held h && target h.kind
 
-  displaced_if : (k : Kind) → target k ≡ true → (later : List Handler) → is_displaced k later ≡ has_kind target later
+  displaced_if : (k : HandlerKind) → target k ≡ true → (later : List Handler) → is_displaced k later ≡ has_kind target later
   displaced_if k t [] = refl
   displaced_if k t (h ∷ later) = ap (λ b. b || is_displaced k later) (displacing k h.kind t) ∙ ap (λ b. target h.kind || b) (displaced_if k t later)
 
@@ -65,7 +65,7 @@ module _ (target : Kind → Bool) (P : Kind → HandlerEnd → Type 0) (displaci
       by true e true f s more = ap (λ c. length (if c then from ∷ rest else rest)) (ap (λ end. is_held_end end && target h.kind) s) ∙ more ∙ ap once_if (sym (displaced_if h.kind e later) ∙ f)
       by true e false f s more = ap (λ c. length (if c then from ∷ rest else rest)) (ap (λ end. is_held_end end && target h.kind) (holds h.kind h.end e s) ∙ e) ∙ ap suc (more ∙ ap once_if (sym (displaced_if h.kind e later) ∙ f))
 
-disposers_displace : (earlier later : Kind) → is_dispose earlier ≡ true → displaces later earlier ≡ is_dispose later
+disposers_displace : (earlier later : HandlerKind) → is_dispose earlier ≡ true → displaces later earlier ≡ is_dispose later
 disposers_displace kind.Dispose kind.Dispose e = refl
 disposers_displace kind.Dispose kind.Prune e = refl
 disposers_displace kind.Dispose kind.Own e = refl
@@ -74,7 +74,7 @@ disposers_displace kind.Prune later e = absurd (false≢true e)
 disposers_displace kind.Own later e = absurd (false≢true e)
 disposers_displace kind.Dep later e = absurd (false≢true e)
 
-prunes_displace : (earlier later : Kind) → is_prune earlier ≡ true → displaces later earlier ≡ is_prune later
+prunes_displace : (earlier later : HandlerKind) → is_prune earlier ≡ true → displaces later earlier ≡ is_prune later
 prunes_displace kind.Dispose later e = absurd (false≢true e)
 prunes_displace kind.Prune kind.Dispose e = refl
 prunes_displace kind.Prune kind.Prune e = refl
@@ -83,7 +83,7 @@ prunes_displace kind.Prune kind.Dep e = refl
 prunes_displace kind.Own later e = absurd (false≢true e)
 prunes_displace kind.Dep later e = absurd (false≢true e)
 
-prune_held : (k : Kind) (e : HandlerEnd) → is_prune k ≡ true → DisposerSpent k e → e ≡ Held
+prune_held : (k : HandlerKind) (e : HandlerEnd) → is_prune k ≡ true → DisposerSpent k e → e ≡ Held
 prune_held kind.Dispose e t p = absurd (false≢true t)
 prune_held kind.Prune e t p = p
 prune_held kind.Own e t p = p
@@ -122,7 +122,7 @@ record Once (x : Shape) (ws : List Word) : Type 0 where
   disposals : runs_at is_dispose_place ws ≡ once_if (is_disposed x.fate && has_kind is_dispose x.handlers)
   prunings : runs_at is_prune_place ws ≡ once_if (is_pruned x.fate && has_kind is_prune x.handlers)
 
-same_kinds : (b : Bool) (target : Kind → Bool) (test : Handler → Bool) (end : Handler → HandlerEnd) (hs : List Handler) → once_if (b && has_kind target hs) ≡ once_if (b && has_kind target (map (changed test end) hs))
+same_kinds : (b : Bool) (target : HandlerKind → Bool) (test : Handler → Bool) (end : Handler → HandlerEnd) (hs : List Handler) → once_if (b && has_kind target hs) ≡ once_if (b && has_kind target (map (changed test end) hs))
 same_kinds b target test end hs = ap (λ c. once_if (b && c)) (sym (kinds_stay target test end hs))
 
 once_run : (at : FaultPlace) → is_dispose_place at ≡ false → is_prune_place at ≡ false → (test : Handler → Bool) (x : Shape) (ws : List Word) → Once x ws → Once (run_shape test x) (ws ++ run_words at test x)

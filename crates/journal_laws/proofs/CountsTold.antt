@@ -7,12 +7,12 @@ use Rattle.std.proofs.lemmas.Bool.{false≢true}
 use Rattle.std.proofs.lemmas.Grind.{flat_map-append}
 use Rattle.std.proofs.lemmas.List.{append_assoc, append-nil, map-append}
 use Rattle.std.proofs.lemmas.Option.{slice_get-map}
-use Rattle.hmr_types.specs.declared.words.Kind.{Kind}
-use Rattle.hmr_types.specs.declared.words.Kind.TheVariants as kind
-use Rattle.hmr_types.specs.declared.words.HandlerEnd.{HandlerEnd}
-use Rattle.hmr_types.specs.declared.words.HandlerEnd.TheVariants.{Held, Spent, Dropped}
-use Rattle.hmr_types.specs.declared.words.FaultPlace.{FaultPlace}
-use Rattle.hmr_types.specs.declared.words.InstanceFate.{InstanceFate}
+use Rattle.hmr_types.specs.declared.words.HandlerKind.{HandlerKind}
+use Rattle.hmr_types.specs.declared.words.HandlerKind.TheVariants as kind
+use Rattle.output_lines.specs.declared.words.HandlerEnd.{HandlerEnd}
+use Rattle.output_lines.specs.declared.words.HandlerEnd.TheVariants.{Held, Spent, Dropped}
+use Rattle.output_lines.specs.declared.words.FaultPlace.{FaultPlace}
+use Rattle.output_lines.specs.declared.words.InstanceFate.{InstanceFate}
 use Rattle.core_model.specs.Names.{Name}
 use Rattle.client_model.specs.Instance.{Handler, is_held_end, ended_as, with_dropped, places_from}
 use Rattle.client_model.specs.Running.{end_after}
@@ -51,13 +51,13 @@ held_now Held t = refl
 held_now Spent t = absurd (false≢true t)
 held_now Dropped t = absurd (false≢true t)
 
-run_once : (k : Kind) (runs drops : ℕ) → IsToldAs Held k runs drops → IsToldAs (end_after k) k (runs + 1) (drops + 0)
+run_once : (k : HandlerKind) (runs drops : ℕ) → IsToldAs Held k runs drops → IsToldAs (end_after k) k (runs + 1) (drops + 0)
 run_once kind.Dispose runs drops t = (omega (arith, t.0), omega (arith, t.1 refl), refl)
 run_once kind.Prune runs drops t = (omega (arith, t.0), omega (arith, t.1 refl), refl)
 run_once kind.Own runs drops t = (omega (arith, t.0), omega (arith, t.1 refl), refl)
 run_once kind.Dep runs drops t = (omega (arith, t.0), λ e. absurd (false≢true (sym e)))
 
-drop_once : (k : Kind) (runs drops : ℕ) → IsToldAs Held k runs drops → IsToldAs Dropped k (runs + 0) (drops + 1)
+drop_once : (k : HandlerKind) (runs drops : ℕ) → IsToldAs Held k runs drops → IsToldAs Dropped k (runs + 0) (drops + 1)
 drop_once k runs drops t = (omega (arith, t.0), λ e. omega (arith, t.1 e))
 
 as_before : (o : Option Handler) (runs drops : ℕ) → ToldAt o runs drops → ToldAt o (runs + 0) (drops + 0)

@@ -6,17 +6,17 @@ use Prim.{⊥}
 use Rattle.std.proofs.Math.Path.{subst}
 use Rattle.std.proofs.lemmas.Bool.{false≢true}
 use Rattle.std.proofs.lemmas.Option.{slice_get-map}
-use Rattle.hmr_types.specs.declared.words.Kind.{Kind}
-use Rattle.hmr_types.specs.declared.words.Kind.TheVariants as kind
-use Rattle.hmr_types.specs.declared.words.HandlerEnd.{HandlerEnd}
-use Rattle.hmr_types.specs.declared.words.HandlerEnd.TheVariants.{Dropped}
-use Rattle.hmr_types.specs.declared.words.FaultPlace.{FaultPlace}
-use Rattle.hmr_types.specs.declared.words.FaultPlace.TheVariants as place
-use Rattle.hmr_types.specs.declared.words.InstanceFate.{InstanceFate}
-use Rattle.hmr_types.specs.declared.words.InstanceFate.TheVariants.{Replaced, Pruned, Reloaded}
+use Rattle.hmr_types.specs.declared.words.HandlerKind.{HandlerKind}
+use Rattle.hmr_types.specs.declared.words.HandlerKind.TheVariants as kind
+use Rattle.output_lines.specs.declared.words.HandlerEnd.{HandlerEnd}
+use Rattle.output_lines.specs.declared.words.HandlerEnd.TheVariants.{Dropped}
+use Rattle.output_lines.specs.declared.words.FaultPlace.{FaultPlace}
+use Rattle.output_lines.specs.declared.words.FaultPlace.TheVariants as place
+use Rattle.output_lines.specs.declared.words.InstanceFate.{InstanceFate}
+use Rattle.output_lines.specs.declared.words.InstanceFate.TheVariants.{Replaced, Pruned, Reloaded}
 use Rattle.core_model.specs.Names.{Name, has}
 use Rattle.core_model.specs.Sources.{Text}
-use Rattle.core_model.specs.declared.message.ServerMsg.{ServerMsg}
+use Rattle.update_msgs.specs.declared.message.ServerMsg.{ServerMsg}
 use Rattle.core_model.proofs.Naming.{both_true}
 use Rattle.client_model.specs.Language.{Language, Bag, Ran}
 use Rattle.client_model.specs.Instance.{Instance, Handler, is_held, is_dispose, is_prune, is_own, is_dep, disposes, prunes, accepts_own, accepts_dep, numbered, places_from}
@@ -129,25 +129,25 @@ kept_drop test held x ws k = (
 kept_end : (fate : InstanceFate) (x : Shape) (ws : List Word) → Kept x ws → Kept (end_shape fate x) (ws ++ fell fate ∷ [])
 kept_end fate x ws k = (told_end fate x.handlers ws k.0, words_append (Fits x.name x.handlers) ws (fell fate ∷ []) k.1 (tt, tt))
 
-dispose_place : (k : Kind) → is_dispose k ≡ true → place_of k ≡ place.Dispose
+dispose_place : (k : HandlerKind) → is_dispose k ≡ true → place_of k ≡ place.Dispose
 dispose_place kind.Dispose e = refl
 dispose_place kind.Prune e = absurd (false≢true e)
 dispose_place kind.Own e = absurd (false≢true e)
 dispose_place kind.Dep e = absurd (false≢true e)
 
-prune_place : (k : Kind) → is_prune k ≡ true → place_of k ≡ place.Prune
+prune_place : (k : HandlerKind) → is_prune k ≡ true → place_of k ≡ place.Prune
 prune_place kind.Dispose e = absurd (false≢true e)
 prune_place kind.Prune e = refl
 prune_place kind.Own e = absurd (false≢true e)
 prune_place kind.Dep e = absurd (false≢true e)
 
-own_place : (k : Kind) → is_own k ≡ true → place_of k ≡ place.Own
+own_place : (k : HandlerKind) → is_own k ≡ true → place_of k ≡ place.Own
 own_place kind.Dispose e = absurd (false≢true e)
 own_place kind.Prune e = absurd (false≢true e)
 own_place kind.Own e = refl
 own_place kind.Dep e = absurd (false≢true e)
 
-dep_place : (k : Kind) → is_dep k ≡ true → place_of k ≡ place.Dep
+dep_place : (k : HandlerKind) → is_dep k ≡ true → place_of k ≡ place.Dep
 dep_place kind.Dispose e = absurd (false≢true e)
 dep_place kind.Prune e = absurd (false≢true e)
 dep_place kind.Own e = absurd (false≢true e)

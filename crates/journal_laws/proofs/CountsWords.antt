@@ -4,8 +4,8 @@ use Rattle.std.specs.Prelude.{filter, flat_map, cond, ◌&&◌, ◌==◌, if◌t
 use Rattle.std.proofs.lemmas.Grind.{flat_map-append}
 use Rattle.std.proofs.lemmas.List.{length-append}
 use Rattle.std.proofs.lemmas.List.Elements.{filter-append}
-use Rattle.hmr_types.specs.declared.words.FaultPlace.{FaultPlace}
-use Rattle.hmr_types.specs.declared.words.InstanceFate.{InstanceFate}
+use Rattle.output_lines.specs.declared.words.FaultPlace.{FaultPlace}
+use Rattle.output_lines.specs.declared.words.InstanceFate.{InstanceFate}
 use Rattle.client_model.specs.Instance.{Handler}
 use Rattle.client_model.specs.Journal.{Happening, Journal, made, evaluated, not_run, registered, no_host, ran, dropped, ended, gave_up, gave_up_all, told}
 use Rattle.journal_laws.specs.Counts.{is_run_of, runs_of, is_drop_of, drops_of, registered_to, registered_in, fate_to, fates_in, is_run_at}

@@ -2,9 +2,9 @@
 -- it is split, and of what only writes, drops or registers.
 use Rattle.std.proofs.Common.{◌≡◌, ℕ, List, [], ◌∷◌, ◌++◌, ap}
 use Rattle.std.specs.Prelude.{fold, map, Option, Some, None, ⊤}
-use Rattle.hmr_types.specs.Syntax as syntax
-use Rattle.hmr_types.specs.Syntax.{OnceTree}
-use Rattle.hmr_types.specs.declared.out_line.OutLine.{OutLine}
+use Rattle.module_tree.specs.Syntax as syntax
+use Rattle.module_tree.specs.Syntax.{OnceTree}
+use Rattle.output_lines.specs.declared.out_line.OutLine.{OutLine}
 use Rattle.core_model.specs.Names.{Name, at}
 use Rattle.core_model.specs.Sources.{Text}
 use Rattle.client_model.specs.Language.{Bag, Registered}

@@ -5,7 +5,7 @@ use Rattle.std.specs.Prelude.{map, filter, cond, ◌&&◌, ◌||◌, Option, Som
 use Rattle.std.specs.List.{list_any}
 use Rattle.std.proofs.lemmas.Bool.{false≢true, eq-eqb}
 use Rattle.std.proofs.lemmas.Option.{same_Some}
-use Rattle.hmr_types.specs.declared.words.FaultPlace.TheVariants as place
+use Rattle.output_lines.specs.declared.words.FaultPlace.TheVariants as place
 use Rattle.core_model.specs.Names.{Name, same_name}
 use Rattle.core_model.proofs.Naming.{both_true, or_left, same_true, true_same, has_is}
 use Rattle.client_model.specs.Language.{Language, Bag}

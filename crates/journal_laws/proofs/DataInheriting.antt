@@ -6,8 +6,8 @@ use Rattle.std.specs.List.{list_any}
 use Rattle.std.proofs.lemmas.Bool.{false≢true}
 use Prim.{⊥}
 use Rattle.std.proofs.lemmas.List.Sums.{fold-append}
-use Rattle.hmr_types.specs.declared.words.InstanceFate.TheVariants.{Replaced}
-use Rattle.core_model.specs.declared.message.ServerMsg.{ServerMsg}
+use Rattle.output_lines.specs.declared.words.InstanceFate.TheVariants.{Replaced}
+use Rattle.update_msgs.specs.declared.message.ServerMsg.{ServerMsg}
 use Rattle.core_model.specs.Names.{Name}
 use Rattle.core_model.specs.Sources.{Text}
 use Rattle.client_model.specs.Language.{Language, Bag, Evaluated}

@@ -5,10 +5,10 @@ use Rattle.std.specs.Prelude.{map, cond, filter, ◌==◌, ◌||◌, Option, Som
 use Rattle.std.specs.List.{list_any}
 use Rattle.std.proofs.lemmas.Bool.{false≢true, eqb-true, eq-eqb}
 use Rattle.std.proofs.lemmas.Option.{same_Some}
-use Rattle.hmr_types.specs.declared.words.FaultPlace.{FaultPlace}
-use Rattle.hmr_types.specs.declared.words.FaultPlace.TheVariants as place
-use Rattle.hmr_types.specs.declared.words.InstanceFate.{InstanceFate}
-use Rattle.hmr_types.specs.declared.words.InstanceFate.TheVariants.{Pruned}
+use Rattle.output_lines.specs.declared.words.FaultPlace.{FaultPlace}
+use Rattle.output_lines.specs.declared.words.FaultPlace.TheVariants as place
+use Rattle.output_lines.specs.declared.words.InstanceFate.{InstanceFate}
+use Rattle.output_lines.specs.declared.words.InstanceFate.TheVariants.{Pruned}
 use Rattle.core_model.specs.Names.{Name, same_name, has}
 use Rattle.core_model.proofs.Naming.{same_true, neither}
 use Rattle.client_model.specs.Language.{Language, Slots, Ran, Evaluated}

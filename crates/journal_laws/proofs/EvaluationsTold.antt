@@ -3,10 +3,10 @@
 use Rattle.std.proofs.Common.{◌≡◌, ℕ, Bool, true, false, List, [], ◌∷◌, ◌++◌, refl, ap, sym, ◌∙◌, Contains}
 use Rattle.std.specs.Prelude.{fold, slice_get, ◌==◌, Option, Some, None, if◌then◌else◌}
 use Rattle.std.proofs.Math.Path.{subst}
-use Rattle.hmr_types.specs.declared.words.FaultPlace.{FaultPlace}
-use Rattle.hmr_types.specs.declared.words.InstanceFate.{InstanceFate}
-use Rattle.hmr_types.specs.declared.words.InstanceStatus.TheVariants.{Unrun}
-use Rattle.core_model.specs.declared.message.ServerMsg.{ServerMsg}
+use Rattle.output_lines.specs.declared.words.FaultPlace.{FaultPlace}
+use Rattle.output_lines.specs.declared.words.InstanceFate.{InstanceFate}
+use Rattle.output_lines.specs.declared.words.InstanceStatus.TheVariants.{Unrun}
+use Rattle.update_msgs.specs.declared.message.ServerMsg.{ServerMsg}
 use Rattle.core_model.specs.Names.{Name}
 use Rattle.core_model.specs.Sources.{Text}
 use Rattle.client_model.specs.Language.{Language, Slots, Bag, Ran, Evaluated}

@@ -8,9 +8,9 @@ use Rattle.std.proofs.lemmas.List.{length-map}
 use Rattle.std.proofs.lemmas.List.Elements.{Contains-append_left, Contains-append_right}
 use Rattle.hmr_types.specs.declared.value.Slot.{Slot}
 use Rattle.hmr_types.specs.declared.value.Slot.TheVariants.{Unset}
-use Rattle.hmr_types.specs.declared.words.FaultPlace.{FaultPlace}
-use Rattle.hmr_types.specs.declared.words.InstanceStatus.{InstanceStatus}
-use Rattle.hmr_types.specs.declared.words.InstanceStatus.TheVariants.{Unrun}
+use Rattle.output_lines.specs.declared.words.FaultPlace.{FaultPlace}
+use Rattle.output_lines.specs.declared.words.InstanceStatus.{InstanceStatus}
+use Rattle.output_lines.specs.declared.words.InstanceStatus.TheVariants.{Unrun}
 use Rattle.core_model.specs.Names.{Name, at}
 use Rattle.core_model.specs.Sources.{Text}
 use Rattle.client_model.specs.Language.{Language, Slots, Bag, Binding, Ran, slot_at}

@@ -6,8 +6,8 @@ use Rattle.std.specs.List.{list_any, list_all, cons_option}
 use Rattle.std.proofs.Math.Path.{subst}
 use Rattle.std.proofs.lemmas.Bool.{eqb-true, eq-eqb}
 use Rattle.hmr_types.specs.declared.value.Slot.{Slot}
-use Rattle.hmr_types.specs.declared.words.InstanceStatus.{InstanceStatus}
-use Rattle.hmr_types.specs.declared.words.InstanceStatus.TheVariants.{Unrun}
+use Rattle.output_lines.specs.declared.words.InstanceStatus.{InstanceStatus}
+use Rattle.output_lines.specs.declared.words.InstanceStatus.TheVariants.{Unrun}
 use Rattle.core_model.specs.Names.{Name, has, at}
 use Rattle.core_model.specs.Sources.{Serving}
 use Rattle.core_model.proofs.Naming.{both_true, head_has, tail_has}

@@ -3,7 +3,7 @@ use Rattle.std.proofs.Common.{◌≡◌, ℕ, Bool, true, false, List, [], refl,
 use Rattle.std.specs.Prelude.{◌↔◌, not, Option, Some, None, is_some, IfSome, if◌then◌else◌}
 use Rattle.std.proofs.Math.Path.{subst}
 use Rattle.std.proofs.lemmas.Option.{same_Some}
-use Rattle.core_model.specs.declared.message.ServerMsg.{ServerMsg}
+use Rattle.update_msgs.specs.declared.message.ServerMsg.{ServerMsg}
 use Rattle.core_model.specs.Names.{Name, has, at}
 use Rattle.core_model.specs.Sources.{Text, Serving}
 use Rattle.core_model.specs.FreshLoad.{Served, reached_by, missing_of}

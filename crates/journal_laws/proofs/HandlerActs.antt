@@ -6,9 +6,9 @@ use Rattle.std.proofs.Math.Path.{subst}
 use Rattle.std.proofs.lemmas.Bool.{false≢true, eq-eqb}
 use Rattle.std.proofs.lemmas.List.{append_assoc, length-append}
 use Rattle.std.proofs.lemmas.Option.{same_Some}
-use Rattle.hmr_types.specs.declared.words.FaultPlace.{FaultPlace}
-use Rattle.hmr_types.specs.declared.words.InstanceFate.{InstanceFate}
-use Rattle.hmr_types.specs.declared.words.HandlerEnd.{HandlerEnd}
+use Rattle.output_lines.specs.declared.words.FaultPlace.{FaultPlace}
+use Rattle.output_lines.specs.declared.words.InstanceFate.{InstanceFate}
+use Rattle.output_lines.specs.declared.words.HandlerEnd.{HandlerEnd}
 use Rattle.core_model.specs.Names.{Name}
 use Rattle.client_model.specs.Language.{Language, Slots, Ran}
 use Rattle.client_model.specs.Instance.{Instance, Handler, numbered, with_change, ended_as, with_end, with_dropped, places_from, places_of}

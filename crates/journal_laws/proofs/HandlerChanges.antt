@@ -4,10 +4,10 @@ use Rattle.std.proofs.Common.{◌≡◌, Bool, true, false, List, [], ◌∷◌,
 use Rattle.std.specs.Prelude.{map, ◌&&◌, ◌||◌, if◌then◌else◌, ⊤}
 use Rattle.std.proofs.Math.Path.{subst}
 use Rattle.std.proofs.lemmas.Bool.{false≢true}
-use Rattle.hmr_types.specs.declared.words.Kind.{Kind}
-use Rattle.hmr_types.specs.declared.words.Kind.TheVariants as kind
-use Rattle.hmr_types.specs.declared.words.HandlerEnd.{HandlerEnd}
-use Rattle.hmr_types.specs.declared.words.HandlerEnd.TheVariants.{Held, Spent, Dropped}
+use Rattle.hmr_types.specs.declared.words.HandlerKind.{HandlerKind}
+use Rattle.hmr_types.specs.declared.words.HandlerKind.TheVariants as kind
+use Rattle.output_lines.specs.declared.words.HandlerEnd.{HandlerEnd}
+use Rattle.output_lines.specs.declared.words.HandlerEnd.TheVariants.{Held, Spent, Dropped}
 use Rattle.core_model.specs.Names.{Name, has}
 use Rattle.core_model.proofs.Naming.{both_true}
 use Rattle.client_model.specs.Instance.{Handler, is_held_end, is_held, is_dep, disposes, prunes, accepts_own, accepts_dep, ended_as, with_dropped}
@@ -43,7 +43,7 @@ held_left h t = (both_true (is_held h) _ t).0
 pub held_all : OnlyHeld is_held
 held_all h t = t
 
-pub held_displaced : (k : Kind) → OnlyHeld (is_displaced_by k)
+pub held_displaced : (k : HandlerKind) → OnlyHeld (is_displaced_by k)
 held_displaced kind.Dispose h t = held_dispose h t
 held_displaced kind.Prune h t = held_prune h t
 held_displaced kind.Own h t = absurd (false≢true t)
@@ -67,7 +67,7 @@ module _ (test : Handler → Bool) (end : Handler → HandlerEnd) where
       by true t = absurd (false≢true (sym e ∙ only h t))
       by false t = refl
 
-  pub changed_displaced : (k : Kind) (later : List Handler) → is_displaced k (map changed later) ≡ is_displaced k later
+  pub changed_displaced : (k : HandlerKind) (later : List Handler) → is_displaced k (map changed later) ≡ is_displaced k later
   changed_displaced k [] = refl
   changed_displaced k (h ∷ later) = ap (λ j. displaces j k || is_displaced k (map changed later)) (changed_kind h) ∙ ap (λ b. displaces h.kind k || b) (changed_displaced k later)
 
@@ -82,7 +82,7 @@ module _ (test : Handler → Bool) (end : Handler → HandlerEnd) where
 pub dep_same : (n : Name) (h : Handler) → changed (accepts_dep n) (λ g. end_after g.kind) h ≡ h
 dep_same n h = by (accepts_dep n h) refl
   where
-    is_dep_kind : (k : Kind) → is_dep k ≡ true → end_after k ≡ Held
+    is_dep_kind : (k : HandlerKind) → is_dep k ≡ true → end_after k ≡ Held
     is_dep_kind kind.Dispose e = absurd (false≢true e)
     is_dep_kind kind.Prune e = absurd (false≢true e)
     is_dep_kind kind.Own e = absurd (false≢true e)
@@ -105,7 +105,7 @@ deps_same n (h ∷ hs) = ap (λ g. g ∷ map (changed (accepts_dep n) (λ g. end
 
 -- What is registered.
 
-pub displaced_test : (later : Kind) (h : Handler) → is_displaced_by later h ≡ (is_held h && displaces later h.kind)
+pub displaced_test : (later : HandlerKind) (h : Handler) → is_displaced_by later h ≡ (is_held h && displaces later h.kind)
 displaced_test later h = by later h.kind
   where
     never : (e : HandlerEnd) → false ≡ (is_held_end e && false)
@@ -113,7 +113,7 @@ displaced_test later h = by later h.kind
     never Spent = refl
     never Dropped = refl
 
-    by : (a b : Kind) → is_displaced_by a (record h { kind = b }) ≡ (is_held_end h.end && displaces a b)
+    by : (a b : HandlerKind) → is_displaced_by a (record h { kind = b }) ≡ (is_held_end h.end && displaces a b)
     by kind.Dispose kind.Dispose = refl
     by kind.Dispose kind.Prune = refl
     by kind.Dispose kind.Own = refl
@@ -125,7 +125,7 @@ displaced_test later h = by later h.kind
     by kind.Own b = never h.end
     by kind.Dep b = never h.end
 
-appended_displaced : (k : Kind) (later : List Handler) (h : Handler) → is_displaced k (later ++ h ∷ []) ≡ (is_displaced k later || displaces h.kind k)
+appended_displaced : (k : HandlerKind) (later : List Handler) (h : Handler) → is_displaced k (later ++ h ∷ []) ≡ (is_displaced k later || displaces h.kind k)
 appended_displaced k [] h = right (displaces h.kind k)
   where
     right : (b : Bool) → (b || false) ≡ b

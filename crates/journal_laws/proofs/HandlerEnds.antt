@@ -5,15 +5,15 @@ use Rattle.std.specs.Prelude.{map, ◌||◌, ◌&&◌, if◌then◌else◌, ⊤}
 use Prim.{⊥}
 use Rattle.std.proofs.Math.Path.{subst}
 use Rattle.std.proofs.lemmas.Bool.{false≢true}
-use Rattle.hmr_types.specs.declared.words.Kind.{Kind}
-use Rattle.hmr_types.specs.declared.words.Kind.TheVariants as kind
-use Rattle.hmr_types.specs.declared.words.HandlerEnd.{HandlerEnd}
-use Rattle.hmr_types.specs.declared.words.HandlerEnd.TheVariants.{Held, Spent, Dropped}
-use Rattle.hmr_types.specs.declared.words.InstanceFate.{InstanceFate}
-use Rattle.hmr_types.specs.declared.words.InstanceFate.TheVariants.{Live, Replaced, Pruned, Reloaded}
+use Rattle.hmr_types.specs.declared.words.HandlerKind.{HandlerKind}
+use Rattle.hmr_types.specs.declared.words.HandlerKind.TheVariants as kind
+use Rattle.output_lines.specs.declared.words.HandlerEnd.{HandlerEnd}
+use Rattle.output_lines.specs.declared.words.HandlerEnd.TheVariants.{Held, Spent, Dropped}
+use Rattle.output_lines.specs.declared.words.InstanceFate.{InstanceFate}
+use Rattle.output_lines.specs.declared.words.InstanceFate.TheVariants.{Live, Replaced, Pruned, Reloaded}
 use Rattle.core_model.specs.Names.{Name}
 use Rattle.core_model.specs.Sources.{Text}
-use Rattle.core_model.specs.declared.message.ServerMsg.{ServerMsg}
+use Rattle.update_msgs.specs.declared.message.ServerMsg.{ServerMsg}
 use Rattle.client_model.specs.Language.{Language}
 use Rattle.client_model.specs.Instance.{Handler, Deed, is_live_fate, is_held_end, is_held, disposes, prunes, accepts_own, ended_as, with_dropped}
 use Rattle.client_model.specs.Running.{end_after}
@@ -28,7 +28,7 @@ use Rattle.journal_laws.proofs.HandlerMessages.{of_each}
 use Rattle.journal_laws.proofs.HandlerChanges.{AllOf, OnlyHeld, held_dispose, held_prune, held_own, held_left, held_all, held_displaced, changed, unheld_same, all_changed, deps_same, displaced_test, all_registered}
 
 -- a displaced handler is dropped, any other of a kind is as P says
-abbrev pub Stands : (Kind → HandlerEnd → Type 0) → Bool → Handler → Type 0
+abbrev pub Stands : (HandlerKind → HandlerEnd → Type 0) → Bool → Handler → Type 0
 Stands P true h = h.end ≡ Dropped
 Stands P false h = P h.kind h.end
 
@@ -55,11 +55,11 @@ abbrev drop_end : Handler → HandlerEnd
 drop_end h = Dropped
 
 -- a step, by the kind and the end of a handler that none displaced
-module _ (test : Handler → Bool) (end : Handler → HandlerEnd) (Q : Kind → HandlerEnd → Type 0) where
-  abbrev Then : Kind → List Name → Deed → HandlerEnd → Type 0
+module _ (test : Handler → Bool) (end : Handler → HandlerEnd) (Q : HandlerKind → HandlerEnd → Type 0) where
+  abbrev Then : HandlerKind → List Name → Deed → HandlerEnd → Type 0
   Then k deps deed e = Stands Q false (changed test end (record { kind = k; deps = deps; deed = deed; end = e }))
 
-  all_stand : (P : Kind → HandlerEnd → Type 0) → OnlyHeld test → ((k : Kind) (deps : List Name) (deed : Deed) (e : HandlerEnd) → P k e → Then k deps deed e) → (hs : List Handler) → AllOf (Stands P) hs → AllOf (Stands Q) (map (changed test end) hs)
+  all_stand : (P : HandlerKind → HandlerEnd → Type 0) → OnlyHeld test → ((k : HandlerKind) (deps : List Name) (deed : Deed) (e : HandlerEnd) → P k e → Then k deps deed e) → (hs : List Handler) → AllOf (Stands P) hs → AllOf (Stands Q) (map (changed test end) hs)
   all_stand P only step hs a = all_changed test end (Stands P) (Stands Q) by hs a
     where
       by : (b : Bool) (h : Handler) → Stands P b h → Stands Q b (changed test end h)
@@ -68,20 +68,20 @@ module _ (test : Handler → Bool) (end : Handler → HandlerEnd) (Q : Kind → 
 
 -- What stands once the disposer was run, then the prune handler.
 
-abbrev pub DisposerSpent : Kind → HandlerEnd → Type 0
+abbrev pub DisposerSpent : HandlerKind → HandlerEnd → Type 0
 DisposerSpent kind.Dispose e = e ≡ Spent
 DisposerSpent kind.Prune e = e ≡ Held
 DisposerSpent kind.Own e = e ≡ Held
 DisposerSpent kind.Dep e = e ≡ Held
 
-abbrev pub BothSpent : Kind → HandlerEnd → Type 0
+abbrev pub BothSpent : HandlerKind → HandlerEnd → Type 0
 BothSpent kind.Dispose e = e ≡ Spent
 BothSpent kind.Prune e = e ≡ Spent
 BothSpent kind.Own e = e ≡ Held
 BothSpent kind.Dep e = e ≡ Held
 
 -- the callbacks on the module itself are set aside, and may have been run
-abbrev pub SetAside : Kind → HandlerEnd → Type 0
+abbrev pub SetAside : HandlerKind → HandlerEnd → Type 0
 SetAside kind.Dispose e = e ≡ Spent
 SetAside kind.Prune e = e ≡ Dropped
 SetAside kind.Own e = ⊤
@@ -90,7 +90,7 @@ SetAside kind.Dep e = e ≡ Dropped
 pub disposing : (hs : List Handler) → AllOf (Stands (EndsBy Live)) hs → AllOf (Stands DisposerSpent) (run_in disposes hs)
 disposing = all_stand disposes run_end DisposerSpent (EndsBy Live) held_dispose (λ k deps deed e p. subst (Then disposes run_end DisposerSpent k deps deed) (sym p) (by k deps deed))
   where
-    by : (k : Kind) (deps : List Name) (deed : Deed) → Then disposes run_end DisposerSpent k deps deed Held
+    by : (k : HandlerKind) (deps : List Name) (deed : Deed) → Then disposes run_end DisposerSpent k deps deed Held
     by kind.Dispose deps deed = refl
     by kind.Prune deps deed = refl
     by kind.Own deps deed = refl
@@ -99,7 +99,7 @@ disposing = all_stand disposes run_end DisposerSpent (EndsBy Live) held_dispose 
 pub pruning : (hs : List Handler) → AllOf (Stands DisposerSpent) hs → AllOf (Stands BothSpent) (run_in prunes hs)
 pruning = all_stand prunes run_end BothSpent DisposerSpent held_prune by
   where
-    by : (k : Kind) (deps : List Name) (deed : Deed) (e : HandlerEnd) → DisposerSpent k e → Then prunes run_end BothSpent k deps deed e
+    by : (k : HandlerKind) (deps : List Name) (deed : Deed) (e : HandlerEnd) → DisposerSpent k e → Then prunes run_end BothSpent k deps deed e
     by kind.Dispose deps deed e p = subst (Then prunes run_end BothSpent kind.Dispose deps deed) (sym p) refl
     by kind.Prune deps deed e p = subst (Then prunes run_end BothSpent kind.Prune deps deed) (sym p) refl
     by kind.Own deps deed e p = subst (Then prunes run_end BothSpent kind.Own deps deed) (sym p) refl
@@ -108,7 +108,7 @@ pruning = all_stand prunes run_end BothSpent DisposerSpent held_prune by
 leaving_page : (hs : List Handler) → AllOf (Stands BothSpent) hs → AllOf (Stands (EndsBy Pruned)) (with_dropped is_held hs)
 leaving_page = all_stand is_held drop_end (EndsBy Pruned) BothSpent held_all by
   where
-    by : (k : Kind) (deps : List Name) (deed : Deed) (e : HandlerEnd) → BothSpent k e → Then is_held drop_end (EndsBy Pruned) k deps deed e
+    by : (k : HandlerKind) (deps : List Name) (deed : Deed) (e : HandlerEnd) → BothSpent k e → Then is_held drop_end (EndsBy Pruned) k deps deed e
     by kind.Dispose deps deed e p = subst (Then is_held drop_end (EndsBy Pruned) kind.Dispose deps deed) (sym p) refl
     by kind.Prune deps deed e p = subst (Then is_held drop_end (EndsBy Pruned) kind.Prune deps deed) (sym p) refl
     by kind.Own deps deed e p = subst (Then is_held drop_end (EndsBy Pruned) kind.Own deps deed) (sym p) refl
@@ -117,7 +117,7 @@ leaving_page = all_stand is_held drop_end (EndsBy Pruned) BothSpent held_all by
 setting_aside : (hs : List Handler) → AllOf (Stands DisposerSpent) hs → AllOf (Stands SetAside) (with_dropped is_left_behind hs)
 setting_aside = all_stand is_left_behind drop_end SetAside DisposerSpent held_left by
   where
-    by : (k : Kind) (deps : List Name) (deed : Deed) (e : HandlerEnd) → DisposerSpent k e → Then is_left_behind drop_end SetAside k deps deed e
+    by : (k : HandlerKind) (deps : List Name) (deed : Deed) (e : HandlerEnd) → DisposerSpent k e → Then is_left_behind drop_end SetAside k deps deed e
     by kind.Dispose deps deed e p = subst (Then is_left_behind drop_end SetAside kind.Dispose deps deed) (sym p) refl
     by kind.Prune deps deed e p = subst (Then is_left_behind drop_end SetAside kind.Prune deps deed) (sym p) refl
     by kind.Own deps deed e p = subst (Then is_left_behind drop_end SetAside kind.Own deps deed) (sym p) tt
@@ -131,7 +131,7 @@ calling = all_stand accepts_own run_end SetAside SetAside held_own by
     by_own deps deed Spent = tt
     by_own deps deed Dropped = tt
 
-    by : (k : Kind) (deps : List Name) (deed : Deed) (e : HandlerEnd) → SetAside k e → Then accepts_own run_end SetAside k deps deed e
+    by : (k : HandlerKind) (deps : List Name) (deed : Deed) (e : HandlerEnd) → SetAside k e → Then accepts_own run_end SetAside k deps deed e
     by kind.Dispose deps deed e p = subst (Then accepts_own run_end SetAside kind.Dispose deps deed) (sym p) refl
     by kind.Prune deps deed e p = subst (Then accepts_own run_end SetAside kind.Prune deps deed) (sym p) refl
     by kind.Own deps deed e p = by_own deps deed e
@@ -145,7 +145,7 @@ laying m = all_stand is_held drop_end (EndsBy (Replaced m)) SetAside held_all by
     by_own deps deed Spent = λ q. false≢true (ap is_held_end q)
     by_own deps deed Dropped = λ q. false≢true (ap is_held_end q)
 
-    by : (k : Kind) (deps : List Name) (deed : Deed) (e : HandlerEnd) → SetAside k e → Then is_held drop_end (EndsBy (Replaced m)) k deps deed e
+    by : (k : HandlerKind) (deps : List Name) (deed : Deed) (e : HandlerEnd) → SetAside k e → Then is_held drop_end (EndsBy (Replaced m)) k deps deed e
     by kind.Dispose deps deed e p = subst (Then is_held drop_end (EndsBy (Replaced m)) kind.Dispose deps deed) (sym p) refl
     by kind.Prune deps deed e p = subst (Then is_held drop_end (EndsBy (Replaced m)) kind.Prune deps deed) (sym p) refl
     by kind.Own deps deed e p = by_own deps deed e

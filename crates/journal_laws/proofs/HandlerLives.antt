@@ -4,12 +4,12 @@ use Rattle.std.proofs.Common.{◌≡◌, ℕ, true, false, List, [], ◌∷◌, 
 use Rattle.std.specs.Prelude.{map, fold, cond, ◌==◌, Option, Some, None, option_map, if◌then◌else◌}
 use Rattle.std.proofs.Math.Path.{subst}
 use Rattle.std.proofs.lemmas.List.{append_assoc, append-nil}
-use Rattle.hmr_types.specs.Syntax as syntax
-use Rattle.hmr_types.specs.Syntax.{OnceTree}
-use Rattle.hmr_types.specs.declared.words.FaultPlace.TheVariants as place
-use Rattle.hmr_types.specs.declared.words.HandlerEnd.TheVariants.{Held}
-use Rattle.hmr_types.specs.declared.words.InstanceStatus.TheVariants.{Unrun}
-use Rattle.hmr_types.specs.declared.words.InstanceFate.TheVariants.{Live, Replaced, Pruned, Reloaded}
+use Rattle.module_tree.specs.Syntax as syntax
+use Rattle.module_tree.specs.Syntax.{OnceTree}
+use Rattle.output_lines.specs.declared.words.FaultPlace.TheVariants as place
+use Rattle.output_lines.specs.declared.words.HandlerEnd.TheVariants.{Held}
+use Rattle.output_lines.specs.declared.words.InstanceStatus.TheVariants.{Unrun}
+use Rattle.output_lines.specs.declared.words.InstanceFate.TheVariants.{Live, Replaced, Pruned, Reloaded}
 use Rattle.core_model.specs.Names.{Name, at}
 use Rattle.core_model.specs.Sources.{Text}
 use Rattle.client_model.specs.Language.{Language, Registered, Evaluated}

@@ -8,7 +8,7 @@ use Rattle.std.proofs.lemmas.Bool.{false≢true, eqb-true}
 use Rattle.std.proofs.lemmas.List.{length-map}
 use Rattle.hmr_types.specs.declared.words.PlanKind.{PlanKind}
 use Rattle.hmr_types.specs.declared.words.PlanKind.TheVariants.{Load, Reload, Update}
-use Rattle.hmr_types.specs.declared.words.FaultPlace.TheVariants as place
+use Rattle.output_lines.specs.declared.words.FaultPlace.TheVariants as place
 use Rattle.core_model.specs.Names.{Name, same_name, has, at}
 use Rattle.core_model.specs.View.{Entry}
 use Rattle.core_model.specs.Page.{Plan}

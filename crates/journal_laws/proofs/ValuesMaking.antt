@@ -3,7 +3,7 @@ use Rattle.std.proofs.Common.{◌≡◌, ℕ, ◌+◌, Bool, true, false, [], �
 use Rattle.std.specs.Prelude.{cond, filter, not, ◌||◌, ◌==◌, Option, Some, None, is_some, if◌then◌else◌}
 use Rattle.std.proofs.lemmas.Bool.{eqb-true}
 use Rattle.hmr_types.specs.declared.value.EvalFault.{EvalFault}
-use Rattle.hmr_types.specs.declared.words.InstanceStatus.TheVariants.{Unrun}
+use Rattle.output_lines.specs.declared.words.InstanceStatus.TheVariants.{Unrun}
 use Rattle.client_model.specs.Language.{Language, Evaluated}
 use Rattle.client_model.specs.Instance.{Instance, numbered, is_done_status}
 use Rattle.client_model.specs.Journal.{Happening, Journal, evaluated}

@@ -2,8 +2,8 @@
 -- registers.
 use Rattle.std.proofs.Common.{ℕ, List, [], ◌∷◌, ◌++◌}
 use Rattle.std.specs.Prelude.{fold, map, Option, Some, None}
-use Rattle.hmr_types.specs.Syntax as syntax
-use Rattle.hmr_types.specs.Syntax.{OnceTree}
+use Rattle.module_tree.specs.Syntax as syntax
+use Rattle.module_tree.specs.Syntax.{OnceTree}
 use Rattle.core_model.specs.Names.{Name, at}
 use Rattle.core_model.specs.Sources.{Text}
 use Rattle.client_model.specs.Language.{Registered, Evaluated}

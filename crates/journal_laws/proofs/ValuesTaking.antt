@@ -1,6 +1,6 @@
 -- What holds of each thing that a client does holds of each message that it takes.
 use Rattle.std.proofs.Common.{◌≡◌, List, refl}
-use Rattle.core_model.specs.declared.message.ServerMsg.{ServerMsg}
+use Rattle.update_msgs.specs.declared.message.ServerMsg.{ServerMsg}
 use Rattle.core_model.specs.Names.{Name, has}
 use Rattle.core_model.specs.Page.{Plan}
 use Rattle.client_model.specs.Language.{Language}

@@ -5,9 +5,9 @@ use Rattle.std.proofs.Common.{◌≡◌, ℕ, suc, ◌<◌, Bool, List, [], ◌�
 use Rattle.std.specs.Prelude.{cond, slice_get, ◌==◌, Option, Some, None}
 use Rattle.std.proofs.Math.Path.{subst}
 use Rattle.std.proofs.lemmas.List.{length-map}
-use Rattle.hmr_types.specs.declared.words.FaultPlace.{FaultPlace}
-use Rattle.hmr_types.specs.declared.words.InstanceFate.{InstanceFate}
-use Rattle.hmr_types.specs.declared.out_line.OutLine.{OutLine}
+use Rattle.output_lines.specs.declared.words.FaultPlace.{FaultPlace}
+use Rattle.output_lines.specs.declared.words.InstanceFate.{InstanceFate}
+use Rattle.output_lines.specs.declared.out_line.OutLine.{OutLine}
 use Rattle.core_model.specs.Names.{Name, has}
 use Rattle.core_model.specs.Page.{Plan}
 use Rattle.client_model.specs.Language.{Language, Slots}

@@ -2,14 +2,14 @@
 -- was registered, and how the instance ended.
 use Rattle.std.specs.Prelude.{◌≡◌, ℕ, ◌==◌, Bool, true, false, ◌&&◌, List, [], ◌∷◌, length, map, filter, flat_map, slice_get, Contains, Some, if◌then◌else◌}
 use Rattle.std.specs.List.{list_any}
-use Rattle.hmr_types.specs.declared.words.Kind.{Kind}
-use Rattle.hmr_types.specs.declared.words.Kind.TheVariants as kind
-use Rattle.hmr_types.specs.declared.words.HandlerEnd.{HandlerEnd}
-use Rattle.hmr_types.specs.declared.words.HandlerEnd.TheVariants.{Held, Spent, Dropped}
-use Rattle.hmr_types.specs.declared.words.FaultPlace.{FaultPlace}
-use Rattle.hmr_types.specs.declared.words.FaultPlace.TheVariants as place
-use Rattle.hmr_types.specs.declared.words.InstanceFate.{InstanceFate}
-use Rattle.hmr_types.specs.declared.words.InstanceFate.TheVariants.{Live, Replaced, Pruned, Reloaded}
+use Rattle.hmr_types.specs.declared.words.HandlerKind.{HandlerKind}
+use Rattle.hmr_types.specs.declared.words.HandlerKind.TheVariants as kind
+use Rattle.output_lines.specs.declared.words.HandlerEnd.{HandlerEnd}
+use Rattle.output_lines.specs.declared.words.HandlerEnd.TheVariants.{Held, Spent, Dropped}
+use Rattle.output_lines.specs.declared.words.FaultPlace.{FaultPlace}
+use Rattle.output_lines.specs.declared.words.FaultPlace.TheVariants as place
+use Rattle.output_lines.specs.declared.words.InstanceFate.{InstanceFate}
+use Rattle.output_lines.specs.declared.words.InstanceFate.TheVariants.{Live, Replaced, Pruned, Reloaded}
 use Rattle.core_model.specs.Names.{Name}
 use Rattle.client_model.specs.Language.{Bag, Ran}
 use Rattle.client_model.specs.Instance.{Instance, Handler, is_dispose, is_prune, is_dep, ended_as}
@@ -55,7 +55,7 @@ drops_of journal k spot = length (filter (is_drop_of k spot) journal)
 -- How a handler of this kind is told of, once it has this end: so often it was run, and so often dropped.
 -- One that is spent was run once, and one that is dropped was dropped once, unrun; but a callback on
 -- dependencies may be run any number of times before.
-abbrev pub IsToldAs : HandlerEnd → Kind → ℕ → ℕ → Type 0
+abbrev pub IsToldAs : HandlerEnd → HandlerKind → ℕ → ℕ → Type 0
 IsToldAs Held kind runs drops = (drops ≡ 0) × (is_dep kind ≡ false → runs ≡ 0)
 IsToldAs Spent kind runs drops = (drops ≡ 0) × (runs ≡ 1) × (is_dep kind ≡ false)
 IsToldAs Dropped kind runs drops = (drops ≡ 1) × (is_dep kind ≡ false → runs ≡ 0)
@@ -115,7 +115,7 @@ abbrev pub AreFated : Runtime → Journal → Type 0
 AreFated r journal = (i : Instance) → Contains r.instances i → fates_in journal i.number ≡ told_fate i.fate
 
 -- the callback's place, by its kind
-abbrev pub place_of : Kind → FaultPlace
+abbrev pub place_of : HandlerKind → FaultPlace
 place_of kind.Dispose = place.Dispose
 place_of kind.Prune = place.Prune
 place_of kind.Own = place.Own
@@ -186,7 +186,7 @@ is_pruned Pruned = true
 is_pruned Reloaded = false
 
 -- the instance registered a handler whose kind passes the test
-abbrev pub registers : (Kind → Bool) → Instance → Bool
+abbrev pub registers : (HandlerKind → Bool) → Instance → Bool
 registers test i = list_any (λ h. test h.kind) i.handlers
 
 -- once, where the test says so, else never

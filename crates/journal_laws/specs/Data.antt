@@ -1,9 +1,9 @@
 -- What of a module's data reaches which instance.
 use Rattle.std.specs.Prelude.{◌≡◌, ℕ, ◌==◌, Bool, false, ◌&&◌, [], ◌∷◌, ◌++◌, None}
 use Rattle.std.specs.List.{list_any}
-use Rattle.hmr_types.specs.declared.words.FaultPlace.{FaultPlace}
-use Rattle.hmr_types.specs.declared.words.InstanceFate.{InstanceFate}
-use Rattle.hmr_types.specs.declared.words.InstanceFate.TheVariants.{Live, Replaced, Pruned, Reloaded}
+use Rattle.output_lines.specs.declared.words.FaultPlace.{FaultPlace}
+use Rattle.output_lines.specs.declared.words.InstanceFate.{InstanceFate}
+use Rattle.output_lines.specs.declared.words.InstanceFate.TheVariants.{Live, Replaced, Pruned, Reloaded}
 use Rattle.core_model.specs.Names.{Name, same_name}
 use Rattle.client_model.specs.Language.{Bag, Evaluated, Ran}
 use Rattle.client_model.specs.Instance.{live_at}

@@ -1,28 +1,28 @@
 -- How the handlers of an instance end, by what became of the instance.
 use Rattle.std.specs.Prelude.{◌≡◌, ◌≢◌, Bool, true, false, ◌&&◌, ◌||◌, List, [], ◌∷◌, Contains, ⊤}
 use Rattle.std.specs.List.{list_any}
-use Rattle.hmr_types.specs.declared.words.Kind.{Kind}
-use Rattle.hmr_types.specs.declared.words.Kind.TheVariants as kind
-use Rattle.hmr_types.specs.declared.words.HandlerEnd.{HandlerEnd}
-use Rattle.hmr_types.specs.declared.words.HandlerEnd.TheVariants.{Held, Spent, Dropped}
-use Rattle.hmr_types.specs.declared.words.InstanceFate.{InstanceFate}
-use Rattle.hmr_types.specs.declared.words.InstanceFate.TheVariants.{Live, Replaced, Pruned, Reloaded}
+use Rattle.hmr_types.specs.declared.words.HandlerKind.{HandlerKind}
+use Rattle.hmr_types.specs.declared.words.HandlerKind.TheVariants as kind
+use Rattle.output_lines.specs.declared.words.HandlerEnd.{HandlerEnd}
+use Rattle.output_lines.specs.declared.words.HandlerEnd.TheVariants.{Held, Spent, Dropped}
+use Rattle.output_lines.specs.declared.words.InstanceFate.{InstanceFate}
+use Rattle.output_lines.specs.declared.words.InstanceFate.TheVariants.{Live, Replaced, Pruned, Reloaded}
 use Rattle.client_model.specs.Instance.{Instance, Handler, is_dispose, is_prune}
 use Rattle.client_model.specs.Journal.{Journal}
 use Rattle.client_model.specs.Runtime.{Runtime}
 
 -- a later disposer displaces an earlier one, and a later prune handler an earlier one
-abbrev pub displaces : Kind → Kind → Bool
+abbrev pub displaces : HandlerKind → HandlerKind → Bool
 displaces later earlier = (is_dispose later && is_dispose earlier) || (is_prune later && is_prune earlier)
 
 -- some handler that was registered later displaced one of this kind
-abbrev pub is_displaced : Kind → List Handler → Bool
+abbrev pub is_displaced : HandlerKind → List Handler → Bool
 is_displaced kind later = list_any (λ h. displaces h.kind kind) later
 
 -- The end of a handler that none displaced. A live instance holds all of them. At a replacement the
 -- disposer is spent; callbacks on the module itself are spent or dropped, the others dropped. At a prune
 -- the disposer and the prune handler are spent, the others dropped. A page reload drops them all.
-abbrev pub EndsBy : InstanceFate → Kind → HandlerEnd → Type 0
+abbrev pub EndsBy : InstanceFate → HandlerKind → HandlerEnd → Type 0
 EndsBy Live kind end = end ≡ Held
 EndsBy (Replaced k) kind.Dispose end = end ≡ Spent
 EndsBy (Replaced k) kind.Prune end = end ≡ Dropped

@@ -1,6 +1,6 @@
 -- The first client of a small page, and all that happened in it, after some steps.
 use Rattle.std.specs.Prelude.{List}
-use Rattle.core_model.specs.declared.message.ServerMsg.{ServerMsg}
+use Rattle.update_msgs.specs.declared.message.ServerMsg.{ServerMsg}
 use Rattle.client_model.specs.Journal.{Journal}
 use Rattle.client_model.specs.Runtime.{Runtime}
 use Rattle.client_model.specs.Taking.{runtime_after, journal_of}

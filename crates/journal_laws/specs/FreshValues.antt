@@ -5,9 +5,9 @@ use Rattle.std.specs.List.{list_any}
 use Prim.{⊥}
 use Rattle.hmr_types.specs.declared.value.Slot.{Slot}
 use Rattle.hmr_types.specs.declared.value.Slot.TheVariants.{Unset}
-use Rattle.hmr_types.specs.declared.words.FaultPlace.{FaultPlace}
-use Rattle.hmr_types.specs.declared.words.InstanceStatus.{InstanceStatus}
-use Rattle.hmr_types.specs.declared.words.InstanceStatus.TheVariants.{Unrun}
+use Rattle.output_lines.specs.declared.words.FaultPlace.{FaultPlace}
+use Rattle.output_lines.specs.declared.words.InstanceStatus.{InstanceStatus}
+use Rattle.output_lines.specs.declared.words.InstanceStatus.TheVariants.{Unrun}
 use Rattle.core_model.specs.Names.{Name, has, at}
 use Rattle.core_model.specs.Paths.{Reaches}
 use Rattle.core_model.specs.Sources.{Serving}

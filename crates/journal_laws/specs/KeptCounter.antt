@@ -1,8 +1,8 @@
 -- A page that imports a counter, doesn't, and does again: with which data each module starts, and how each
 -- instance ends.
 use Rattle.std.specs.Prelude.{ℕ, true, false, List, [], ◌∷◌, flat_map, Some, None, codes}
-use Rattle.hmr_types.specs.Syntax.{name, bag_set, code, declare, deps, own, dispose}
-use Rattle.hmr_types.specs.declared.words.InstanceFate.{InstanceFate}
+use Rattle.module_tree.specs.Syntax.{name, bag_set, code, declare, deps, own, dispose}
+use Rattle.output_lines.specs.declared.words.InstanceFate.{InstanceFate}
 use Rattle.core_model.specs.Names.{Name}
 use Rattle.core_model.specs.Sources.{Text}
 use Rattle.client_model.specs.Language.{Bag}

@@ -1,6 +1,6 @@
 // What of a module's data reaches which instance.
 ghost use Rattle.std.specs.Prelude.{◌≡◌, [], ◌∷◌, pos};
-ghost use Rattle.hmr_types.specs.declared.words.InstanceFate.TheVariants.{Replaced, Pruned};
+ghost use Rattle.output_lines.specs.declared.words.InstanceFate.TheVariants.{Replaced, Pruned};
 ghost use Rattle.hmr_types.specs.declared.value.Value.TheVariants.{Num};
 ghost use Rattle.client_model.specs.Language.{Language};
 ghost use Rattle.world_model.specs.SmallPages.{m, c};

@@ -1,7 +1,7 @@
 // Where the values of a page are those of a page that is loaded anew.
 ghost use Rattle.std.specs.Prelude.{◌≡◌, ℕ, List, [], ◌∷◌, codes};
 ghost use Rattle.hmr_types.specs.declared.value.Slot.TheVariants.{Unset};
-ghost use Rattle.hmr_types.specs.declared.words.InstanceStatus.TheVariants.{Done, Faulted, Unrun};
+ghost use Rattle.output_lines.specs.declared.words.InstanceStatus.TheVariants.{Done, Faulted, Unrun};
 ghost use Rattle.core_model.specs.Names.{Name};
 ghost use Rattle.core_model.specs.Sources.{Text};
 ghost use Rattle.core_model.specs.Client.{Client};

@@ -9,7 +9,7 @@ ghost use Rattle.journal_laws.specs.WorkedValues.{values_in, evaluations_in, imp
 ghost use Rattle.world_model.specs.UpdateScripts.{counter, count};
 ghost use Rattle.world_model.specs.HandlerScripts.{faulting};
 ghost use Rattle.hmr_types.specs.declared.value.Slot.TheVariants.{Unset};
-ghost use Rattle.hmr_types.specs.declared.words.InstanceStatus.TheVariants.{Faulted, Unrun};
+ghost use Rattle.output_lines.specs.declared.words.InstanceStatus.TheVariants.{Faulted, Unrun};
 
 /// The variables of each instance, live or not, are those that its evaluation made, with what the runs of
 /// its own handlers assigned since.

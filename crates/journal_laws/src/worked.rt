@@ -1,6 +1,6 @@
 // Runs of a client in which handlers are run and dropped, computed by the checker in a small language.
 ghost use Rattle.std.specs.Prelude.{◌≡◌, [], ◌∷◌, map};
-ghost use Rattle.hmr_types.specs.declared.words.InstanceFate.TheVariants.{Replaced, Pruned};
+ghost use Rattle.output_lines.specs.declared.words.InstanceFate.TheVariants.{Replaced, Pruned};
 ghost use Rattle.world_model.specs.World.{turn};
 ghost use Rattle.world_model.specs.HandlerScripts.{hosting, seeing};
 ghost use Rattle.journal_laws.specs.Counts.{runs_of, drops_of, fates_in, disposals, prunings};

@@ -2,11 +2,9 @@
 // fault in a module and in a handler, imports without a value, and a row as long as a text allows.
 // Expressions are written with their operators last: `2 3 4 * -` is `2 - 3 * 4`.
 use const_eval::{Evaluated, eval_module, run_body};
-use hmr_types::{
-    EvalFault, Expr, HandlerCode, Item, Kind, Module, Name, Once, Op, Sequence, Slot, Stmt, Text,
-    Value,
-};
+use hmr_types::{EvalFault, HandlerKind, Name, Sequence, Slot, Text, Value};
 use module_semantics::{Env, ModParam, Registered};
+use module_tree::{Expr, HandlerCode, Item, Module, Once, Op, Stmt};
 use retained_data::Bag;
 use std::alloc::{AllocError, Global};
 use std::test::Fail;
@@ -284,7 +282,7 @@ fn registered_told(alloc: Global) -> Result<String, AllocError> {
     match got.registered.as_slice() {
         [
             Registered {
-                kind: Kind::Dispose,
+                kind: HandlerKind::Dispose,
                 deps: _,
                 what: Once::Code(code),
             },

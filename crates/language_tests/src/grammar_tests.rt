@@ -6,7 +6,7 @@ use std::test::Fail;
 
 /// How many items a text has, or `LINE:COLUMN` of its fault and what it is.
 fn told(alloc: Global, text: &str) -> Result<String, AllocError> {
-    if text.len() > 65_536 {
+    if text.len() > 131_072 {
         return String::from_str(alloc, "too long");
     }
     match parse(alloc, text.as_bytes()) {

@@ -10,8 +10,9 @@ use const_eval::Ran;
 use handler_table::{
     Handler, Handlers, Held, Shelf, host_run, shelves_keep_their_word, tables_keep_their_word,
 };
-use hmr_types::{Expr, HandlerCode, ModName, Name, Sequence, Stmt, Text, Value};
+use hmr_types::{ModName, Name, Sequence, Text, Value};
 use module_semantics::{Env, ModParam};
+use module_tree::{Expr, HandlerCode, Stmt};
 use retained_data::Bag;
 use std::alloc::{AllocError, Global};
 use std::test::Fail;

@@ -14,7 +14,7 @@ enum Expected<'a> {
 
 /// The tokens of a text that is short enough for `lex`, or its fault.
 fn lexed(alloc: Global, text: &str) -> Option<Result<Vec<Token>, LexFault>> {
-    if text.len() > 65_536 {
+    if text.len() > 131_072 {
         return None;
     }
     Some(lex(alloc, text))
@@ -127,13 +127,13 @@ fn tokens_faults_and_the_limit(rt: HostRuntime) -> Result<(), Fail> {
     }
 
     for (last, outcome) in [
-        (" // x", Ok(32_768)),
+        (" // x", Ok(65_536)),
         (";", Err(LexKind::TooManyTokens)),
         ("1a", Err(LexKind::TooManyTokens)),
         ("#", Err(LexKind::BadByte)),
     ] {
         assert!(rt;
-            after_tokens(alloc, 32_768, last)? == Some(outcome),
+            after_tokens(alloc, 65_536, last)? == Some(outcome),
             "{last}"
         );
     }

@@ -169,10 +169,10 @@ fn nesting_has_a_limit(rt: HostRuntime) -> Result<(), Fail> {
         told(alloc, nested(alloc, 32_000, "")?.as_bytes())?.as_str(),
         "1:73 too-deep"
     );
-    let all = "(".repeat(alloc, 65_536)?;
+    let all = "(".repeat(alloc, 131_072)?;
     assert_eq!(rt;
         told(alloc, all.as_bytes())?.as_str(),
-        "1:32769 too-many-tokens"
+        "1:65537 too-many-tokens"
     );
     Ok(())
 }

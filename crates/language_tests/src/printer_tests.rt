@@ -1,9 +1,8 @@
 // What no clause says: that printing succeeds with ample memory, over the worked module, each other
 // form once, and a row as long as a text allows.
-use hmr_types::{
-    Cond, Expr, HandlerCode, ImportName, Item, Module, Name, Once, Op, Sequence, Stmt, Text,
-};
+use hmr_types::{Name, Sequence, Text};
 use hot_printer::print;
+use module_tree::{Cond, Expr, HandlerCode, ImportName, Item, Module, Once, Op, Stmt};
 use std::alloc::{AllocError, Global};
 use std::test::Fail;
 

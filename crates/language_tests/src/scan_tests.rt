@@ -2,8 +2,9 @@
 // ample memory. Items are written as words: `i:SPEC` imports, `a:SPEC,SPEC` accepts, `e:NAME` exports,
 // `h:NAME` declares without an export. An analysis is written in the same words.
 use hmr_types::limits::TEXT_BYTES;
-use hmr_types::{Analysis, Expr, Item, ModName, Module, Name, Outcome, Sequence, SpecFault, Text};
+use hmr_types::{Analysis, ModName, Name, Outcome, Sequence, SpecFault, Text};
 use import_scan::{ScanFault, analyse, links, transform};
+use module_tree::{Expr, Item, Module};
 use std::alloc::{AllocError, Global};
 use std::test::Fail;
 

@@ -5,13 +5,13 @@ use Rattle.std.specs.List.{list_all}
 use Rattle.std.proofs.lemmas.Cmp.{nat_list_eq_equiv}
 use Rattle.std.proofs.lemmas.List.Folds.{list_all-append}
 use Rattle.hmr_types.specs.Specifier.{resolve}
-use Rattle.hmr_types.specs.Syntax.{ModuleTree}
+use Rattle.module_tree.specs.Syntax.{ModuleTree}
 use Rattle.hmr_types.specs.declared.analysis.Analysis.{Analysis}
 use Rattle.hmr_types.specs.declared.analysis.Outcome.{Outcome}
 use Rattle.hmr_types.specs.declared.analysis.Outcome.TheVariants.{Good, Bad}
 use Rattle.hmr_types.specs.declared.analysis.TextFault.{TextFault}
 use Rattle.hmr_types.specs.declared.specifier.SpecFault.{SpecFault}
-use Rattle.hmr_types.specs.declared.tree.ImportName.{ImportName}
+use Rattle.module_tree.specs.declared.tree.ImportName.{ImportName}
 use Rattle.module_semantics.specs.declared.scanning.ScanFault.TheVariants as scan
 use Rattle.module_semantics.specs.Analysis.{analysis_of, first_refusal, firsts, if_all_mean, if_few, imported_by, imports_of, meant, name_and, outcome_of, scan_outcome, specifiers_of}
 use Rattle.module_semantics.specs.ModuleText.{parsing}

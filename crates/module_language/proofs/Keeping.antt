@@ -1,7 +1,7 @@
 -- Each bag that a client of the module language keeps is a bag, whatever messages it took.
 use Rattle.std.proofs.Common.{◌≡◌, ℕ, Bool, true, false, List, [], ◌∷◌, refl, ap, ◌∙◌}
 use Rattle.std.specs.Prelude.{Option, None, if◌then◌else◌}
-use Rattle.core_model.specs.declared.message.ServerMsg.{ServerMsg}
+use Rattle.update_msgs.specs.declared.message.ServerMsg.{ServerMsg}
 use Rattle.core_model.specs.Names.{Name, same_name, at, with_row, without}
 use Rattle.core_model.specs.Sources.{Text}
 use Rattle.core_model.proofs.Tables.{at_without}

@@ -1,7 +1,7 @@
 -- What evaluations and runs leave: bags stay bags, and variables are the declared names.
 use Rattle.std.proofs.Common.{◌≡◌, ℕ, true, List, Ok, Option, ap, ◌∙◌}
 use Rattle.std.specs.Prelude.{map}
-use Rattle.hmr_types.specs.Syntax.{HandlerTree, ModuleTree}
+use Rattle.module_tree.specs.Syntax.{HandlerTree, ModuleTree}
 use Rattle.module_semantics.specs.Entries.{is_bag, names_of}
 use Rattle.module_semantics.specs.Modules.{declared_names, module_run}
 use Rattle.module_semantics.specs.ModuleText.{parsing}

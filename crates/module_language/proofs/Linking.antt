@@ -2,9 +2,9 @@
 use Rattle.std.proofs.Common.{◌≡◌, List, [], ◌∷◌, ◌++◌, Ok, Err, refl, ap, ◌∙◌}
 use Rattle.std.specs.Prelude.{flat_map, map}
 use Rattle.std.proofs.lemmas.List.{map-append}
-use Rattle.hmr_types.specs.Syntax.{ModuleTree}
+use Rattle.module_tree.specs.Syntax.{ModuleTree}
 use Rattle.hmr_types.specs.declared.analysis.TextFault.{TextFault}
-use Rattle.hmr_types.specs.declared.tree.ImportName.{ImportName}
+use Rattle.module_tree.specs.declared.tree.ImportName.{ImportName}
 use Rattle.module_semantics.specs.Analysis.{imported_by, meant}
 use Rattle.module_semantics.specs.ModuleText.{parsing}
 use Rattle.core_model.specs.Names.{Name}

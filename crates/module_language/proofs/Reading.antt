@@ -1,7 +1,7 @@
 -- What the module language tells of a text, by what the text reads as.
 use Rattle.std.proofs.Common.{◌≡◌, ap}
 use Rattle.std.specs.Prelude.{Result}
-use Rattle.hmr_types.specs.Syntax.{ModuleTree}
+use Rattle.module_tree.specs.Syntax.{ModuleTree}
 use Rattle.hmr_types.specs.declared.analysis.TextFault.{TextFault}
 use Rattle.module_semantics.specs.Analysis.{outcome_of}
 use Rattle.module_semantics.specs.ModuleText.{parsing}

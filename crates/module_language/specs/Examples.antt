@@ -1,8 +1,8 @@
 -- Texts for worked examples, and the trees that they read as.
 use Rattle.std.specs.Prelude.{false, true, [], ◌∷◌, codes, Some, None, pos}
-use Rattle.hmr_types.specs.Syntax as tree
-use Rattle.hmr_types.specs.Syntax.{HandlerTree, ModuleTree}
-use Rattle.hmr_types.specs.declared.tree.Op.TheVariants as ops
+use Rattle.module_tree.specs.Syntax as tree
+use Rattle.module_tree.specs.Syntax.{HandlerTree, ModuleTree}
+use Rattle.module_tree.specs.declared.tree.Op.TheVariants as ops
 use Rattle.hmr_types.specs.declared.value.Value.TheVariants.{Num}
 use Rattle.hmr_types.specs.declared.value.Slot.TheVariants.{Unset, Val}
 use Rattle.hmr_types.specs.declared.analysis.FaultWord.TheVariants.{Unexpected}

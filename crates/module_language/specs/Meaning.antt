@@ -1,7 +1,7 @@
 -- Modules whose specifiers all mean modules.
 use Rattle.std.specs.Prelude.{◌≡◌, List, [], ◌∷◌, map, Ok, ⊤}
 use Rattle.hmr_types.specs.Specifier.{resolve}
-use Rattle.hmr_types.specs.Syntax.{ModuleTree}
+use Rattle.module_tree.specs.Syntax.{ModuleTree}
 use Rattle.module_semantics.specs.Analysis.{accepted_by, imported_by, meant}
 use Rattle.core_model.specs.Names.{Name}
 

@@ -1,9 +1,9 @@
 -- The module language of this repository, as a client takes a language.
 use Rattle.std.specs.Prelude.{ℕ, List, [], map, flat_map, Option, Some, None, Result, Ok, Err}
-use Rattle.hmr_types.specs.Syntax as tree
-use Rattle.hmr_types.specs.Syntax.{HandlerTree, ItemTree, ModuleTree}
+use Rattle.module_tree.specs.Syntax as tree
+use Rattle.module_tree.specs.Syntax.{HandlerTree, ItemTree, ModuleTree}
 use Rattle.hmr_types.specs.declared.analysis.TextFault.{TextFault}
-use Rattle.hmr_types.specs.declared.tree.ImportName.{ImportName}
+use Rattle.module_tree.specs.declared.tree.ImportName.{ImportName}
 use Rattle.module_semantics.specs.Analysis.{imported_by, meant, transformed}
 use Rattle.module_semantics.specs.Bodies as bodies
 use Rattle.module_semantics.specs.Bodies.{Registration, body_run, host_ran}

@@ -1,10 +1,10 @@
 // Worked examples of the module language, computed by the checker from the texts.
 ghost use Rattle.std.specs.Prelude.{◌≡◌, [], ◌∷◌, codes, true, false, pos};
-ghost use Rattle.hmr_types.specs.Syntax as tree;
+ghost use Rattle.module_tree.specs.Syntax as tree;
 ghost use Rattle.module_language.specs.ModuleLanguage.{module_language};
 ghost use Rattle.module_language.specs.Examples.{m, x, importer, hears, keeper, keeps, astray, nameless, importer_slots, kept_five};
 
-use hmr_types::{FaultWord, Kind, Outcome, Slot, Value};
+use hmr_types::{FaultWord, HandlerKind, Outcome, Slot, Value};
 
 /// What analysis tells of a text, or the first fault of it.
 pub fn texts_are_transformed()
@@ -35,7 +35,7 @@ pub fn modules_are_evaluated()
           fault = None;
           vars = (codes "n", Slot.Val (Value.Num (pos 7))) ∷ [];
           lines = [];
-          registered = record { kind = Kind.Dep; deps = x ∷ []; what = tree.code hears } ∷ [];
+          registered = record { kind = HandlerKind.Dep; deps = x ∷ []; what = tree.code hears } ∷ [];
           bag = [];
         } }
     ensures keeper { module_language.evaluated m keeper [] kept_five
@@ -43,7 +43,7 @@ pub fn modules_are_evaluated()
           fault = None;
           vars = (codes "n", Slot.Val (Value.Num (pos 5))) ∷ [];
           lines = [];
-          registered = record { kind = Kind.Dispose; deps = []; what = tree.code keeps } ∷ [];
+          registered = record { kind = HandlerKind.Dispose; deps = []; what = tree.code keeps } ∷ [];
           bag = kept_five;
         } }
     ensures nameless { module_language.evaluated m nameless [] kept_five

@@ -1,10 +1,10 @@
 // Laws of the module language as a client takes it: each clause holds of the definitions, for every
 // text, name and bag.
 ghost use Rattle.std.specs.Prelude.{◌≡◌, ℕ, true, List, [], Option, Ok, Err, flat_map};
-ghost use Rattle.hmr_types.specs.Syntax.{HandlerTree, ModuleTree};
+ghost use Rattle.module_tree.specs.Syntax.{HandlerTree, ModuleTree};
 ghost use Rattle.hmr_types.specs.declared.analysis.Analysis.{Analysis};
 ghost use Rattle.hmr_types.specs.declared.analysis.TextFault.{TextFault};
-ghost use Rattle.core_model.specs.declared.message.ServerMsg.{ServerMsg};
+ghost use Rattle.update_msgs.specs.declared.message.ServerMsg.{ServerMsg};
 ghost use Rattle.core_model.specs.Names.{Name};
 ghost use Rattle.core_model.specs.Sources.{Text};
 ghost use Rattle.client_model.specs.Language.{BindsImports, Bag, Slots, links_of};

@@ -4,7 +4,7 @@ use Rattle.std.specs.Prelude.{bytes_eq, not, ◌&&◌, ◌||◌, filter, nat_lt,
 use Rattle.std.specs.List.{list_all}
 use Rattle.std.proofs.lemmas.Bool.{and_parts, and_from, not-true, ltb-false, true≢false}
 use Rattle.std.proofs.lemmas.Map.Views.{any-filter_same}
-use Rattle.hmr_types.specs.Syntax.{ModuleTree}
+use Rattle.module_tree.specs.Syntax.{ModuleTree}
 use Rattle.hmr_types.specs.declared.analysis.Analysis.{Analysis}
 use Rattle.hmr_types.specs.declared.specifier.SpecFault.{SpecFault}
 use Rattle.module_semantics.specs.declared.scanning.ScanFault.{ScanFault}

@@ -1,7 +1,7 @@
 -- The canonical tokens of branches, and of statements one after another, are written as them.
 use Rattle.std.proofs.Common.{◌≡◌, ℕ, suc, ◌≤◌, List, [], ◌++◌, true, ◌&&◌, Some, refl, ap, arith}
-use Rattle.hmr_types.specs.Syntax as tree
-use Rattle.hmr_types.specs.Syntax.{ExprTree, CondTree, StmtTree, StmtTrees}
+use Rattle.module_tree.specs.Syntax as tree
+use Rattle.module_tree.specs.Syntax.{ExprTree, CondTree, StmtTree, StmtTrees}
 use Rattle.module_semantics.specs.Grammar as grammar
 use Rattle.module_semantics.specs.Grammar.{StmtsD, ElseD, BlockD, stmt_spelt, stmts_spelt, else_spelt, stmts_raw, else_raw, stmts_depth, else_depth}
 use Rattle.module_semantics.specs.NameRules.{Within, accepts, stmts_broken}

@@ -2,8 +2,8 @@
 use Rattle.std.specs.Prelude.{◌≡◌, [], ◌∷◌, true, false, Some, None, codes}
 use Rattle.std.proofs.Common.{refl}
 use Rattle.std.specs.Fmt.{digits}
-use Rattle.hmr_types.specs.Syntax.{ExprTree, num, text, undefined, name, bag, member, neg, binary, choose, param, value, no_stmts, one_stmt, log, assign, bag_set, throw, invalidate, branch, code, host, import, declare, act, own, deps, dispose, prune, decline}
-use Rattle.hmr_types.specs.declared.tree.Op.TheVariants as ops
+use Rattle.module_tree.specs.Syntax.{ExprTree, num, text, undefined, name, bag, member, neg, binary, choose, param, value, no_stmts, one_stmt, log, assign, bag_set, throw, invalidate, branch, code, host, import, declare, act, own, deps, dispose, prune, decline}
+use Rattle.module_tree.specs.declared.tree.Op.TheVariants as ops
 use Rattle.module_semantics.specs.Canon.{expr_text, canon}
 
 abbrev a : ExprTree

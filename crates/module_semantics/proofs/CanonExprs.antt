@@ -3,10 +3,10 @@ use Rattle.std.proofs.Common.{◌≡◌, ℕ, suc, ◌≤◌, List, [], ◌∷�
 use Rattle.std.proofs.lemmas.Bool.{eqb-true}
 use Rattle.std.proofs.lemmas.List.{append_assoc}
 use Rattle.std.specs.Str.{bytes_eq}
-use Rattle.hmr_types.specs.Syntax as tree
-use Rattle.hmr_types.specs.Syntax.{ExprTree}
-use Rattle.hmr_types.specs.declared.tree.Op.{Op}
-use Rattle.hmr_types.specs.declared.tree.Op.TheVariants as ops
+use Rattle.module_tree.specs.Syntax as tree
+use Rattle.module_tree.specs.Syntax.{ExprTree}
+use Rattle.module_tree.specs.declared.tree.Op.{Op}
+use Rattle.module_tree.specs.declared.tree.Op.TheVariants as ops
 use Rattle.hmr_types.specs.declared.analysis.FaultWord.{FaultWord}
 use Rattle.hmr_types.specs.declared.analysis.FaultWord.TheVariants.{Unexpected}
 use Rattle.module_semantics.specs.Token as token

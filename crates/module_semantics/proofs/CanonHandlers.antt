@@ -1,8 +1,8 @@
 -- The canonical tokens of callbacks and host closures are written as them.
 use Rattle.std.proofs.Common.{◌≡◌, ℕ, ◌≤◌, List, [], ◌∷◌, ◌++◌, true, not, ◌&&◌, Option, Some, None, refl, ap, ◌∙◌, subst, sym, arith}
 use Rattle.std.specs.List.{list_all}
-use Rattle.hmr_types.specs.Syntax as tree
-use Rattle.hmr_types.specs.Syntax.{StmtTrees, HandlerTree, OnceTree}
+use Rattle.module_tree.specs.Syntax as tree
+use Rattle.module_tree.specs.Syntax.{StmtTrees, HandlerTree, OnceTree}
 use Rattle.module_semantics.specs.Token as token
 use Rattle.module_semantics.specs.Token.{Token, LineToken}
 use Rattle.module_semantics.specs.Kinds.{ARROW, OPEN, CLOSE, NameAt, name_at, free_names}

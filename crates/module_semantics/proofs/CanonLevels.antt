@@ -2,8 +2,8 @@
 -- spelled by them that says the tree, breaks no rule on names, and is no deeper than told.
 use Rattle.std.proofs.Common.{◌≡◌, ℕ, suc, ◌≤◌, List, [], ◌∷◌, ◌++◌, map, true, Some, refl, ap, ◌∙◌, arith}
 use Rattle.std.proofs.lemmas.List.{append_assoc}
-use Rattle.hmr_types.specs.Syntax as tree
-use Rattle.hmr_types.specs.Syntax.{ExprTree}
+use Rattle.module_tree.specs.Syntax as tree
+use Rattle.module_tree.specs.Syntax.{ExprTree}
 use Rattle.module_semantics.specs.Token as token
 use Rattle.module_semantics.specs.Token.{Token, LineToken}
 use Rattle.module_semantics.specs.Kinds.{kind, within, OPEN, CLOSE, MINUS}

@@ -4,8 +4,8 @@ use Rattle.std.proofs.Common.{◌≡◌, ℕ, ◌≤◌, List, [], ◌∷◌, ma
 use Rattle.std.proofs.lemmas.List.{append-nil}
 use Rattle.std.specs.List.{list_all}
 use Rattle.std.specs.Str.{IsUtf8}
-use Rattle.hmr_types.specs.Syntax as tree
-use Rattle.hmr_types.specs.Syntax.{ItemTree, ModuleTree}
+use Rattle.module_tree.specs.Syntax as tree
+use Rattle.module_tree.specs.Syntax.{ItemTree, ModuleTree}
 use Rattle.hmr_types.specs.declared.limits.TheConstants.{DEPTH, TOKENS}
 use Rattle.module_semantics.specs.Token.{Token, Lexeme}
 use Rattle.module_semantics.specs.Lines.{line_tokens}

@@ -1,7 +1,7 @@
 -- The canonical tokens of the statements that hold no other are written as them.
 use Rattle.std.proofs.Common.{◌≡◌, ℕ, ◌≤◌, List, [], ◌++◌, Bool, true, false, not, ◌&&◌, ◌||◌, Option, refl, ap, ◌∙◌}
-use Rattle.hmr_types.specs.Syntax as tree
-use Rattle.hmr_types.specs.Syntax.{ExprTree, StmtTree}
+use Rattle.module_tree.specs.Syntax as tree
+use Rattle.module_tree.specs.Syntax.{ExprTree, StmtTree}
 use Rattle.hmr_types.specs.declared.analysis.FaultWord.TheVariants.{Unexpected, NotAssignable}
 use Rattle.module_semantics.specs.Kinds.{DATA, DOT, EQUALS, INVALIDATE, OPEN, CLOSE, free_names, name_at}
 use Rattle.module_semantics.specs.Spelling as spell

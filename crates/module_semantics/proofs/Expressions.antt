@@ -1,8 +1,8 @@
 -- Expressions: each level of the grammar, with its reader.
 use Rattle.std.specs.Str.{bytes_eq}
 use Rattle.std.proofs.Common.{◌≡◌, ℕ, zero, suc, ◌+◌, ◌≤◌, max, List, [], ◌∷◌, map, ◌==◌, Bool, true, false, ◌⊎◌, inl, inr, Option, Some, None, refl, sym, ap, ◌∙◌, arith, codes, ◌++◌}
-use Rattle.hmr_types.specs.declared.tree.Op.{Op}
-use Rattle.hmr_types.specs.declared.tree.Op.TheVariants as ops
+use Rattle.module_tree.specs.declared.tree.Op.{Op}
+use Rattle.module_tree.specs.declared.tree.Op.TheVariants as ops
 use Rattle.module_semantics.specs.Token.{number, LineToken, name, punct}
 use Rattle.module_semantics.specs.Kinds.{IMPORT, UNDEFINED, META, HOT, DATA, NUMBER, TEXT, OPEN, CLOSE, DOT, PLUS, MINUS, TIMES, QUESTION, COLON, SAFE_DOT, NULLISH, SEMICOLON, ERROR, within, kind, value_of, free_names, all_names, NameAt, name_at, same_name, bytes_of, word_kind, found_word}
 use Rattle.module_semantics.specs.Raw as raw

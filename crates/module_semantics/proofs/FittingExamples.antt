@@ -3,8 +3,8 @@ use Rattle.std.specs.Prelude.{◌≡◌, ℕ, zero, suc, [], ◌∷◌, true, fa
 use Rattle.std.proofs.Common.{refl}
 use Rattle.std.specs.Str.{is_utf8, chars}
 use Rattle.std.specs.Char.{encode_utf8}
-use Rattle.hmr_types.specs.Syntax.{ExprTree, num, text, name, member, neg, binary, param, value, no_stmts, one_stmt, log, assign, invalidate, branch, code, import, declare, act, own, deps, dispose}
-use Rattle.hmr_types.specs.declared.tree.Op.TheVariants as ops
+use Rattle.module_tree.specs.Syntax.{ExprTree, num, text, name, member, neg, binary, param, value, no_stmts, one_stmt, log, assign, invalidate, branch, code, import, declare, act, own, deps, dispose}
+use Rattle.module_tree.specs.declared.tree.Op.TheVariants as ops
 use Rattle.module_semantics.specs.Bytes.{is_name_start, is_name_byte, is_digit}
 use Rattle.module_semantics.specs.Kinds.{within, word_kind, found_word}
 use Rattle.module_semantics.specs.Pieces.{all}

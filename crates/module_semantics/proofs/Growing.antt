@@ -2,7 +2,7 @@
 use Rattle.std.proofs.Common.{◌≡◌, ℕ, Bool, true, false, if◌then◌else◌, List, [], ◌∷◌, ◌++◌, Option, Some, None, refl, ap, sym, ◌∙◌, subst, append_assoc}
 use Rattle.std.specs.Prelude.{bytes_eq, is_some, ◌||◌, codes, pos}
 use Rattle.std.specs.Cmp.Lexicographic.{bytes_decides}
-use Rattle.hmr_types.specs.Syntax.{HandlerTree, ModuleTree, StmtTrees}
+use Rattle.module_tree.specs.Syntax.{HandlerTree, ModuleTree, StmtTrees}
 use Rattle.hmr_types.specs.declared.value.Value.{Value}
 use Rattle.hmr_types.specs.declared.value.Value.TheVariants.{Num}
 use Rattle.hmr_types.specs.declared.value.Slot.{Slot}

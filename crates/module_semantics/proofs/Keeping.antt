@@ -1,12 +1,12 @@
 -- What each single step of an evaluation keeps, all of it keeps.
 use Rattle.std.proofs.Common.{◌≡◌, ℕ, Bool, true, false, if◌then◌else◌, List, [], ◌∷◌, ◌++◌, Result, Ok, Err, Option, Some, None, refl, sym, ◌∙◌}
-use Rattle.hmr_types.specs.Syntax as tree
-use Rattle.hmr_types.specs.Syntax.{ExprTree, StmtTree, StmtTrees, HandlerTree, OnceTree, ItemTree, ModuleTree}
-use Rattle.hmr_types.specs.Tree.{stmts}
+use Rattle.module_tree.specs.Syntax as tree
+use Rattle.module_tree.specs.Syntax.{ExprTree, StmtTree, StmtTrees, HandlerTree, OnceTree, ItemTree, ModuleTree}
+use Rattle.module_tree.specs.Tree.{stmts}
 use Rattle.hmr_types.specs.declared.value.Value.{Value}
 use Rattle.hmr_types.specs.declared.value.EvalFault.{EvalFault}
-use Rattle.hmr_types.specs.declared.words.Kind.{Kind}
-use Rattle.hmr_types.specs.declared.words.Kind.TheVariants.{Dispose, Prune, Own, Dep}
+use Rattle.hmr_types.specs.declared.words.HandlerKind.{HandlerKind}
+use Rattle.hmr_types.specs.declared.words.HandlerKind.TheVariants.{Dispose, Prune, Own, Dep}
 use Rattle.module_semantics.specs.Values.{written}
 use Rattle.module_semantics.specs.Evaluation.{value_of, values_of}
 use Rattle.module_semantics.specs.Bodies.{State, Context, Progress, next, with_result, scope_of, add_line, assign, keep, throw, add_invalidation, invalidate, holds, run, run_all}
@@ -19,7 +19,7 @@ pub record IsKept (declares : List ℕ → Type 0) (fact : State → Type 0) : T
   pub kept : (k : List ℕ) (s : State) (v : Value) → fact s → fact (keep k s v).0
   pub invalidated : (s : State) (message : List ℕ) → fact s → fact (add_invalidation s message).0
   pub declared : (n : List ℕ) (s : State) (v : Value) → declares n → fact s → fact (declare n s v).0
-  pub registered : (kind : Kind) (deps : List (List ℕ)) (what : OnceTree) (s : State) → fact s → fact (register kind deps what s).0
+  pub registered : (kind : HandlerKind) (deps : List (List ℕ)) (what : OnceTree) (s : State) → fact s → fact (register kind deps what s).0
 
 -- each name that is declared is such a name
 abbrev pub Each : (List ℕ → Type 0) → List (List ℕ) → Type 0

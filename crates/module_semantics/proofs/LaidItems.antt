@@ -2,9 +2,9 @@
 use Rattle.std.proofs.Common.{◌≡◌, ℕ, List, [], ◌∷◌, ◌++◌, map, Bool, true, false, cond, Option, Some, None, refl, ap, subst, codes}
 use Rattle.std.specs.List.{list_all}
 use Rattle.std.specs.Str.{bytes_eq}
-use Rattle.hmr_types.specs.Syntax as tree
-use Rattle.hmr_types.specs.Syntax.{ExprTree, HandlerTree, OnceTree, ItemTree, ModuleTree}
-use Rattle.hmr_types.specs.declared.tree.ImportName.{ImportName}
+use Rattle.module_tree.specs.Syntax as tree
+use Rattle.module_tree.specs.Syntax.{ExprTree, HandlerTree, OnceTree, ItemTree, ModuleTree}
+use Rattle.module_tree.specs.declared.tree.ImportName.{ImportName}
 use Rattle.module_semantics.specs.Token as token
 use Rattle.module_semantics.specs.Token.{Token}
 use Rattle.module_semantics.specs.Canon.{quoted, commas, callback_text, handler_text, list_params, list_handler_text, once_text, import_name_text, import_text, export_text, declare_text, call_text, own_text, specs_text, deps_handler_text, item_text, canon}

@@ -1,7 +1,7 @@
 -- The canonical text of statements is laid out in their canonical tokens.
 use Rattle.std.proofs.Common.{◌≡◌, ℕ, zero, suc, List, [], ◌∷◌, map, true, false, Option, Some, None, sym, subst}
-use Rattle.hmr_types.specs.Syntax as tree
-use Rattle.hmr_types.specs.Syntax.{ExprTree, CondTree, StmtTree, StmtTrees}
+use Rattle.module_tree.specs.Syntax as tree
+use Rattle.module_tree.specs.Syntax.{ExprTree, CondTree, StmtTree, StmtTrees}
 use Rattle.module_semantics.specs.Token as token
 use Rattle.module_semantics.specs.Token.{Token}
 use Rattle.module_semantics.specs.Canon.{nth, expr_text, commas, cond_text, told_text, indent, else_text, stmt_text, stmts_text}

@@ -1,6 +1,6 @@
 -- A reader that takes the token at which its part begins: no fault stands at that token.
 use Rattle.std.proofs.Common.{◌≡◌, ℕ, zero, suc, ◌≤◌, List, [], ◌∷◌, ◌++◌, length, Bool, true, false, inl, inr, Some, None, Ok, Err, refl, ap, arith}
-use Rattle.hmr_types.specs.declared.tree.Op.TheVariants as ops
+use Rattle.module_tree.specs.declared.tree.Op.TheVariants as ops
 use Rattle.module_semantics.specs.Steps.{◌>>=◌}
 use Rattle.module_semantics.specs.Token.{LineToken}
 use Rattle.module_semantics.specs.Kinds.{QUESTION, PLUS, IMPORT, UNDEFINED, NUMBER, TEXT, OPEN, MINUS, within, free_names}

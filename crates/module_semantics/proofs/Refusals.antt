@@ -4,7 +4,7 @@ use Rattle.std.specs.Prelude.{nat_le, nat_lt, flat_map}
 use Rattle.hmr_types.specs.ModName.{parts, is_text, here, above, is_segment}
 use Rattle.hmr_types.specs.Results.{◌>>=◌}
 use Rattle.hmr_types.specs.Specifier.{resolve, led_to, walk, step, climb, name_of, spelled, without_last, segments}
-use Rattle.hmr_types.specs.Syntax.{ModuleTree}
+use Rattle.module_tree.specs.Syntax.{ModuleTree}
 use Rattle.hmr_types.specs.declared.analysis.Analysis.{Analysis}
 use Rattle.hmr_types.specs.declared.specifier.SpecFault.{SpecFault}
 use Rattle.hmr_types.specs.declared.specifier.SpecFault.TheVariants.{Bare, TooLong, BadSegment, NoMemory}

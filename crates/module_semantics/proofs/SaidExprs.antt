@@ -5,7 +5,7 @@ use Rattle.std.specs.Str.{bytes_eq, is_utf8}
 use Rattle.std.proofs.lemmas.Bool.{eqb-true}
 use Rattle.std.proofs.lemmas.Bool.Decides.{nat_tests}
 use Rattle.hmr_types.specs.declared.limits.TheConstants.{LARGEST_NUMBER}
-use Rattle.hmr_types.specs.declared.tree.Op.TheVariants as ops
+use Rattle.module_tree.specs.declared.tree.Op.TheVariants as ops
 use Rattle.module_semantics.specs.Token as token
 use Rattle.module_semantics.specs.Token.{Token, LineToken}
 use Rattle.module_semantics.specs.Kinds.{NUMBER, TEXT, IMPORT, UNDEFINED, META, HOT, DATA, OPEN, CLOSE, DOT, PLUS, MINUS, TIMES, QUESTION, COLON, SAFE_DOT, NULLISH, kind, within, word_kind, free_names, all_names, bytes_of, value_of, NameAt, name_at, same_name}

@@ -4,9 +4,9 @@ use Rattle.std.specs.List.{list_all}
 use Rattle.std.specs.Option.{option_map}
 use Rattle.std.specs.Str.{bytes_eq}
 use Rattle.std.proofs.lemmas.List.{map-append}
-use Rattle.hmr_types.specs.Syntax as tree
-use Rattle.hmr_types.specs.Syntax.{HandlerTree, OnceTree, ItemTree, ModuleTree}
-use Rattle.hmr_types.specs.declared.tree.ImportName.{ImportName}
+use Rattle.module_tree.specs.Syntax as tree
+use Rattle.module_tree.specs.Syntax.{HandlerTree, OnceTree, ItemTree, ModuleTree}
+use Rattle.module_tree.specs.declared.tree.ImportName.{ImportName}
 use Rattle.hmr_types.specs.declared.analysis.FaultWord.TheVariants.{DuplicateName}
 use Rattle.module_semantics.specs.Token as token
 use Rattle.module_semantics.specs.Token.{Token}

@@ -1,8 +1,8 @@
 -- What can be written and breaks no rule on names fits: statements.
 use Rattle.std.proofs.Common.{◌≡◌, ℕ, List, [], ◌∷◌, ◌++◌, map, Bool, true, false, not, cond, ◌||◌, Option, Some, None, refl, ap, ◌∙◌, codes}
 use Rattle.std.specs.Option.{option_map}
-use Rattle.hmr_types.specs.Syntax as tree
-use Rattle.hmr_types.specs.Syntax.{ExprTree, CondTree, StmtTree, StmtTrees}
+use Rattle.module_tree.specs.Syntax as tree
+use Rattle.module_tree.specs.Syntax.{ExprTree, CondTree, StmtTree, StmtTrees}
 use Rattle.hmr_types.specs.declared.analysis.FaultWord.TheVariants.{Unexpected, NotAssignable}
 use Rattle.module_semantics.specs.Token as token
 use Rattle.module_semantics.specs.Token.{Token}

@@ -1,15 +1,15 @@
 -- What statements do, and what a handler's body leaves.
 use Rattle.std.specs.Prelude.{ℕ, pos, Bool, true, false, if◌then◌else◌, List, [], ◌∷◌, ◌++◌, codes, decimal, Option, Some, None, Result, Ok, Err, slice_get}
-use Rattle.hmr_types.specs.Syntax as tree
-use Rattle.hmr_types.specs.Syntax.{ExprTree, CondTree, StmtTree, StmtTrees, HandlerTree, OnceTree}
-use Rattle.hmr_types.specs.Tree.{once_of}
+use Rattle.module_tree.specs.Syntax as tree
+use Rattle.module_tree.specs.Syntax.{ExprTree, CondTree, StmtTree, StmtTrees, HandlerTree, OnceTree}
+use Rattle.module_tree.specs.Tree.{once_of}
 use Rattle.hmr_types.specs.declared.value.Value.{Value}
 use Rattle.hmr_types.specs.declared.value.Value.TheVariants.{Num}
 use Rattle.hmr_types.specs.declared.value.Slot.{Slot}
 use Rattle.hmr_types.specs.declared.value.Slot.TheVariants.{Unset, Val}
 use Rattle.hmr_types.specs.declared.value.EvalFault.{EvalFault}
 use Rattle.hmr_types.specs.declared.value.EvalFault.TheVariants.{Uninitialised, Thrown, BagFull}
-use Rattle.hmr_types.specs.declared.words.Kind.{Kind}
+use Rattle.hmr_types.specs.declared.words.HandlerKind.{HandlerKind}
 use Rattle.module_semantics.specs.declared.evaluation.ModParam.{ModParam}
 use Rattle.module_semantics.specs.declared.evaluation.ModParam.TheVariants as params
 use Rattle.module_semantics.specs.declared.evaluation.Registered.{Registered}
@@ -21,7 +21,7 @@ use Rattle.module_semantics.specs.Evaluation.{value_of, values_of}
 
 -- a handler that was registered, as plain data
 pub record Registration : Type 0 where
-  pub kind : Kind
+  pub kind : HandlerKind
   pub deps : List (List ℕ)
   pub what : OnceTree
 

@@ -3,10 +3,10 @@
 use Rattle.std.specs.Prelude.{ℕ, zero, suc, List, [], ◌∷◌, ◌++◌, Bool, true, false, ◌==◌, nat_lt, if◌then◌else◌, Option, Some, None, codes, map}
 use Rattle.std.specs.Str.{bytes_eq}
 use Rattle.std.specs.Fmt.{decimal}
-use Rattle.hmr_types.specs.Syntax.{ExprTree, num, text, undefined, name, bag, member, neg, binary, choose, CondTree, param, value, StmtTree, StmtTrees, no_stmts, one_stmt, log, assign, bag_set, throw, invalidate, branch, HandlerTree, OnceTree, code, host, ItemTree, import, declare, act, own, deps, dispose, prune, decline, ModuleTree}
-use Rattle.hmr_types.specs.declared.tree.Op.{Op}
-use Rattle.hmr_types.specs.declared.tree.Op.TheVariants as ops
-use Rattle.hmr_types.specs.declared.tree.ImportName.{ImportName}
+use Rattle.module_tree.specs.Syntax.{ExprTree, num, text, undefined, name, bag, member, neg, binary, choose, CondTree, param, value, StmtTree, StmtTrees, no_stmts, one_stmt, log, assign, bag_set, throw, invalidate, branch, HandlerTree, OnceTree, code, host, ItemTree, import, declare, act, own, deps, dispose, prune, decline, ModuleTree}
+use Rattle.module_tree.specs.declared.tree.Op.{Op}
+use Rattle.module_tree.specs.declared.tree.Op.TheVariants as ops
+use Rattle.module_tree.specs.declared.tree.ImportName.{ImportName}
 
 -- a byte of a text, with a backslash where it is one, a double quote, an LF, a tab or a CR
 abbrev pub escaped : ℕ → List ℕ

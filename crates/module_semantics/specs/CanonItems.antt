@@ -1,8 +1,8 @@
 -- The tokens of the canonical text of callbacks, items and whole modules, and how deep they are.
 use Rattle.std.specs.Prelude.{ℕ, max, List, [], ◌∷◌, ◌++◌, Bool, true, false, if◌then◌else◌, Option, Some, None, codes}
 use Rattle.std.specs.Str.{bytes_eq}
-use Rattle.hmr_types.specs.Syntax.{HandlerTree, OnceTree, code, host, ItemTree, import, declare, act, own, deps, dispose, prune, decline, ModuleTree}
-use Rattle.hmr_types.specs.declared.tree.ImportName.{ImportName}
+use Rattle.module_tree.specs.Syntax.{HandlerTree, OnceTree, code, host, ItemTree, import, declare, act, own, deps, dispose, prune, decline, ModuleTree}
+use Rattle.module_tree.specs.declared.tree.ImportName.{ImportName}
 use Rattle.module_semantics.specs.Token as token
 use Rattle.module_semantics.specs.Token.{Token}
 use Rattle.module_semantics.specs.CanonTokens.{hot_tokens, expr_tokens, stmt_tokens, stmts_tokens, expr_deep, stmt_deep, stmts_deep}

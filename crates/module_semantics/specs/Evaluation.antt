@@ -1,7 +1,7 @@
 -- The value of an expression, or its fault.
 use Rattle.std.specs.Prelude.{pos, if◌then◌else◌, List, [], ◌∷◌, Result, Ok}
-use Rattle.hmr_types.specs.Syntax as tree
-use Rattle.hmr_types.specs.Syntax.{ExprTree}
+use Rattle.module_tree.specs.Syntax as tree
+use Rattle.module_tree.specs.Syntax.{ExprTree}
 use Rattle.hmr_types.specs.declared.value.Value.{Value}
 use Rattle.hmr_types.specs.declared.value.Value.TheVariants.{Undef}
 use Rattle.hmr_types.specs.declared.value.EvalFault.{EvalFault}

@@ -1,13 +1,13 @@
 -- Small trees, to be evaluated.
 use Rattle.std.specs.Prelude.{false, ◌+◌, ◌/◌, ◌%◌, ℕ, zero, suc, pos, true, List, [], ◌∷◌, ◌++◌, replicate, codes, Some, None, Result}
-use Rattle.hmr_types.specs.Syntax as tree
-use Rattle.hmr_types.specs.Syntax.{ExprTree, StmtTree, StmtTrees, ItemTree, ModuleTree, HandlerTree}
-use Rattle.hmr_types.specs.Tree.{stmts}
+use Rattle.module_tree.specs.Syntax as tree
+use Rattle.module_tree.specs.Syntax.{ExprTree, StmtTree, StmtTrees, ItemTree, ModuleTree, HandlerTree}
+use Rattle.module_tree.specs.Tree.{stmts}
 use Rattle.hmr_types.specs.declared.value.Value.{Value}
 use Rattle.hmr_types.specs.declared.value.Value.TheVariants.{Num}
 use Rattle.hmr_types.specs.declared.value.Slot.{Slot}
 use Rattle.hmr_types.specs.declared.value.Slot.TheVariants.{Unset, Val}
-use Rattle.hmr_types.specs.declared.words.Kind.TheVariants.{Dispose}
+use Rattle.hmr_types.specs.declared.words.HandlerKind.TheVariants.{Dispose}
 use Rattle.hmr_types.specs.declared.value.EvalFault.{EvalFault}
 use Rattle.module_semantics.specs.declared.evaluation.ModParam.{ModParam}
 use Rattle.module_semantics.specs.declared.evaluation.ModParam.TheVariants as params

@@ -1,6 +1,6 @@
 -- The grammar of expressions, one constructor for each production.
 use Rattle.std.specs.Prelude.{ℕ, suc, max, List, true, false, if◌then◌else◌, Some, None}
-use Rattle.hmr_types.specs.declared.tree.Op.TheVariants as ops
+use Rattle.module_tree.specs.declared.tree.Op.TheVariants as ops
 use Rattle.module_semantics.specs.Kinds.{IMPORT, UNDEFINED, NEW, ERROR, META, HOT, DATA, OPEN, CLOSE, DOT, PLUS, MINUS, TIMES, QUESTION, COLON, SAFE_DOT, NULLISH, NameAt}
 use Rattle.module_semantics.specs.Raw as raw
 use Rattle.module_semantics.specs.Raw.{RawExpr}

@@ -1,13 +1,13 @@
 -- What the items of a module do, and what its evaluation gives.
 use Rattle.std.specs.Prelude.{ℕ, List, [], ◌∷◌, ◌++◌, flat_map, Option, Some, None}
-use Rattle.hmr_types.specs.Syntax as tree
-use Rattle.hmr_types.specs.Syntax.{ExprTree, StmtTree, HandlerTree, OnceTree, ItemTree, ModuleTree}
+use Rattle.module_tree.specs.Syntax as tree
+use Rattle.module_tree.specs.Syntax.{ExprTree, StmtTree, HandlerTree, OnceTree, ItemTree, ModuleTree}
 use Rattle.hmr_types.specs.declared.value.Value.{Value}
 use Rattle.hmr_types.specs.declared.value.Slot.{Slot}
 use Rattle.hmr_types.specs.declared.value.Slot.TheVariants.{Unset, Val}
 use Rattle.hmr_types.specs.declared.value.EvalFault.{EvalFault}
-use Rattle.hmr_types.specs.declared.words.Kind.{Kind}
-use Rattle.hmr_types.specs.declared.words.Kind.TheVariants.{Dispose, Prune, Own, Dep}
+use Rattle.hmr_types.specs.declared.words.HandlerKind.{HandlerKind}
+use Rattle.hmr_types.specs.declared.words.HandlerKind.TheVariants.{Dispose, Prune, Own, Dep}
 use Rattle.module_semantics.specs.Entries.{with_entry}
 use Rattle.module_semantics.specs.Evaluation.{value_of}
 use Rattle.module_semantics.specs.Bodies.{Registration, State, Context, Progress, next, with_result, scope_of, run, opening}
@@ -17,7 +17,7 @@ abbrev pub declare : List ℕ → State → Value → Progress
 declare n s v = (record s { vars = with_entry n (Val v) s.vars }, None)
 
 -- one more registered handler
-abbrev pub register : Kind → List (List ℕ) → OnceTree → State → Progress
+abbrev pub register : HandlerKind → List (List ℕ) → OnceTree → State → Progress
 register kind deps what s = (record s { registered = s.registered ++ record { kind = kind; deps = deps; what = what } ∷ [] }, None)
 
 -- `accept()` registers nothing

@@ -1,7 +1,7 @@
 -- What the grammar tells of a module text: its statements with the places of its names. Guards, parentheses, spaces,
 -- comments, the quotes used and the form of `throw` are forgotten; what a name means isn't asked yet.
 use Rattle.std.specs.Prelude.{ℕ, List, [], ◌∷◌, Bool, Option}
-use Rattle.hmr_types.specs.declared.tree.Op.{Op}
+use Rattle.module_tree.specs.declared.tree.Op.{Op}
 use Rattle.module_semantics.specs.Kinds.{NameAt}
 
 -- an expression; a member has the name before the dot, whether the dot is safe, and the key

@@ -4,9 +4,9 @@
 use Rattle.std.specs.Prelude.{ℕ, suc, List, [], ◌∷◌, Bool, if◌then◌else◌, map}
 use Rattle.std.specs.Option.{option_map}
 use Rattle.std.specs.Str.{bytes_eq}
-use Rattle.hmr_types.specs.Syntax as tree
-use Rattle.hmr_types.specs.Syntax.{ExprTree, CondTree, StmtTree, StmtTrees, HandlerTree, OnceTree, ItemTree, ModuleTree}
-use Rattle.hmr_types.specs.declared.tree.ImportName.{ImportName}
+use Rattle.module_tree.specs.Syntax as tree
+use Rattle.module_tree.specs.Syntax.{ExprTree, CondTree, StmtTree, StmtTrees, HandlerTree, OnceTree, ItemTree, ModuleTree}
+use Rattle.module_tree.specs.declared.tree.ImportName.{ImportName}
 use Rattle.module_semantics.specs.Kinds.{NameAt}
 use Rattle.module_semantics.specs.Raw as raw
 use Rattle.module_semantics.specs.Raw.{RawExpr, RawStmt, RawStmts, RawHandler, RawOnce, RawImport, RawItem}

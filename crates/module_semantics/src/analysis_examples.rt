@@ -1,6 +1,6 @@
 // Worked examples of analysis: what the definitions give, computed.
 ghost use Rattle.std.specs.Prelude.{◌≡◌, ℕ, List, [], ◌∷◌, codes, length, true, false};
-ghost use Rattle.hmr_types.specs.Syntax as tree;
+ghost use Rattle.module_tree.specs.Syntax as tree;
 ghost use Rattle.module_semantics.specs.Analysis.{analysed, imports_of, transformed};
 ghost use Rattle.module_semantics.specs.Examples.{accept, export_let, import, imports, nothing};
 

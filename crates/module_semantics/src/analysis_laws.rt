@@ -1,7 +1,7 @@
 // Laws of analysis: each clause holds of the definitions, for every module and name.
 ghost use Rattle.std.specs.Prelude.{◌≡◌, ◌≢◌, ℕ, List};
 ghost use Rattle.hmr_types.specs.Specifier.{resolve};
-ghost use Rattle.hmr_types.specs.Syntax.{ModuleTree};
+ghost use Rattle.module_tree.specs.Syntax.{ModuleTree};
 ghost use Rattle.hmr_types.specs.declared.analysis.Analysis.{Analysis};
 ghost use Rattle.module_semantics.specs.Analysis.{analysed, IsWellMade};
 

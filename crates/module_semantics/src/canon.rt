@@ -3,7 +3,7 @@
 // plain data: the rules on names hold, its nesting is at most the depth, and its names, numbers and
 // texts can be written. The laws here say that the canonical text of a module that fits reads as
 // it, and that no other module is ever read.
-ghost use Rattle.hmr_types.specs.Syntax.{ModuleTree};
+ghost use Rattle.module_tree.specs.Syntax.{ModuleTree};
 ghost use Rattle.hmr_types.specs.declared.limits.TheConstants.{TOKENS};
 ghost use Rattle.module_semantics.specs.Canon.{canon};
 ghost use Rattle.module_semantics.specs.CanonItems.{canon_tokens};

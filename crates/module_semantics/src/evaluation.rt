@@ -1,6 +1,7 @@
 // What an evaluation is given, and what it registers. Contracts see the two lists of a `Registered` and
 // its kind as they stand, and its code by the plain data of its tree.
-use hmr_types::{Kind, Name, Once, Sequence, Slot, Text};
+use hmr_types::{HandlerKind, Name, Sequence, Slot, Text};
+use module_tree::Once;
 
 /// Names and what they hold. For the evaluation of a module these are the locals of its imports, each
 /// with what the export of the linked instance held as the evaluation began; for the body of a handler
@@ -22,7 +23,7 @@ pub enum ModParam {
 /// A handler that a module's evaluation registered.
 #[derive(Drop)]
 pub struct Registered {
-    pub kind: Kind,
+    pub kind: HandlerKind,
     /// The specifiers of the dependencies that are accepted; none for the other kinds.
     pub deps: Sequence<Text>,
     pub what: Once,

@@ -1,13 +1,14 @@
 // Worked examples of evaluation: what the definitions give, computed.
 ghost use Rattle.std.specs.Prelude.{◌≡◌, ℕ, List, [], ◌∷◌, ◌++◌, codes, pos, negsuc, replicate, true, false};
-ghost use Rattle.hmr_types.specs.Syntax as tree;
+ghost use Rattle.module_tree.specs.Syntax as tree;
 ghost use Rattle.module_semantics.specs.Bodies.{body_run, host_ran, host_line};
 ghost use Rattle.module_semantics.specs.Modules.{module_run};
 ghost use Rattle.module_semantics.specs.Examples.{alone, largest, body_alone, letters, with_module, before, after, stopped, keys, export_let, nothing, module_alone, module_with, module_stopped};
 ghost use Rattle.module_semantics.specs.Evaluation.{value_of};
 
 use crate::ModParam;
-use hmr_types::{EvalFault, Kind, Op, Slot, Value};
+use hmr_types::{EvalFault, HandlerKind, Slot, Value};
+use module_tree::Op;
 
 /// Numbers: `*` before `-`, and nothing outside plus or minus 9007199254740991.
 #[tactic(auto, unfolding(crate::specs::Values::number))]
@@ -155,10 +156,10 @@ pub fn handlers_register_in_order()
         (tree.prune (tree.host (codes "P")) ∷ tree.own None ∷ tree.own (Some (tree.host (codes "O")))
         ∷ tree.deps true (codes "./a.js" ∷ codes "./b.js" ∷ []) (Some nothing)
         ∷ tree.deps false (codes "./c.js" ∷ []) None ∷ tree.decline ∷ tree.dispose (tree.code nothing) ∷ [])).registered
-        ≡ record { kind = Kind.Prune; deps = []; what = tree.host (codes "P") }
-        ∷ record { kind = Kind.Own; deps = []; what = tree.host (codes "O") }
-        ∷ record { kind = Kind.Dep; deps = codes "./a.js" ∷ codes "./b.js" ∷ []; what = tree.code nothing }
-        ∷ record { kind = Kind.Dispose; deps = []; what = tree.code nothing } ∷ [] }
+        ≡ record { kind = HandlerKind.Prune; deps = []; what = tree.host (codes "P") }
+        ∷ record { kind = HandlerKind.Own; deps = []; what = tree.host (codes "O") }
+        ∷ record { kind = HandlerKind.Dep; deps = codes "./a.js" ∷ codes "./b.js" ∷ []; what = tree.code nothing }
+        ∷ record { kind = HandlerKind.Dispose; deps = []; what = tree.code nothing } ∷ [] }
 {}
 
 /// A key that is set again keeps its place, and a new one stands last. A full bag still takes a value

@@ -1,7 +1,7 @@
 // Laws of evaluation: each clause holds of the definitions, for every tree, state and bag.
 ghost use Rattle.std.specs.Prelude.{◌≡◌, ◌++◌, ℕ, List, true};
-ghost use Rattle.hmr_types.specs.Syntax.{StmtTree, StmtTrees, HandlerTree, ModuleTree};
-ghost use Rattle.hmr_types.specs.Tree.{stmts};
+ghost use Rattle.module_tree.specs.Syntax.{StmtTree, StmtTrees, HandlerTree, ModuleTree};
+ghost use Rattle.module_tree.specs.Tree.{stmts};
 ghost use Rattle.hmr_types.specs.declared.value.Value.{Value};
 ghost use Rattle.hmr_types.specs.declared.value.Slot.{Slot};
 ghost use Rattle.module_semantics.specs.declared.evaluation.ModParam.{ModParam};

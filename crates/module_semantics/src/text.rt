@@ -1,6 +1,6 @@
 // Module texts. `ReadsAs` says in one piece which text reads as which module; `parsing` computes
 // the module, or the first fault of the text. The laws here say that these agree.
-ghost use Rattle.hmr_types.specs.Syntax.{ModuleTree};
+ghost use Rattle.module_tree.specs.Syntax.{ModuleTree};
 ghost use Rattle.hmr_types.specs.declared.analysis.TextFault.{TextFault};
 ghost use Rattle.module_semantics.specs.ModuleText.{ReadsAs, parsing};
 ghost use Rattle.module_semantics.specs.TextFaults.{IsFault};

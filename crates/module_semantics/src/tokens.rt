@@ -21,7 +21,7 @@ pub enum LexKind {
     BadEscape,
     /// A number over 9007199254740991.
     NumberTooLarge,
-    /// One token more than 32,768.
+    /// One token more than 65,536.
     TooManyTokens,
     /// Memory ran out: this says nothing of the text, and has place 0.
     NoMemory,

@@ -3,25 +3,25 @@ use Rattle.std.proofs.Common.{ℕ, List, [], ◌∷◌, ◌≡◌, refl}
 use Rattle.std.specs.Prelude.{codes, pos, negsuc}
 use Rattle.std.specs.Fmt.{digits}
 use Rattle.hmr_types.specs.declared.analysis.FaultWord.TheVariants as fault_words
-use Rattle.hmr_types.specs.declared.out_line.OutLine.TheVariants as lines
+use Rattle.output_lines.specs.declared.out_line.OutLine.TheVariants as lines
 use Rattle.hmr_types.specs.declared.value.Slot.TheVariants as slots
 use Rattle.hmr_types.specs.declared.value.Value.TheVariants as values
 use Rattle.hmr_types.specs.declared.value.EvalFault.TheVariants as faults
-use Rattle.hmr_types.specs.declared.words.AbortWord.TheVariants as aborts
-use Rattle.hmr_types.specs.declared.words.ClientState.TheVariants as state_words
+use Rattle.output_lines.specs.declared.words.AbortWord.TheVariants as aborts
+use Rattle.output_lines.specs.declared.words.ClientState.TheVariants as state_words
 use Rattle.hmr_types.specs.declared.words.EditRefusal.TheVariants as refusal_words
-use Rattle.hmr_types.specs.declared.words.EditWord.TheVariants as edits
-use Rattle.hmr_types.specs.declared.words.EndWord.TheVariants as ending_words
-use Rattle.hmr_types.specs.declared.words.FaultPlace.TheVariants as place_words
-use Rattle.hmr_types.specs.declared.words.Handled.TheVariants as handlers
-use Rattle.hmr_types.specs.declared.words.HandlerEnd.TheVariants as end_words
-use Rattle.hmr_types.specs.declared.words.InstanceFate.TheVariants as fates
-use Rattle.hmr_types.specs.declared.words.InstanceStatus.TheVariants as status_words
-use Rattle.hmr_types.specs.declared.words.Kind.TheVariants as kind_words
+use Rattle.output_lines.specs.declared.words.EditWord.TheVariants as edits
+use Rattle.output_lines.specs.declared.words.EndWord.TheVariants as ending_words
+use Rattle.output_lines.specs.declared.words.FaultPlace.TheVariants as place_words
+use Rattle.output_lines.specs.declared.words.Handled.TheVariants as handlers
+use Rattle.output_lines.specs.declared.words.HandlerEnd.TheVariants as end_words
+use Rattle.output_lines.specs.declared.words.InstanceFate.TheVariants as fates
+use Rattle.output_lines.specs.declared.words.InstanceStatus.TheVariants as status_words
+use Rattle.hmr_types.specs.declared.words.HandlerKind.TheVariants as kind_words
 use Rattle.hmr_types.specs.declared.words.PlanKind.TheVariants as plan_words
 use Rattle.hmr_types.specs.declared.words.ReloadCause.TheVariants as cause_words
-use Rattle.hmr_types.specs.declared.words.RemoveWord.TheVariants as removals
-use Rattle.hmr_types.specs.declared.words.SettleWord.TheVariants as results
+use Rattle.output_lines.specs.declared.words.RemoveWord.TheVariants as removals
+use Rattle.output_lines.specs.declared.words.SettleWord.TheVariants as results
 use Rattle.play_text.specs.Lines.{line_text}
 
 abbrev m : List ℕ

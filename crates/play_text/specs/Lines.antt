@@ -6,26 +6,26 @@ use Rattle.play_script.specs.Texts.{spaced, spaced_number}
 use Rattle.play_text.specs.Texts.{of_client, names_text, escaped, quoted, after_space}
 use Rattle.play_text.specs.Words.{fault_word, refusal_word, plan_word, cause_word, place_word, kind_word, state_word, end_word, status_word, ending_word}
 use Rattle.hmr_types.specs.declared.analysis.TextFault.{TextFault}
-use Rattle.hmr_types.specs.declared.out_line.OutLine.{OutLine}
-use Rattle.hmr_types.specs.declared.out_line.OutLine.TheVariants as lines
+use Rattle.output_lines.specs.declared.out_line.OutLine.{OutLine}
+use Rattle.output_lines.specs.declared.out_line.OutLine.TheVariants as lines
 use Rattle.hmr_types.specs.declared.value.Slot.{Slot}
 use Rattle.hmr_types.specs.declared.value.Slot.TheVariants as slots
 use Rattle.hmr_types.specs.declared.value.Value.TheVariants as values
 use Rattle.hmr_types.specs.declared.value.EvalFault.{EvalFault}
 use Rattle.hmr_types.specs.declared.value.EvalFault.TheVariants as faults
-use Rattle.hmr_types.specs.declared.words.EditWord.{EditWord}
-use Rattle.hmr_types.specs.declared.words.EditWord.TheVariants as edits
-use Rattle.hmr_types.specs.declared.words.RemoveWord.{RemoveWord}
-use Rattle.hmr_types.specs.declared.words.RemoveWord.TheVariants as removals
-use Rattle.hmr_types.specs.declared.words.SettleWord.{SettleWord}
-use Rattle.hmr_types.specs.declared.words.SettleWord.TheVariants as results
-use Rattle.hmr_types.specs.declared.words.AbortWord.{AbortWord}
-use Rattle.hmr_types.specs.declared.words.AbortWord.TheVariants as aborts
-use Rattle.hmr_types.specs.declared.words.InstanceStatus.{InstanceStatus}
-use Rattle.hmr_types.specs.declared.words.InstanceFate.{InstanceFate}
-use Rattle.hmr_types.specs.declared.words.InstanceFate.TheVariants as fates
-use Rattle.hmr_types.specs.declared.words.Handled.{Handled}
-use Rattle.hmr_types.specs.declared.words.Handled.TheVariants as handlers
+use Rattle.output_lines.specs.declared.words.EditWord.{EditWord}
+use Rattle.output_lines.specs.declared.words.EditWord.TheVariants as edits
+use Rattle.output_lines.specs.declared.words.RemoveWord.{RemoveWord}
+use Rattle.output_lines.specs.declared.words.RemoveWord.TheVariants as removals
+use Rattle.output_lines.specs.declared.words.SettleWord.{SettleWord}
+use Rattle.output_lines.specs.declared.words.SettleWord.TheVariants as results
+use Rattle.output_lines.specs.declared.words.AbortWord.{AbortWord}
+use Rattle.output_lines.specs.declared.words.AbortWord.TheVariants as aborts
+use Rattle.output_lines.specs.declared.words.InstanceStatus.{InstanceStatus}
+use Rattle.output_lines.specs.declared.words.InstanceFate.{InstanceFate}
+use Rattle.output_lines.specs.declared.words.InstanceFate.TheVariants as fates
+use Rattle.output_lines.specs.declared.words.Handled.{Handled}
+use Rattle.output_lines.specs.declared.words.Handled.TheVariants as handlers
 
 -- a place and the word of its fault
 abbrev pub text_fault : TextFault → List ℕ

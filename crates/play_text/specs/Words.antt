@@ -8,18 +8,18 @@ use Rattle.hmr_types.specs.declared.words.PlanKind.{PlanKind}
 use Rattle.hmr_types.specs.declared.words.PlanKind.TheVariants as plan_words
 use Rattle.hmr_types.specs.declared.words.ReloadCause.{ReloadCause}
 use Rattle.hmr_types.specs.declared.words.ReloadCause.TheVariants as cause_words
-use Rattle.hmr_types.specs.declared.words.FaultPlace.{FaultPlace}
-use Rattle.hmr_types.specs.declared.words.FaultPlace.TheVariants as place_words
-use Rattle.hmr_types.specs.declared.words.Kind.{Kind}
-use Rattle.hmr_types.specs.declared.words.Kind.TheVariants as kind_words
-use Rattle.hmr_types.specs.declared.words.ClientState.{ClientState}
-use Rattle.hmr_types.specs.declared.words.ClientState.TheVariants as state_words
-use Rattle.hmr_types.specs.declared.words.HandlerEnd.{HandlerEnd}
-use Rattle.hmr_types.specs.declared.words.HandlerEnd.TheVariants as end_words
-use Rattle.hmr_types.specs.declared.words.InstanceStatus.{InstanceStatus}
-use Rattle.hmr_types.specs.declared.words.InstanceStatus.TheVariants as status_words
-use Rattle.hmr_types.specs.declared.words.EndWord.{EndWord}
-use Rattle.hmr_types.specs.declared.words.EndWord.TheVariants as ending_words
+use Rattle.output_lines.specs.declared.words.FaultPlace.{FaultPlace}
+use Rattle.output_lines.specs.declared.words.FaultPlace.TheVariants as place_words
+use Rattle.hmr_types.specs.declared.words.HandlerKind.{HandlerKind}
+use Rattle.hmr_types.specs.declared.words.HandlerKind.TheVariants as kind_words
+use Rattle.output_lines.specs.declared.words.ClientState.{ClientState}
+use Rattle.output_lines.specs.declared.words.ClientState.TheVariants as state_words
+use Rattle.output_lines.specs.declared.words.HandlerEnd.{HandlerEnd}
+use Rattle.output_lines.specs.declared.words.HandlerEnd.TheVariants as end_words
+use Rattle.output_lines.specs.declared.words.InstanceStatus.{InstanceStatus}
+use Rattle.output_lines.specs.declared.words.InstanceStatus.TheVariants as status_words
+use Rattle.output_lines.specs.declared.words.EndWord.{EndWord}
+use Rattle.output_lines.specs.declared.words.EndWord.TheVariants as ending_words
 
 abbrev pub fault_word : FaultWord → List ℕ
 fault_word fault_words.BadByte = codes "bad-byte"
@@ -62,7 +62,7 @@ place_word place_words.Prune = codes "prune"
 place_word place_words.Own = codes "own"
 place_word place_words.Dep = codes "dep"
 
-abbrev pub kind_word : Kind → List ℕ
+abbrev pub kind_word : HandlerKind → List ℕ
 kind_word kind_words.Dispose = codes "dispose"
 kind_word kind_words.Prune = codes "prune"
 kind_word kind_words.Own = codes "own"

@@ -1,6 +1,6 @@
 // The forms of the lines, each put by one small function.
 ghost use Rattle.std.specs.Prelude.{◌≡◌, ◌++◌, OnOk, decimal};
-ghost use Rattle.hmr_types.specs.declared.out_line.OutLine.TheVariants as lines;
+ghost use Rattle.output_lines.specs.declared.out_line.OutLine.TheVariants as lines;
 ghost use Rattle.play_script.specs.Texts.{spaced};
 ghost use Rattle.play_text.specs.Texts.{after_space, names_text, of_client};
 ghost use Rattle.play_text.specs.Lines.{body_text};
@@ -13,11 +13,8 @@ use crate::pieces::{
     put, put_escaped, put_names, put_number, put_of, put_spaced, put_spaced_number,
 };
 use crate::word_texts::{cause_str, end_str, kind_str, place_str, state_str};
-use hmr_types::{
-    AbortWord, ClientId, ClientState, EditWord, EvalFault, FaultPlace, Handled, HandlerEnd,
-    InstanceFate, InstanceStatus, Kind, ModName, Name, ReloadCause, RemoveWord, SettleWord, Slot,
-    Text, TextFault, Ver,
-};
+use hmr_types::{ClientId, EvalFault, HandlerKind, ModName, Name, ReloadCause, Slot, Text, TextFault, Ver};
+use output_lines::{AbortWord, ClientState, EditWord, FaultPlace, Handled, HandlerEnd, InstanceFate, InstanceStatus, RemoveWord, SettleWord};
 use std::alloc::AllocError;
 
 /// Puts a word and a text.
@@ -269,7 +266,7 @@ pub fn put_instance_line(
 /// Puts the line of a handler.
 pub fn put_handler_line(
     out: &mut Vec<u8>,
-    kind: Kind,
+    kind: HandlerKind,
     handled: &Handled,
     end: HandlerEnd,
 ) -> Result<(), AllocError>

@@ -7,10 +7,8 @@ use crate::pieces::{
     put, put_escaped, put_number, put_quoted, put_signed, put_spaced, put_spaced_number,
 };
 use crate::word_texts::{fault_str, refusal_str, status_str};
-use hmr_types::{
-    AbortWord, EditWord, EvalFault, Handled, InstanceFate, InstanceStatus, ModName, RemoveWord,
-    SettleWord, Slot, Text, TextFault, Value, Ver,
-};
+use hmr_types::{EvalFault, ModName, Slot, Text, TextFault, Value, Ver};
+use output_lines::{AbortWord, EditWord, Handled, InstanceFate, InstanceStatus, RemoveWord, SettleWord};
 use std::alloc::AllocError;
 
 /// Puts what an instance is, and what became of it.

@@ -10,7 +10,7 @@ use crate::line_forms::{
 };
 use crate::pieces::put;
 use crate::word_texts::{ending_str, plan_str};
-use hmr_types::OutLine;
+use output_lines::OutLine;
 use std::alloc::{AllocError, Global};
 
 /// The bytes of a line, with its LF. The time is linear in them.

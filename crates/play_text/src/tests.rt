@@ -1,6 +1,7 @@
 // What no clause says: that lines are rendered with ample memory.
 use super::*;
-use hmr_types::{ModName, OutLine, Text};
+use hmr_types::{ModName, Text};
+use output_lines::OutLine;
 use std::alloc::{AllocError, Global};
 use std::test::Fail;
 

@@ -2,10 +2,8 @@
 ghost use Rattle.std.specs.Prelude.{◌≡◌};
 ghost use Rattle.play_text.specs.Words.{fault_word, refusal_word, plan_word, cause_word, place_word, kind_word, state_word, end_word, status_word, ending_word};
 
-use hmr_types::{
-    ClientState, EditRefusal, EndWord, FaultPlace, FaultWord, HandlerEnd, InstanceStatus, Kind,
-    PlanKind, ReloadCause,
-};
+use hmr_types::{EditRefusal, FaultWord, HandlerKind, PlanKind, ReloadCause};
+use output_lines::{ClientState, EndWord, FaultPlace, HandlerEnd, InstanceStatus};
 
 pub fn fault_str(word: FaultWord) -> &'static str
     ensures { result.now ≡ fault_word word }
@@ -73,14 +71,14 @@ pub fn place_str(place: FaultPlace) -> &'static str
     }
 }
 
-pub fn kind_str(kind: Kind) -> &'static str
+pub fn kind_str(kind: HandlerKind) -> &'static str
     ensures { result.now ≡ kind_word kind }
 {
     match kind {
-        Kind::Dispose => "dispose",
-        Kind::Prune => "prune",
-        Kind::Own => "own",
-        Kind::Dep => "dep",
+        HandlerKind::Dispose => "dispose",
+        HandlerKind::Prune => "prune",
+        HandlerKind::Own => "own",
+        HandlerKind::Dep => "dep",
     }
 }
 

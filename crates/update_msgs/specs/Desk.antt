@@ -1,8 +1,8 @@
 -- The size of a message, and what an answer adds to what a desk tells.
 use Rattle.std.specs.Prelude.{ℕ, ◌+◌, Bool, true, false, List, [], ◌∷◌, ◌++◌, length, sum_by, Option, Some, None, Result, Ok, Err}
-use Rattle.core_model.specs.declared.message.ClientMsg.{ClientMsg}
-use Rattle.core_model.specs.declared.message.ClientMsg.TheVariants as msg
-use Rattle.core_model.specs.declared.message.ServerMsg.{ServerMsg}
+use Rattle.update_msgs.specs.declared.message.ClientMsg.{ClientMsg}
+use Rattle.update_msgs.specs.declared.message.ClientMsg.TheVariants as msg
+use Rattle.update_msgs.specs.declared.message.ServerMsg.{ServerMsg}
 use Rattle.update_msgs.specs.declared.desk.HubStop.{HubStop}
 use Rattle.update_msgs.specs.declared.desk.HubStop.TheVariants.{TranscriptFull, NoMemory}
 
@@ -12,7 +12,7 @@ option_length (Some text) = length text
 
 -- how many bytes the names and texts of a message have together
 abbrev pub bytes_of : ClientMsg → ℕ
-bytes_of (msg.Hello format) = 0
+bytes_of (msg.Hello format roots) = sum_by length roots
 bytes_of msg.Ask = 0
 bytes_of (msg.Fetch path) = length path
 bytes_of (msg.Applied table) = sum_by (λ row. length row.0) table

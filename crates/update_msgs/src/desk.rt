@@ -1,11 +1,12 @@
 // The desk: what answers the messages of one client.
-ghost use Rattle.std.specs.Prelude.{◌≡◌, ◌≤◌, ◌||◌, ℕ, Bool, List, Option};
-ghost use Rattle.hmr_types.specs.declared.limits.TheConstants.{SOURCE_BYTES};
-ghost use Rattle.core_model.specs.declared.message.ClientMsg.{ClientMsg};
-ghost use Rattle.core_model.specs.declared.message.ServerMsg.{ServerMsg};
+ghost use Rattle.std.specs.Prelude.{◌≡◌, ◌≤◌, ◌||◌, ℕ, Bool, IfOk, List, Option};
+ghost use Rattle.hmr_types.specs.declared.limits.TheConstants.{MESSAGE_BYTES};
+ghost use Rattle.update_msgs.specs.declared.message.ClientMsg.{ClientMsg};
+ghost use Rattle.update_msgs.specs.declared.message.ServerMsg.{ServerMsg};
 ghost use Rattle.update_msgs.specs.Desk.{bytes_of, is_full, told_after};
+ghost use Rattle.update_msgs.specs.Writable.{IsFormat, IsWritable};
 
-use core_model::{ClientMsg, ServerMsg};
+use crate::{ClientMsg, ServerMsg};
 use std::alloc::AllocError;
 
 /// Why a desk gives no answer.
@@ -36,9 +37,11 @@ pub trait Desk {
     ghost told: { Self → Option (List (ClientMsg × ServerMsg)) };
 
     /// Answers a message whose names and texts have at most 16,777,216 bytes together. After
-    /// [`HubStop::NoMemory`] the desk is as it was, but for the memory of its own.
+    /// [`HubStop::NoMemory`] the desk is as it was, but for the memory of its own. Each answer can be
+    /// written in both formats.
     fn answer(&mut self, msg: ClientMsg) -> Result<ServerMsg, HubStop>
-        requires size { bytes_of msg ≤ SOURCE_BYTES }
+        requires size { bytes_of msg ≤ MESSAGE_BYTES }
         ensures full { full self.new ≡ (full self.old || is_full result) }
+        ensures written { IfOk result (λ m. (format : ℕ) → IsFormat format → IsWritable format m) }
         ensures told { told self.new ≡ told_after (told self.old) msg result };
 }

@@ -60,17 +60,17 @@ fn jobs(
 fn edits_have_limits(rt: HostRuntime) -> Result<(), Fail> {
     let alloc = rt.alloc();
     let mut map = VersionMap::new(alloc);
-    assert_eq!(rt; edited(alloc, &mut map, 0, 65_537)?, "text-too-long");
-    assert_eq!(rt; jobs(alloc, &mut map, 0, 256, 65_536)?, 256);
+    assert_eq!(rt; edited(alloc, &mut map, 0, 131_073)?, "text-too-long");
+    assert_eq!(rt; jobs(alloc, &mut map, 0, 256, 131_072)?, 256);
     assert_eq!(rt; edited(alloc, &mut map, 256, 1)?, "source-total");
-    assert_eq!(rt; edited(alloc, &mut map, 0, 65_536)?, "same");
-    assert_eq!(rt; edited(alloc, &mut map, 0, 65_537)?, "text-too-long");
-    assert_eq!(rt; edited(alloc, &mut map, 0, 65_535)?, "job");
+    assert_eq!(rt; edited(alloc, &mut map, 0, 131_072)?, "same");
+    assert_eq!(rt; edited(alloc, &mut map, 0, 131_073)?, "text-too-long");
+    assert_eq!(rt; edited(alloc, &mut map, 0, 131_071)?, "job");
     assert_eq!(rt; edited(alloc, &mut map, 256, 1)?, "job");
-    assert_eq!(rt; jobs(alloc, &mut map, 257, 4_096, 0)?, 3_839);
-    assert_eq!(rt; edited(alloc, &mut map, 4_096, 0)?, "too-many-names");
-    assert_eq!(rt; told(map.edit(numbered(alloc, 4_096)?, None)), "same");
+    assert_eq!(rt; jobs(alloc, &mut map, 257, 8_192, 0)?, 7_935);
+    assert_eq!(rt; edited(alloc, &mut map, 8_192, 0)?, "too-many-names");
+    assert_eq!(rt; told(map.edit(numbered(alloc, 8_192)?, None)), "same");
     assert_eq!(rt; told(map.edit(numbered(alloc, 5)?, None)), "removed");
-    assert_eq!(rt; edited(alloc, &mut map, 4_096, 0)?, "job");
+    assert_eq!(rt; edited(alloc, &mut map, 8_192, 0)?, "job");
     Ok(())
 }

@@ -56,8 +56,8 @@ impl VersionMap {
     }
 
     /// Gives the name a text, or takes its source away. A refusal comes for the first of these that
-    /// stands against the edit: the text has more than 65,536 bytes; the name is new and 4,096 names
-    /// have a source; all current sources would have more than 16,777,216 bytes; 9007199254740991
+    /// stands against the edit: the text has more than 131,072 bytes; the name is new and 8,192 names
+    /// have a source; all current sources would have more than 33,554,432 bytes; 9007199254740991
     /// edits were counted, which refuses a removal too. A text that is the current source, or a
     /// removal of none, is [`EditOutcome::Same`], whatever but the length of the text stands against
     /// it. [`EditFault::NoMemory`] may come in place of a job. A refused edit changes nothing.

@@ -2,9 +2,9 @@
 use Rattle.std.proofs.Common.{◌≡◌, ℕ, List, [], ◌∷◌, refl, ap, sym, ◌∙◌}
 use Rattle.std.specs.Prelude.{find, Option, Some, None}
 use Rattle.std.proofs.Math.Path.{subst}
-use Rattle.hmr_types.specs.declared.out_line.OutLine.{OutLine}
-use Rattle.core_model.specs.declared.message.ClientMsg.{ClientMsg}
-use Rattle.core_model.specs.declared.message.ClientMsg.TheVariants as told
+use Rattle.output_lines.specs.declared.out_line.OutLine.{OutLine}
+use Rattle.update_msgs.specs.declared.message.ClientMsg.{ClientMsg}
+use Rattle.update_msgs.specs.declared.message.ClientMsg.TheVariants as told
 use Rattle.core_model.specs.Names.{Name, at}
 use Rattle.core_model.specs.Sources.{Text, Change, edit, result, changed_by, sources_after}
 use Rattle.core_model.specs.Requests.{ask, fetch, applied_as, aborted, invalidate}

@@ -5,11 +5,11 @@ use Rattle.std.specs.List.{list_any}
 use Rattle.core_model.proofs.Naming.{both_true}
 use Rattle.hmr_types.specs.declared.words.PlanKind.{PlanKind}
 use Rattle.hmr_types.specs.declared.words.PlanKind.TheVariants.{Load, Reload, Update}
-use Rattle.hmr_types.specs.declared.words.FaultPlace.{FaultPlace}
-use Rattle.hmr_types.specs.declared.words.FaultPlace.TheVariants as place
-use Rattle.hmr_types.specs.declared.words.InstanceFate.TheVariants.{Reloaded, Pruned}
-use Rattle.hmr_types.specs.declared.words.InstanceFate.{InstanceFate}
-use Rattle.hmr_types.specs.declared.out_line.OutLine.{OutLine}
+use Rattle.output_lines.specs.declared.words.FaultPlace.{FaultPlace}
+use Rattle.output_lines.specs.declared.words.FaultPlace.TheVariants as place
+use Rattle.output_lines.specs.declared.words.InstanceFate.TheVariants.{Reloaded, Pruned}
+use Rattle.output_lines.specs.declared.words.InstanceFate.{InstanceFate}
+use Rattle.output_lines.specs.declared.out_line.OutLine.{OutLine}
 use Rattle.core_model.specs.Names.{Name, has}
 use Rattle.core_model.specs.Page.{Plan}
 use Rattle.core_model.proofs.Clients.{either_way}

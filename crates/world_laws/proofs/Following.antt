@@ -8,8 +8,8 @@ use Rattle.std.proofs.lemmas.Option.{IfSome_then}
 use Rattle.hmr_types.specs.declared.analysis.Analysis.{Analysis}
 use Rattle.hmr_types.specs.declared.words.PlanKind.{PlanKind}
 use Rattle.hmr_types.specs.declared.words.PlanKind.TheVariants.{Load, Reload, Update}
-use Rattle.hmr_types.specs.declared.out_line.OutLine.{OutLine}
-use Rattle.core_model.specs.declared.message.ServerMsg.{ServerMsg}
+use Rattle.output_lines.specs.declared.out_line.OutLine.{OutLine}
+use Rattle.update_msgs.specs.declared.message.ServerMsg.{ServerMsg}
 use Rattle.core_model.specs.Names.{Name}
 use Rattle.core_model.specs.Sources.{Text, Sources}
 use Rattle.core_model.specs.View.{View, imports}

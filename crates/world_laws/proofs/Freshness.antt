@@ -6,11 +6,11 @@ use Rattle.std.proofs.Math.Path.{subst}
 use Rattle.std.proofs.lemmas.Bool.{false≢true}
 use Rattle.std.proofs.lemmas.Option.{IfSome_then}
 use Prim.{⊥}
-use Rattle.hmr_types.specs.declared.words.ClientState.{ClientState}
-use Rattle.hmr_types.specs.declared.words.ClientState.TheVariants.{Up, Behind}
-use Rattle.hmr_types.specs.declared.out_line.OutLine.{OutLine}
-use Rattle.hmr_types.specs.declared.out_line.OutLine.TheVariants as line
-use Rattle.core_model.specs.declared.message.ServerMsg.{ServerMsg}
+use Rattle.output_lines.specs.declared.words.ClientState.{ClientState}
+use Rattle.output_lines.specs.declared.words.ClientState.TheVariants.{Up, Behind}
+use Rattle.output_lines.specs.declared.out_line.OutLine.{OutLine}
+use Rattle.output_lines.specs.declared.out_line.OutLine.TheVariants as line
+use Rattle.update_msgs.specs.declared.message.ServerMsg.{ServerMsg}
 use Rattle.core_model.specs.Names.{Name}
 use Rattle.core_model.specs.Sources.{Text, edit, result}
 use Rattle.core_model.specs.Client.{Client}

@@ -5,7 +5,7 @@ use Rattle.std.proofs.lemmas.List.{length-map}
 use Rattle.core_model.specs.Names.{Name, same_name}
 use Rattle.core_model.specs.Sources.{Text}
 use Rattle.core_model.specs.View.{is_in}
-use Rattle.core_model.specs.declared.message.ServerMsg.{ServerMsg}
+use Rattle.update_msgs.specs.declared.message.ServerMsg.{ServerMsg}
 use Rattle.client_model.specs.Language.{Language}
 use Rattle.client_model.specs.Instance.{Instance, is_live, live_at}
 use Rattle.client_model.specs.Applying.{live_of}

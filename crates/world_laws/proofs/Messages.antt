@@ -7,10 +7,10 @@ use Rattle.hmr_types.specs.declared.analysis.Outcome.{Outcome}
 use Rattle.hmr_types.specs.declared.analysis.Outcome.TheVariants.{Good, Bad}
 use Rattle.hmr_types.specs.declared.words.PlanKind.{PlanKind}
 use Rattle.hmr_types.specs.declared.words.PlanKind.TheVariants.{Load, Reload, Update}
-use Rattle.core_model.specs.declared.message.ClientMsg.{ClientMsg}
-use Rattle.core_model.specs.declared.message.ClientMsg.TheVariants as request_is
-use Rattle.core_model.specs.declared.message.ServerMsg.{ServerMsg}
-use Rattle.core_model.specs.declared.message.ServerMsg.TheVariants as msg
+use Rattle.update_msgs.specs.declared.message.ClientMsg.{ClientMsg}
+use Rattle.update_msgs.specs.declared.message.ClientMsg.TheVariants as request_is
+use Rattle.update_msgs.specs.declared.message.ServerMsg.{ServerMsg}
+use Rattle.update_msgs.specs.declared.message.ServerMsg.TheVariants as msg
 use Rattle.core_model.specs.Names.{Name, same_name, has, at, with_row}
 use Rattle.core_model.specs.Sources.{Text}
 use Rattle.core_model.specs.View.{View, Entry, is_in}

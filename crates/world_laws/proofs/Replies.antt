@@ -3,11 +3,11 @@
 use Rattle.std.proofs.Common.{◌≡◌, ℕ, Bool, true, false, List, refl, sym}
 use Rattle.std.specs.Prelude.{find, ◌==◌, Option, Some, None, if◌then◌else◌, ⊤}
 use Rattle.std.proofs.Math.Path.{subst}
-use Rattle.hmr_types.specs.declared.out_line.OutLine.{OutLine}
-use Rattle.core_model.specs.declared.message.ClientMsg.{ClientMsg}
-use Rattle.core_model.specs.declared.message.ClientMsg.TheVariants as told
-use Rattle.core_model.specs.declared.message.ServerMsg.{ServerMsg}
-use Rattle.core_model.specs.declared.message.ServerMsg.TheVariants as msg
+use Rattle.output_lines.specs.declared.out_line.OutLine.{OutLine}
+use Rattle.update_msgs.specs.declared.message.ClientMsg.{ClientMsg}
+use Rattle.update_msgs.specs.declared.message.ClientMsg.TheVariants as told
+use Rattle.update_msgs.specs.declared.message.ServerMsg.{ServerMsg}
+use Rattle.update_msgs.specs.declared.message.ServerMsg.TheVariants as msg
 use Rattle.core_model.specs.Names.{Name, at}
 use Rattle.core_model.specs.Sources.{Text, Source, Serving, Sources, Verdict, outstanding, good, bad}
 use Rattle.core_model.specs.Page.{Plan}

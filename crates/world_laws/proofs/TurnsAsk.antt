@@ -6,7 +6,7 @@ use Prim.{⊥}
 use Rattle.std.proofs.lemmas.Bool.{false≢true, eq-eqb}
 use Rattle.std.proofs.lemmas.List.{length-map}
 use Rattle.hmr_types.specs.declared.analysis.TextFault.{TextFault}
-use Rattle.core_model.specs.declared.message.ClientMsg.TheVariants as told
+use Rattle.update_msgs.specs.declared.message.ClientMsg.TheVariants as told
 use Rattle.core_model.specs.Names.{Name, has, at, without_all, names_of}
 use Rattle.core_model.specs.Sources.{Text, Sources}
 use Rattle.core_model.specs.View.{View, self_accepts, changed_of, dropped_of}

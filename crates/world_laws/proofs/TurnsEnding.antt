@@ -9,9 +9,9 @@ use Rattle.hmr_types.specs.declared.analysis.Analysis.{Analysis}
 use Rattle.hmr_types.specs.declared.analysis.TextFault.{TextFault}
 use Rattle.hmr_types.specs.declared.analysis.Outcome.{Outcome}
 use Rattle.hmr_types.specs.declared.analysis.Outcome.TheVariants.{Good}
-use Rattle.hmr_types.specs.declared.out_line.OutLine.{OutLine}
-use Rattle.core_model.specs.declared.message.ClientMsg.{ClientMsg}
-use Rattle.core_model.specs.declared.message.ClientMsg.TheVariants as told
+use Rattle.output_lines.specs.declared.out_line.OutLine.{OutLine}
+use Rattle.update_msgs.specs.declared.message.ClientMsg.{ClientMsg}
+use Rattle.update_msgs.specs.declared.message.ClientMsg.TheVariants as told
 use Rattle.core_model.specs.Names.{Name, same_name, at, with_row}
 use Rattle.core_model.specs.Sources.{Text, Sources, Source, Serving, Verdict, outstanding, good, bad, Change, edit, result, EditAnswer, job, same, removed, ResultAnswer, serve, refuse, late, edit_answer, result_answer, changed_by}
 use Rattle.core_model.specs.Sources as sources

@@ -1,6 +1,6 @@
 -- What a caught-up client holds, and what it shows of it.
 use Rattle.std.specs.Prelude.{◌≡◌, ℕ, List, [], ◌++◌, map, Contains, Option, Some, None, ⊤}
-use Rattle.hmr_types.specs.declared.out_line.OutLine.{OutLine}
+use Rattle.output_lines.specs.declared.out_line.OutLine.{OutLine}
 use Rattle.core_model.specs.Names.{Name}
 use Rattle.core_model.specs.FreshLoad.{Served, fresh_table, missing_of, unlinked_of}
 use Rattle.core_model.specs.Core.{client_at}

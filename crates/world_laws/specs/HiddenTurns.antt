@@ -1,6 +1,6 @@
 -- Steps that bring a client to a page whose counter no longer exports its count; the newest first.
 use Rattle.std.specs.Prelude.{true, false, List, [], ◌∷◌, Some, None, codes}
-use Rattle.hmr_types.specs.Syntax.{num, declare, deps}
+use Rattle.module_tree.specs.Syntax.{num, declare, deps}
 use Rattle.core_model.specs.Sources.{Text}
 use Rattle.world_model.specs.World.{Step, edits, settles, opens, turn}
 use Rattle.world_model.specs.Playing.{Stage}

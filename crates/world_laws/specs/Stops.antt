@@ -1,6 +1,6 @@
 -- The updates that stopped at an edge since its importer's instance was made, and what made them stop.
 use Rattle.std.specs.Prelude.{◌≡◌, ◌↔◌, ◌⊎◌, ℕ, true, false, List, [], ◌∷◌, Contains, Option, Some, None, ⊤}
-use Rattle.core_model.specs.declared.message.ServerMsg.{ServerMsg}
+use Rattle.update_msgs.specs.declared.message.ServerMsg.{ServerMsg}
 use Rattle.core_model.specs.Names.{Name, has}
 use Rattle.core_model.specs.Sources.{Text}
 use Rattle.core_model.specs.View.{imports, accepts, self_accepts, IsDropped}

@@ -1,8 +1,8 @@
 // A caught-up client holds a fresh load, and is stale where that isn't linked.
 ghost use Rattle.std.specs.Prelude.{◌≡◌, ℕ, List, [], ◌∷◌, Some};
-ghost use Rattle.hmr_types.specs.declared.words.ClientState.TheVariants.{Up};
-ghost use Rattle.hmr_types.specs.declared.out_line.OutLine.{OutLine};
-ghost use Rattle.hmr_types.specs.declared.out_line.OutLine.TheVariants as line;
+ghost use Rattle.output_lines.specs.declared.words.ClientState.TheVariants.{Up};
+ghost use Rattle.output_lines.specs.declared.out_line.OutLine.{OutLine};
+ghost use Rattle.output_lines.specs.declared.out_line.OutLine.TheVariants as line;
 ghost use Rattle.core_model.specs.Names.{Name};
 ghost use Rattle.core_model.specs.Sources.{Text};
 ghost use Rattle.client_model.specs.Language.{Language};

@@ -1,7 +1,7 @@
 // The instances of a client, for every list of messages that it took: their numbers, which are live,
 // what they are linked to, and that it exports what they import.
 ghost use Rattle.std.specs.Prelude.{◌≡◌, ℕ, ◌≤◌, List, length, is_some};
-ghost use Rattle.core_model.specs.declared.message.ServerMsg.{ServerMsg};
+ghost use Rattle.update_msgs.specs.declared.message.ServerMsg.{ServerMsg};
 ghost use Rattle.core_model.specs.Names.{Name, same_name};
 ghost use Rattle.core_model.specs.Sources.{Text};
 ghost use Rattle.core_model.specs.View.{is_in};

@@ -1,6 +1,6 @@
 // At which edges a client is stale, and how they are listed.
 ghost use Rattle.std.specs.Prelude.{◌≡◌, ◌↔◌, ℕ, List, true, Contains, IsSome};
-ghost use Rattle.core_model.specs.declared.message.ServerMsg.{ServerMsg};
+ghost use Rattle.update_msgs.specs.declared.message.ServerMsg.{ServerMsg};
 ghost use Rattle.core_model.specs.Names.{Name};
 ghost use Rattle.core_model.specs.Sources.{Text};
 ghost use Rattle.core_model.specs.View.{is_in};

@@ -8,12 +8,12 @@ use Rattle.std.proofs.lemmas.Bool.{false≢true, eq-eqb, eqb-true}
 use Rattle.hmr_types.specs.declared.analysis.TextFault.{TextFault}
 use Rattle.hmr_types.specs.declared.words.PlanKind.TheVariants.{Load, Reload, Update}
 use Rattle.hmr_types.specs.declared.analysis.Outcome.TheVariants.{Good}
-use Rattle.core_model.specs.declared.message.ClientMsg.{ClientMsg}
-use Rattle.core_model.specs.declared.message.ClientMsg.TheVariants as told
-use Rattle.core_model.specs.declared.message.ServerMsg.{ServerMsg}
-use Rattle.core_model.specs.declared.message.ServerMsg.TheVariants as msg
-use Rattle.core_model.specs.declared.message.AbortCause.{AbortCause}
-use Rattle.core_model.specs.declared.message.AbortCause.TheVariants as abort
+use Rattle.update_msgs.specs.declared.message.ClientMsg.{ClientMsg}
+use Rattle.update_msgs.specs.declared.message.ClientMsg.TheVariants as told
+use Rattle.update_msgs.specs.declared.message.ServerMsg.{ServerMsg}
+use Rattle.update_msgs.specs.declared.message.ServerMsg.TheVariants as msg
+use Rattle.update_msgs.specs.declared.message.AbortCause.{AbortCause}
+use Rattle.update_msgs.specs.declared.message.AbortCause.TheVariants as abort
 use Rattle.core_model.specs.Names.{Name, has, at, names_of, sorted}
 use Rattle.core_model.specs.Sources.{Sources, Source, Serving, Verdict, outstanding, good, bad}
 use Rattle.core_model.specs.View.{table_of}

@@ -5,13 +5,13 @@ use Rattle.std.proofs.Math.Path.{subst}
 use Rattle.std.proofs.lemmas.Bool.{false≢true, eqb-true}
 use Rattle.hmr_types.specs.declared.analysis.Outcome.{Outcome}
 use Rattle.hmr_types.specs.declared.analysis.Outcome.TheVariants.{Good, Bad}
-use Rattle.core_model.specs.declared.message.ClientMsg.{ClientMsg}
-use Rattle.core_model.specs.declared.message.ServerMsg.{ServerMsg}
+use Rattle.update_msgs.specs.declared.message.ClientMsg.{ClientMsg}
+use Rattle.update_msgs.specs.declared.message.ServerMsg.{ServerMsg}
 use Rattle.core_model.specs.Names.{Name, same_name, at}
 use Rattle.core_model.specs.Sources.{Text, Sources, Serving, Change, edit, result, EditAnswer, job, same, removed, ResultAnswer, serve, refuse, late, edit_answer, result_answer, is_awaited, answer_of, after_edit, after_result, changed_by}
 use Rattle.core_model.specs.Sources as sources
 use Rattle.core_model.specs.Page.{Page}
-use Rattle.hmr_types.specs.declared.out_line.OutLine.{OutLine}
+use Rattle.output_lines.specs.declared.out_line.OutLine.{OutLine}
 use Rattle.core_model.specs.Client.{Client, new_client}
 use Rattle.core_model.specs.Requests.{Request, Reply, heard}
 use Rattle.core_model.specs.Core.{Core, client_at, with_client, without_client, told_of, after_change, is_full, connected, requested, disconnected, step}

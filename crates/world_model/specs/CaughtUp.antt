@@ -1,8 +1,8 @@
 -- When a client is caught up, and how far it is from it.
 use Rattle.std.specs.Prelude.{◌≡◌, ℕ, ◌+◌, ◌*◌, ◌==◌, Bool, true, false, not, ◌&&◌, List, [], ◌∷◌, ◌++◌, length, filter, Option, Some, None, is_some, is_none, if◌then◌else◌}
 use Rattle.std.specs.List.{list_all}
-use Rattle.hmr_types.specs.declared.words.ClientState.{ClientState}
-use Rattle.hmr_types.specs.declared.words.ClientState.TheVariants.{Up, Behind}
+use Rattle.output_lines.specs.declared.words.ClientState.{ClientState}
+use Rattle.output_lines.specs.declared.words.ClientState.TheVariants.{Up, Behind}
 use Rattle.core_model.specs.Names.{Name, has, at, names_of}
 use Rattle.core_model.specs.Sources.{Sources}
 use Rattle.core_model.specs.FreshLoad.{Served}

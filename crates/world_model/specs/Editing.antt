@@ -1,10 +1,10 @@
 -- Edits and results in the world, and their lines.
 use Rattle.std.specs.Prelude.{ℕ, ◌==◌, not, ◌&&◌, Bool, List, [], ◌∷◌, filter, Option, Some, None}
-use Rattle.hmr_types.specs.declared.words.EditWord.TheVariants as edits_are
-use Rattle.hmr_types.specs.declared.words.RemoveWord.TheVariants as removes
-use Rattle.hmr_types.specs.declared.words.SettleWord.TheVariants as settles_as
-use Rattle.hmr_types.specs.declared.out_line.OutLine.{OutLine}
-use Rattle.hmr_types.specs.declared.out_line.OutLine.TheVariants as line
+use Rattle.output_lines.specs.declared.words.EditWord.TheVariants as edits_are
+use Rattle.output_lines.specs.declared.words.RemoveWord.TheVariants as removes
+use Rattle.output_lines.specs.declared.words.SettleWord.TheVariants as settles_as
+use Rattle.output_lines.specs.declared.out_line.OutLine.{OutLine}
+use Rattle.output_lines.specs.declared.out_line.OutLine.TheVariants as line
 use Rattle.core_model.specs.Names.{Name, same_name}
 use Rattle.core_model.specs.Sources.{Text, result, EditAnswer, job, same, removed, refused, ResultAnswer, serve, refuse, late}
 use Rattle.core_model.specs.Requests.{Reply, edited, settled, to_client, gone}

@@ -1,6 +1,6 @@
 -- Scripts in which sources change while a client fetches, or can't be had.
 use Rattle.std.specs.Prelude.{ℕ, true, false, List, [], ◌∷◌, Some, None, codes}
-use Rattle.hmr_types.specs.Syntax.{num, text, name, member, log, ItemTree, declare, own, deps}
+use Rattle.module_tree.specs.Syntax.{num, text, name, member, log, ItemTree, declare, own, deps}
 use Rattle.core_model.specs.Sources.{Text}
 use Rattle.world_model.specs.World.{edits, settles, opens, turn, show, fresh}
 use Rattle.world_model.specs.Playing.{Command, step, settle_all, turns, Stage}

@@ -1,7 +1,7 @@
 -- Scripts of handlers: prune, data, closures of the embedding program, and invalidations.
 use Rattle.std.specs.Prelude.{ℕ, true, false, List, [], ◌∷◌, Some, None, codes}
-use Rattle.hmr_types.specs.Syntax.{num, text, name, bag, member, binary, log, bag_set, throw, invalidate, code, host, ItemTree, declare, act, own, deps, dispose, prune}
-use Rattle.hmr_types.specs.declared.tree.Op.TheVariants.{Add}
+use Rattle.module_tree.specs.Syntax.{num, text, name, bag, member, binary, log, bag_set, throw, invalidate, code, host, ItemTree, declare, act, own, deps, dispose, prune}
+use Rattle.module_tree.specs.declared.tree.Op.TheVariants.{Add}
 use Rattle.core_model.specs.Sources.{Text}
 use Rattle.world_model.specs.World.{opens, show, values, fates}
 use Rattle.world_model.specs.Playing.{Command, step, settle_all, turns, Stage}

@@ -1,15 +1,15 @@
 -- A script: steps, all results that are due, and turns of a client until it is caught up.
 use Rattle.std.specs.Prelude.{ℕ, zero, suc, Bool, true, false, not, List, [], ◌++◌, map, filter, fold, reverse, Option, Some, None, if◌then◌else◌}
-use Rattle.hmr_types.specs.declared.words.ClientState.{ClientState}
-use Rattle.hmr_types.specs.declared.words.ClientState.TheVariants.{Up, Behind}
-use Rattle.hmr_types.specs.declared.words.EditWord.{EditWord}
-use Rattle.hmr_types.specs.declared.words.EditWord.TheVariants as edits_are
-use Rattle.hmr_types.specs.declared.words.RemoveWord.{RemoveWord}
-use Rattle.hmr_types.specs.declared.words.RemoveWord.TheVariants as removes
-use Rattle.hmr_types.specs.declared.words.SettleWord.{SettleWord}
-use Rattle.hmr_types.specs.declared.words.SettleWord.TheVariants as settles_as
-use Rattle.hmr_types.specs.declared.out_line.OutLine.{OutLine}
-use Rattle.hmr_types.specs.declared.out_line.OutLine.TheVariants as line
+use Rattle.output_lines.specs.declared.words.ClientState.{ClientState}
+use Rattle.output_lines.specs.declared.words.ClientState.TheVariants.{Up, Behind}
+use Rattle.output_lines.specs.declared.words.EditWord.{EditWord}
+use Rattle.output_lines.specs.declared.words.EditWord.TheVariants as edits_are
+use Rattle.output_lines.specs.declared.words.RemoveWord.{RemoveWord}
+use Rattle.output_lines.specs.declared.words.RemoveWord.TheVariants as removes
+use Rattle.output_lines.specs.declared.words.SettleWord.{SettleWord}
+use Rattle.output_lines.specs.declared.words.SettleWord.TheVariants as settles_as
+use Rattle.output_lines.specs.declared.out_line.OutLine.{OutLine}
+use Rattle.output_lines.specs.declared.out_line.OutLine.TheVariants as line
 use Rattle.core_model.specs.Names.{Name}
 use Rattle.core_model.specs.Sources.{Text}
 use Rattle.core_model.specs.Core.{client_at}

@@ -3,17 +3,17 @@
 -- in full.
 use Rattle.std.specs.Prelude.{ℕ, zero, suc, ◌+◌, ◌/◌, ◌%◌, ◌==◌, ℤ, pos, negsuc, ◌+ℤ◌, List, [], ◌∷◌, ◌++◌, map, flat_map, fold, slice_get, Option, Some, None, is_some, codes, if◌then◌else◌}
 use Rattle.std.specs.List.{join_with_byte}
-use Rattle.hmr_types.specs.Syntax.{ExprTree, num, text, undefined, name, bag, member, neg, binary, choose, StmtTree, StmtTrees, no_stmts, one_stmt, log, assign, bag_set, throw, invalidate, branch, HandlerTree, OnceTree, code, ItemTree, import, declare, act, own, deps, dispose, prune, decline}
-use Rattle.hmr_types.specs.declared.tree.Op.{Op}
-use Rattle.hmr_types.specs.declared.tree.Op.TheVariants.{Null, Add, Sub, Mul}
+use Rattle.module_tree.specs.Syntax.{ExprTree, num, text, undefined, name, bag, member, neg, binary, choose, StmtTree, StmtTrees, no_stmts, one_stmt, log, assign, bag_set, throw, invalidate, branch, HandlerTree, OnceTree, code, ItemTree, import, declare, act, own, deps, dispose, prune, decline}
+use Rattle.module_tree.specs.declared.tree.Op.{Op}
+use Rattle.module_tree.specs.declared.tree.Op.TheVariants.{Null, Add, Sub, Mul}
 use Rattle.hmr_types.specs.declared.value.Value.{Value}
 use Rattle.hmr_types.specs.declared.value.Value.TheVariants.{Num, Str, Undef}
 use Rattle.hmr_types.specs.declared.value.Slot.{Slot}
 use Rattle.hmr_types.specs.declared.value.Slot.TheVariants.{Unset, Val}
 use Rattle.hmr_types.specs.declared.value.EvalFault.{EvalFault}
 use Rattle.hmr_types.specs.declared.value.EvalFault.TheVariants.{Thrown}
-use Rattle.hmr_types.specs.declared.words.Kind.{Kind}
-use Rattle.hmr_types.specs.declared.words.Kind.TheVariants as kind
+use Rattle.hmr_types.specs.declared.words.HandlerKind.{HandlerKind}
+use Rattle.hmr_types.specs.declared.words.HandlerKind.TheVariants as kind
 use Rattle.hmr_types.specs.declared.analysis.Analysis.{Analysis}
 use Rattle.hmr_types.specs.declared.analysis.FaultWord.TheVariants.{Unexpected}
 use Rattle.hmr_types.specs.declared.analysis.Outcome.{Outcome}
@@ -134,7 +134,7 @@ run_stmts mods s no_stmts = s
 run_stmts mods s (one_stmt first rest) = run_stmts mods (go_on s (run_stmt mods s first)) rest
 
 -- a handler is registered
-abbrev pub register : Kind → List Name → OnceTree → State → State
+abbrev pub register : HandlerKind → List Name → OnceTree → State → State
 register k names what s = record s { registered = s.registered ++ record { kind = k; deps = names; what = what } ∷ [] }
 
 -- an item of a module is evaluated

@@ -1,6 +1,6 @@
 -- The words of small pages: names, analyses, modules and callbacks, for scripts to be computed.
 use Rattle.std.specs.Prelude.{true, false, List, [], ◌∷◌, Some, codes}
-use Rattle.hmr_types.specs.Syntax.{text, StmtTree, no_stmts, one_stmt, log, HandlerTree, ItemTree}
+use Rattle.module_tree.specs.Syntax.{text, StmtTree, no_stmts, one_stmt, log, HandlerTree, ItemTree}
 use Rattle.hmr_types.specs.declared.analysis.Analysis.{Analysis}
 use Rattle.core_model.specs.Names.{Name}
 use Rattle.core_model.specs.Sources.{Text}

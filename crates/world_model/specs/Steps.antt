@@ -1,7 +1,7 @@
 -- The world's step, and runs of steps.
 use Rattle.std.specs.Prelude.{ℕ, List, [], ◌∷◌, ◌++◌, map, find}
-use Rattle.hmr_types.specs.declared.out_line.OutLine.{OutLine}
-use Rattle.hmr_types.specs.declared.out_line.OutLine.TheVariants as line
+use Rattle.output_lines.specs.declared.out_line.OutLine.{OutLine}
+use Rattle.output_lines.specs.declared.out_line.OutLine.TheVariants as line
 use Rattle.core_model.specs.Names.{Name}
 use Rattle.core_model.specs.Sources.{Text, edit}
 use Rattle.core_model.specs.FreshLoad.{FreshLoad, fresh_load}

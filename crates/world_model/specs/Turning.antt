@@ -1,10 +1,10 @@
 -- Clients in the world: one opens, makes a turn, shows itself, closes.
 use Rattle.std.specs.Prelude.{ℕ, List, [], ◌∷◌, Option, Some, None, slice_get, pred}
-use Rattle.hmr_types.specs.declared.words.ClientState.{ClientState}
-use Rattle.hmr_types.specs.declared.out_line.OutLine.{OutLine}
-use Rattle.hmr_types.specs.declared.out_line.OutLine.TheVariants as line
-use Rattle.core_model.specs.declared.message.ServerMsg.{ServerMsg}
-use Rattle.core_model.specs.declared.message.ServerMsg.TheVariants as msg
+use Rattle.output_lines.specs.declared.words.ClientState.{ClientState}
+use Rattle.output_lines.specs.declared.out_line.OutLine.{OutLine}
+use Rattle.output_lines.specs.declared.out_line.OutLine.TheVariants as line
+use Rattle.update_msgs.specs.declared.message.ServerMsg.{ServerMsg}
+use Rattle.update_msgs.specs.declared.message.ServerMsg.TheVariants as msg
 use Rattle.core_model.specs.Names.{Name}
 use Rattle.core_model.specs.Sources.{Text}
 use Rattle.core_model.specs.Requests.{Reply}

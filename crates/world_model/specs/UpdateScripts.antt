@@ -1,7 +1,7 @@
 -- Scripts of a page load, an update and a reload.
 use Rattle.std.specs.Prelude.{ℕ, true, false, List, [], ◌∷◌, Some, None, codes}
-use Rattle.hmr_types.specs.Syntax.{ExprTree, num, text, name, bag, member, binary, log, assign, bag_set, code, declare, act, own, deps, dispose}
-use Rattle.hmr_types.specs.declared.tree.Op.TheVariants.{Null, Add}
+use Rattle.module_tree.specs.Syntax.{ExprTree, num, text, name, bag, member, binary, log, assign, bag_set, code, declare, act, own, deps, dispose}
+use Rattle.module_tree.specs.declared.tree.Op.TheVariants.{Null, Add}
 use Rattle.core_model.specs.Sources.{Text}
 use Rattle.world_model.specs.World.{opens, show, values, fates, fresh}
 use Rattle.world_model.specs.Playing.{Command, step, settle_all, turns, Stage}

@@ -1,6 +1,6 @@
 -- The world: a core, its open clients, and the jobs whose results haven't come.
 use Rattle.std.specs.Prelude.{ℕ, List, [], Option, Some}
-use Rattle.hmr_types.specs.declared.out_line.OutLine.{OutLine}
+use Rattle.output_lines.specs.declared.out_line.OutLine.{OutLine}
 use Rattle.core_model.specs.Names.{Name}
 use Rattle.core_model.specs.Sources.{Text}
 use Rattle.core_model.specs.Core.{Core, new_core}

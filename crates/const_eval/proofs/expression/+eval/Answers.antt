@@ -3,10 +3,10 @@ use Rattle.module_semantics.specs.Scope.{Scope}
 use Rattle.module_semantics.specs.Values.{with_right}
 use Rattle.module_semantics.specs.Evaluation.{value_of}
 use Rattle.const_eval.specs.Reads.{scope_of}
-use Rattle.hmr_types.specs.Tree.{expr_of}
-use Rattle.hmr_types.specs.Syntax.{ExprTree}
-use Rattle.hmr_types.specs.Syntax as tree
-use Rattle.hmr_types.proofs.Rows.{expr_of-Binary}
+use Rattle.module_tree.specs.Tree.{expr_of}
+use Rattle.module_tree.specs.Syntax.{ExprTree}
+use Rattle.module_tree.specs.Syntax as tree
+use Rattle.module_tree.proofs.Rows.{expr_of-Binary}
 use Rattle.const_eval.proofs.Rows.{weight, pushed, pushed_below, pushed_small, popped, popped_below, ended}
 use Rattle.const_eval.proofs.expression.+eval.Goals as goal
 

@@ -1,10 +1,10 @@
 use Rattle.std.proofs.Common.{◌≡◌, ◌+◌, ◌*◌, ◌≤◌, List, Ok, length}
-use Rattle.hmr_types.specs.Syntax.{ExprTree}
-use Rattle.hmr_types.specs.Tree.{expr_of}
+use Rattle.module_tree.specs.Syntax.{ExprTree}
+use Rattle.module_tree.specs.Tree.{expr_of}
 use Rattle.module_semantics.specs.Scope.{Scope}
 use Rattle.module_semantics.specs.Evaluation.{value_of}
 use Rattle.const_eval.specs.Reads.{scope_of}
-use Rattle.hmr_types.specs.declared.tree.Op.{Op}
+use Rattle.module_tree.specs.declared.tree.Op.{Op}
 use Rattle.const_eval.proofs.Rows.{weight, run_row, Below, steps}
 use Rattle.const_eval.proofs.expression.+eval.Given as goal
 

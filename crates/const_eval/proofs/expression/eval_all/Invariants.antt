@@ -1,5 +1,5 @@
 use Rattle.std.proofs.Common.{◌≡◌, ◌++◌, drop, map, Ok}
-use Rattle.hmr_types.specs.Tree.{expr_of}
+use Rattle.module_tree.specs.Tree.{expr_of}
 use Rattle.hmr_types.specs.Results.{◌>>=◌}
 use Rattle.module_semantics.specs.Evaluation.{values_of}
 use Rattle.const_eval.specs.Reads.{scope_of}

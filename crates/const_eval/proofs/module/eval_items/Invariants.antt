@@ -1,5 +1,5 @@
 use Rattle.std.proofs.Common.{◌≡◌, drop, map}
-use Rattle.hmr_types.specs.Tree.{item_of}
+use Rattle.module_tree.specs.Tree.{item_of}
 use Rattle.module_semantics.specs.Modules.{items_run}
 use Rattle.const_eval.specs.States.{context_of, state_of}
 use Rattle.const_eval.proofs.module.eval_items.Given as goal

@@ -1,5 +1,5 @@
 use Rattle.std.proofs.Common.{◌≡◌, ◌++◌, drop, map}
-use Rattle.hmr_types.specs.Tree.{item_of}
+use Rattle.module_tree.specs.Tree.{item_of}
 use Rattle.module_semantics.specs.Modules.{declared_names, unset}
 use Rattle.const_eval.proofs.module.unset.Given as goal
 

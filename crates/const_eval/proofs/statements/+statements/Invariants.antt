@@ -1,5 +1,5 @@
 use Rattle.std.proofs.Common.{◌≡◌, drop}
-use Rattle.hmr_types.specs.Tree.{stmts_of}
+use Rattle.module_tree.specs.Tree.{stmts_of}
 use Rattle.module_semantics.specs.Bodies.{run_all}
 use Rattle.const_eval.specs.States.{context_of, state_of}
 use Rattle.const_eval.proofs.statements.+statements.Given as goal

@@ -1,5 +1,5 @@
 use Rattle.std.proofs.Common.{◌≡◌, drop, map}
-use Rattle.hmr_types.specs.Tree.{expr_of}
+use Rattle.module_tree.specs.Tree.{expr_of}
 use Rattle.hot_grammar.specs.Raw.{operation_of}
 use Rattle.hot_parser.specs.Rows.{rowed}
 use Rattle.hot_parser.specs.Within.{within_of}

@@ -1,6 +1,6 @@
 use Rattle.std.proofs.Common.{arith, ◌≡◌, ◌++◌, map, ap, sym, ◌∙◌}
 use Rattle.std.proofs.lemmas.List.{append-nil, at_drop_all}
-use Rattle.hmr_types.specs.Tree.{stmt_of, stmts}
+use Rattle.module_tree.specs.Tree.{stmt_of, stmts}
 use Rattle.hot_grammar.specs.Raw.{raw_stmt_of}
 use Rattle.module_semantics.specs.NameRules.{Within}
 use Rattle.module_semantics.specs.Resolving.{stmt_tree}

@@ -1,5 +1,5 @@
 use Rattle.std.proofs.Common.{◌≡◌, ◌++◌, drop, map}
-use Rattle.hmr_types.specs.Tree.{stmt_of}
+use Rattle.module_tree.specs.Tree.{stmt_of}
 use Rattle.hot_grammar.specs.Raw.{raw_stmt_of}
 use Rattle.module_semantics.specs.Resolving.{stmt_tree}
 use Rattle.hot_parser.specs.Within.{within_of}

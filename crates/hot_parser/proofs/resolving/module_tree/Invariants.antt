@@ -1,5 +1,5 @@
 use Rattle.std.proofs.Common.{◌≡◌, ◌++◌, drop, map}
-use Rattle.hmr_types.specs.Tree.{item_of}
+use Rattle.module_tree.specs.Tree.{item_of}
 use Rattle.hot_grammar.specs.Raw.{raw_items_of}
 use Rattle.module_semantics.specs.Resolving.{module_tree}
 use Rattle.hot_parser.proofs.resolving.module_tree.Given as goal

@@ -1,7 +1,7 @@
 use Rattle.std.proofs.Common.{rules, ◌≡◌, ◌++◌, ◌∷◌, [], ap, ◌∙◌, Bool, nat_lt}
-use Rattle.hmr_types.specs.Syntax as tree
-use Rattle.hmr_types.specs.Tree.{expr_of}
-use Rattle.hmr_types.proofs.Rows.{expr_of-Binary}
+use Rattle.module_tree.specs.Syntax as tree
+use Rattle.module_tree.specs.Tree.{expr_of}
+use Rattle.module_tree.proofs.Rows.{expr_of-Binary}
 use Rattle.module_semantics.specs.Canon.{op_level}
 use Rattle.hot_printer.specs.Rows.{opening}
 use Rattle.hot_printer.proofs.Rows.{weight, pushed, pushed_below, pushed_small, popped, popped_below}

@@ -1,5 +1,5 @@
 use Rattle.std.proofs.Common.{◌≡◌, ◌+◌, ◌*◌, ◌≤◌, ◌++◌, length}
-use Rattle.hmr_types.specs.Tree.{expr_of}
+use Rattle.module_tree.specs.Tree.{expr_of}
 use Rattle.hot_printer.specs.Rows.{at_place}
 use Rattle.hot_printer.proofs.Rows.{Below, row_text, nodes, weight}
 use Rattle.hot_printer.proofs.expression.+exprs.Given as goal

@@ -1,5 +1,5 @@
 use Rattle.std.proofs.Common.{◌≡◌, ◌++◌, drop, map}
-use Rattle.hmr_types.specs.Tree.{expr_of}
+use Rattle.module_tree.specs.Tree.{expr_of}
 use Rattle.module_semantics.specs.Canon.{comma_then, expr_text}
 use Rattle.hot_printer.proofs.expression.put_later_exprs.Given as goal
 

@@ -1,5 +1,5 @@
 use Rattle.std.proofs.Common.{◌≡◌, ◌++◌, drop, map}
-use Rattle.hmr_types.specs.Tree.{item_of}
+use Rattle.module_tree.specs.Tree.{item_of}
 use Rattle.module_semantics.specs.Canon.{canon}
 use Rattle.hot_printer.proofs.module.put_items.Given as goal
 

@@ -1,5 +1,5 @@
 use Rattle.std.proofs.Common.{◌≡◌, ◌++◌, drop}
-use Rattle.hmr_types.specs.Tree.{stmts_of}
+use Rattle.module_tree.specs.Tree.{stmts_of}
 use Rattle.module_semantics.specs.Canon.{stmts_text}
 use Rattle.hot_printer.proofs.statement.+stmts.Given as goal
 

@@ -1,5 +1,5 @@
 use Rattle.std.proofs.Common.{rules, ◌≡◌, ◌<◌, ◌≤◌, Ok, length, ◌∙◌}
-use Rattle.hmr_types.specs.Tree.{module_of}
+use Rattle.module_tree.specs.Tree.{module_of}
 use Rattle.import_scan.specs.Scanning.{meant_in, meant_of}
 use Rattle.import_scan.proofs.Analysing.{few, too_many}
 use Rattle.import_scan.proofs.analysis.analyse.Goals as goal

@@ -1,6 +1,6 @@
 use Rattle.std.proofs.Common.{◌≡◌, ◌++◌, drop, map}
 use Rattle.std.specs.Prelude.{flat_map}
-use Rattle.hmr_types.specs.Tree.{item_of}
+use Rattle.module_tree.specs.Tree.{item_of}
 use Rattle.module_semantics.specs.Analysis.{exported_by}
 use Rattle.import_scan.proofs.analysis.exports.Given as goal
 

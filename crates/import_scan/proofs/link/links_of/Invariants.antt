@@ -1,5 +1,5 @@
 use Rattle.std.proofs.Common.{◌≡◌, ◌++◌, drop, map}
-use Rattle.hmr_types.specs.Tree.{item_of}
+use Rattle.module_tree.specs.Tree.{item_of}
 use Rattle.import_scan.specs.Links.{links_of}
 use Rattle.import_scan.proofs.link.links_of.Given as goal
 

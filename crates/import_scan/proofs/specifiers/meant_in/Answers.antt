@@ -1,7 +1,7 @@
 use Rattle.std.proofs.Common.{map, subst, sym, ◌∙◌}
 use Rattle.std.proofs.lemmas.Result.{err_from_is_err_and}
 use Rattle.hmr_types.specs.Specifier.{Refuses}
-use Rattle.hmr_types.specs.Tree.{item_of}
+use Rattle.module_tree.specs.Tree.{item_of}
 use Rattle.import_scan.proofs.Meanings.{meant_from}
 use Rattle.import_scan.proofs.specifiers.meant_in.Goals as goal
 

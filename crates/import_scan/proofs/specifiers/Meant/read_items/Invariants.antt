@@ -1,5 +1,5 @@
 use Rattle.std.proofs.Common.{◌≡◌, drop, map}
-use Rattle.hmr_types.specs.Tree.{item_of}
+use Rattle.module_tree.specs.Tree.{item_of}
 use Rattle.import_scan.specs.Scanning.{meant_of, with_items}
 use Rattle.import_scan.proofs.specifiers.Meant.read_items.Given as goal
 

@@ -1,7 +1,7 @@
 -- The tree of a module text as plain data: what it says, and not where it lies in memory.
 use Rattle.std.specs.Prelude.{ℕ, List, Bool, Option}
-use Rattle.hmr_types.specs.declared.tree.Op.{Op}
-use Rattle.hmr_types.specs.declared.tree.ImportName.{ImportName}
+use Rattle.module_tree.specs.declared.tree.Op.{Op}
+use Rattle.module_tree.specs.declared.tree.ImportName.{ImportName}
 
 pub data ExprTree : Type 0 where
   num : ℕ → ExprTree

@@ -1,9 +1,12 @@
 // The lines that the program writes, as values. Their exact bytes are the business of the crate that
 // renders them.
 use crate::{
-    AbortWord, ClientId, ClientState, EditWord, EndWord, EvalFault, FaultPlace, Handled,
-    HandlerEnd, InstanceFate, InstanceStatus, Kind, ModName, Name, PlanKind, ReloadCause,
-    RemoveWord, Sequence, SettleWord, Slot, Text, TextFault, Ver,
+    AbortWord, ClientState, EditWord, EndWord, FaultPlace, Handled, HandlerEnd, InstanceFate,
+    InstanceStatus, RemoveWord, SettleWord,
+};
+use hmr_types::{
+    ClientId, EvalFault, FaultWord, HandlerKind, ModName, Name, PlanKind, ReloadCause, Sequence,
+    Slot, Text, Ver,
 };
 
 /// One line of output.
@@ -29,8 +32,10 @@ pub enum OutLine {
     Open {
         client: ClientId,
     },
-    /// `open refused`.
+    /// `open refused`: no further client is taken.
     OpenRefused,
+    /// `open bad-roots`: the roots named are more than 16, or two of them are equal.
+    OpenBadRoots,
     /// `close C`.
     Close {
         client: ClientId,
@@ -50,7 +55,14 @@ pub enum OutLine {
         cause: ReloadCause,
         path: Sequence<ModName>,
     },
-    /// `C update NAME..`: the replaced names, sorted by bytes.
+    /// `C batch B by NAME..`: the number of the batch, and the changed and invalidated names that it
+    /// is for. It stands before the line of a reload or an update.
+    Batch {
+        client: ClientId,
+        batch: u64,
+        triggered: Sequence<ModName>,
+    },
+    /// `C update NAME..`: the replaced names, sorted by bytes; a name that the message repeats stays.
     Update {
         client: ClientId,
         replaced: Sequence<ModName>,
@@ -71,11 +83,13 @@ pub enum OutLine {
         client: ClientId,
         name: ModName,
     },
-    /// `C error NAME L:C WORD`.
+    /// `C error NAME L:C WORD`: line and column as the message has them.
     Error {
         client: ClientId,
         name: ModName,
-        fault: TextFault,
+        line: u64,
+        column: u64,
+        word: FaultWord,
     },
     /// `C wait NAME`.
     Wait {
@@ -161,12 +175,16 @@ pub enum OutLine {
     },
     /// `KIND code END` or `KIND host LABEL NUMBER END`.
     Handler {
-        kind: Kind,
+        kind: HandlerKind,
         handled: Handled,
         end: HandlerEnd,
     },
-    /// `fresh`.
+    /// `fresh`: the fresh load of the server's roots.
     Fresh,
+    /// `fresh C`: the fresh load of a client's own roots.
+    FreshOf {
+        client: ClientId,
+    },
     /// `missing NAME`: a name of the fresh load that isn't served.
     Missing {
         name: ModName,

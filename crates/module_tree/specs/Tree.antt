@@ -1,22 +1,22 @@
 -- The plain data that a tree of the code stands for.
 use Rattle.std.specs.Prelude.{List, [], ◌∷◌, map}
 use Rattle.std.specs.Option.{option_map}
-use Rattle.hmr_types.specs.Syntax as plain
-use Rattle.hmr_types.specs.Syntax.{ExprTree, CondTree, StmtTree, StmtTrees, HandlerTree, OnceTree, ItemTree, ModuleTree}
-use Rattle.hmr_types.specs.declared.tree.Expr.{Expr}
-use Rattle.hmr_types.specs.declared.tree.Expr.TheOpen.{Expr-F}
-use Rattle.hmr_types.specs.declared.tree.Expr.TheFolds.{fold-Expr}
-use Rattle.hmr_types.specs.declared.tree.Cond.{Cond}
-use Rattle.hmr_types.specs.declared.tree.Cond.TheVariants as conds
-use Rattle.hmr_types.specs.declared.tree.Stmt.{Stmt}
-use Rattle.hmr_types.specs.declared.tree.Stmt.TheOpen.{Stmt-F}
-use Rattle.hmr_types.specs.declared.tree.Stmt.TheFolds.{fold-Stmt}
-use Rattle.hmr_types.specs.declared.tree.HandlerCode.{HandlerCode}
-use Rattle.hmr_types.specs.declared.tree.Once.{Once}
-use Rattle.hmr_types.specs.declared.tree.Once.TheVariants as onces
-use Rattle.hmr_types.specs.declared.tree.Item.{Item}
-use Rattle.hmr_types.specs.declared.tree.Item.TheVariants as items
-use Rattle.hmr_types.specs.declared.tree.Module.{Module}
+use Rattle.module_tree.specs.Syntax as plain
+use Rattle.module_tree.specs.Syntax.{ExprTree, CondTree, StmtTree, StmtTrees, HandlerTree, OnceTree, ItemTree, ModuleTree}
+use Rattle.module_tree.specs.declared.tree.Expr.{Expr}
+use Rattle.module_tree.specs.declared.tree.Expr.TheOpen.{Expr-F}
+use Rattle.module_tree.specs.declared.tree.Expr.TheFolds.{fold-Expr}
+use Rattle.module_tree.specs.declared.tree.Cond.{Cond}
+use Rattle.module_tree.specs.declared.tree.Cond.TheVariants as conds
+use Rattle.module_tree.specs.declared.tree.Stmt.{Stmt}
+use Rattle.module_tree.specs.declared.tree.Stmt.TheOpen.{Stmt-F}
+use Rattle.module_tree.specs.declared.tree.Stmt.TheFolds.{fold-Stmt}
+use Rattle.module_tree.specs.declared.tree.HandlerCode.{HandlerCode}
+use Rattle.module_tree.specs.declared.tree.Once.{Once}
+use Rattle.module_tree.specs.declared.tree.Once.TheVariants as onces
+use Rattle.module_tree.specs.declared.tree.Item.{Item}
+use Rattle.module_tree.specs.declared.tree.Item.TheVariants as items
+use Rattle.module_tree.specs.declared.tree.Module.{Module}
 
 abbrev pub expr_step : Expr-F ExprTree → ExprTree
 expr_step (Expr-F.Num n) = plain.num n

@@ -1,6 +1,6 @@
 use Rattle.std.proofs.Common.{◌≡◌, ◌++◌, drop, map}
-use Rattle.hmr_types.specs.Tree.{item_of}
-use Rattle.hmr_types.proofs.tree.Module.copy.Given as goal
+use Rattle.module_tree.specs.Tree.{item_of}
+use Rattle.module_tree.proofs.tree.Module.copy.Given as goal
 
 -- the copies, and what is left to copy, are the whole
 abbrev pub invariant-loop-item : goal.invariant-loop-item

@@ -1,9 +1,9 @@
 use Rattle.std.proofs.Common.{rules, arith, ◌≡◌, ap, ◌∙◌}
-use Rattle.hmr_types.specs.declared.tree.Expr.{size-Expr}
-use Rattle.hmr_types.specs.Syntax.{binary}
-use Rattle.hmr_types.specs.Tree.{expr_of}
-use Rattle.hmr_types.proofs.Rows.{expr_of-Binary, left_no_larger, pushed, popped}
-use Rattle.hmr_types.proofs.tree.Expr.+exprs.Goals as goal
+use Rattle.module_tree.specs.declared.tree.Expr.{size-Expr}
+use Rattle.module_tree.specs.Syntax.{binary}
+use Rattle.module_tree.specs.Tree.{expr_of}
+use Rattle.module_tree.proofs.Rows.{expr_of-Binary, left_no_larger, pushed, popped}
+use Rattle.module_tree.proofs.tree.Expr.+exprs.Goals as goal
 
 pub copy-loop-rest-preserved : goal.copy-loop-rest-preserved
 copy-loop-rest-preserved t c =

@@ -1,6 +1,6 @@
 use Rattle.std.proofs.Common.{◌≡◌, ◌++◌, drop, map}
-use Rattle.hmr_types.specs.Tree.{stmt_of}
-use Rattle.hmr_types.proofs.tree.+stmts.Given as goal
+use Rattle.module_tree.specs.Tree.{stmt_of}
+use Rattle.module_tree.proofs.tree.+stmts.Given as goal
 
 -- the copies, and what is left to copy, are the whole
 abbrev pub invariant-copy_stmts-loop-stmt : goal.invariant-copy_stmts-loop-stmt

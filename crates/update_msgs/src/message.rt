@@ -4,9 +4,11 @@ use hmr_types::{ClientId, FaultWord, ModName, ReloadCause, Sequence, Table, Text
 /// What a client asks or tells.
 #[derive(Drop)]
 pub enum ClientMsg {
-    /// The first message: the format that the client speaks.
+    /// The first message: the format that the client speaks, 1 or 2, and the roots of its page; with
+    /// none, the page has the server's roots.
     Hello {
         format: u8,
+        roots: Sequence<ModName>,
     },
     /// What is there to do?
     Ask,
@@ -55,19 +57,27 @@ pub enum ServerMsg {
         client: ClientId,
         roots: Sequence<ModName>,
     },
-    /// These modules are to be replaced, and these callbacks to be called.
+    /// These modules are to be replaced, and these callbacks to be called. `batch` counts the reloads
+    /// and updates that the client was sent, from 1; `triggered` has the changed and the invalidated
+    /// names that this one is for, rising by bytes. A message that was read in format 1 has batch 0
+    /// and no triggered names.
     Update {
         replaced: Sequence<ModName>,
         updates: Sequence<JsUpdate>,
+        batch: u64,
+        triggered: Sequence<ModName>,
     },
     /// These modules aren't imported on the page any more.
     Prune {
         paths: Sequence<ModName>,
     },
     /// The page is to be loaded again, since nothing on this path accepts the change at its start.
+    /// `batch` and `triggered` are as in an update.
     FullReload {
         cause: ReloadCause,
         path: Sequence<ModName>,
+        batch: u64,
+        triggered: Sequence<ModName>,
     },
     /// The newest source of a module can't be read.
     Error {
@@ -101,7 +111,7 @@ pub enum ServerMsg {
     NotYet {
         path: ModName,
     },
-    /// The message was refused: the number of the refusal, and what it names.
+    /// The message was refused: the number of the refusal, from 1 to 7, and what it names.
     Refused {
         code: u8,
         path: Option<ModName>,

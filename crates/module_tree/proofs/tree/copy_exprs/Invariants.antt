@@ -1,6 +1,6 @@
 use Rattle.std.proofs.Common.{◌≡◌, ◌++◌, drop, map}
-use Rattle.hmr_types.specs.Tree.{expr_of}
-use Rattle.hmr_types.proofs.tree.copy_exprs.Given as goal
+use Rattle.module_tree.specs.Tree.{expr_of}
+use Rattle.module_tree.proofs.tree.copy_exprs.Given as goal
 
 -- the copies, and what is left to copy, are the whole
 abbrev pub invariant-loop-expr : goal.invariant-loop-expr

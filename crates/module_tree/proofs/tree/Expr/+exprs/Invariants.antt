@@ -1,9 +1,9 @@
 use Rattle.std.proofs.Common.{◌≡◌, ◌≤◌}
 use Rattle.std.specs.Prelude.{vec_len}
-use Rattle.hmr_types.specs.declared.tree.Expr.{size-Expr}
-use Rattle.hmr_types.specs.Tree.{expr_of}
-use Rattle.hmr_types.proofs.Rows.{rowed}
-use Rattle.hmr_types.proofs.tree.Expr.+exprs.Given as goal
+use Rattle.module_tree.specs.declared.tree.Expr.{size-Expr}
+use Rattle.module_tree.specs.Tree.{expr_of}
+use Rattle.module_tree.proofs.Rows.{rowed}
+use Rattle.module_tree.proofs.tree.Expr.+exprs.Given as goal
 
 -- the row so far round what is left of it is the whole, and what is left is no larger
 abbrev pub invariant-copy-loop-rest : goal.invariant-copy-loop-rest

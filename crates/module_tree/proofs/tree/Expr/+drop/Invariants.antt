@@ -1,6 +1,6 @@
 use Rattle.std.proofs.Common.{◌≤◌}
-use Rattle.hmr_types.specs.declared.tree.Expr.{size-Expr}
-use Rattle.hmr_types.proofs.tree.Expr.+drop.Given as goal
+use Rattle.module_tree.specs.declared.tree.Expr.{size-Expr}
+use Rattle.module_tree.proofs.tree.Expr.+drop.Given as goal
 
 -- no deeper than what was to be dropped
 abbrev pub invariant-loop-self : goal.invariant-loop-self

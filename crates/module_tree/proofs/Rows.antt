@@ -1,13 +1,13 @@
 -- A row of operators, of which each has the row before it at its left.
 use Rattle.std.proofs.Common.{List, [], ◌∷◌, ◌++◌, ◌≡◌, refl, sym, ap, ◌∙◌, Box, Global, ◌≤◌, arith}
-use Rattle.hmr_types.specs.declared.tree.Expr.{Expr, size-Expr}
-use Rattle.hmr_types.specs.declared.tree.Expr.TheFolds.{fold-roll-Expr}
-use Rattle.hmr_types.specs.declared.tree.Expr.TheOpen.{Expr-F}
-use Rattle.hmr_types.specs.declared.tree.Expr.TheVariants.{rolls-Binary}
-use Rattle.hmr_types.specs.declared.tree.Expr.TheViews.{Binary, sized-Binary}
-use Rattle.hmr_types.specs.declared.tree.Op.{Op}
-use Rattle.hmr_types.specs.Syntax.{ExprTree, binary}
-use Rattle.hmr_types.specs.Tree.{expr_of, expr_step}
+use Rattle.module_tree.specs.declared.tree.Expr.{Expr, size-Expr}
+use Rattle.module_tree.specs.declared.tree.Expr.TheFolds.{fold-roll-Expr}
+use Rattle.module_tree.specs.declared.tree.Expr.TheOpen.{Expr-F}
+use Rattle.module_tree.specs.declared.tree.Expr.TheVariants.{rolls-Binary}
+use Rattle.module_tree.specs.declared.tree.Expr.TheViews.{Binary, sized-Binary}
+use Rattle.module_tree.specs.declared.tree.Op.{Op}
+use Rattle.module_tree.specs.Syntax.{ExprTree, binary}
+use Rattle.module_tree.specs.Tree.{expr_of, expr_step}
 
 -- two operands with their operator
 pub expr_of-Binary : (op : Op) (a b : Box Expr Global) → expr_of (Binary op a b) ≡ binary op (expr_of a.value) (expr_of b.value)

@@ -4,10 +4,10 @@
 // gives; a tree itself has pointers in it, which no clause compares.
 ghost use Rattle.std.specs.Option.{option_map};
 ghost use Rattle.std.specs.Prelude.{◌≡◌, IfOk, map};
-ghost use Rattle.hmr_types.specs.Syntax.{binary};
-ghost use Rattle.hmr_types.specs.Tree.{cond_of, expr_of, handler_of, item_of, module_of, once_of, stmt_of, stmts_of};
+ghost use Rattle.module_tree.specs.Syntax.{binary};
+ghost use Rattle.module_tree.specs.Tree.{cond_of, expr_of, handler_of, item_of, module_of, once_of, stmt_of, stmts_of};
 
-use crate::{Name, Sequence, Text};
+use hmr_types::{Name, Sequence, Text};
 use std::alloc::{AllocError, Global};
 
 /// A whole module.
