@@ -1,5 +1,5 @@
 -- What a client does at each answer to its request.
-use Rattle.std.specs.Prelude.{ℕ, List, [], ◌∷◌, map, Option, Some, None}
+use Rattle.std.specs.Prelude.{ℕ, ◌==◌, if◌then◌else◌, List, [], ◌∷◌, map, Option, Some, None}
 use Rattle.hmr_types.specs.declared.analysis.Outcome.{Outcome}
 use Rattle.hmr_types.specs.declared.analysis.Outcome.TheVariants.{Good, Bad}
 use Rattle.hmr_types.specs.declared.words.PlanKind.{PlanKind}
@@ -13,7 +13,7 @@ use Rattle.update_msgs.specs.declared.message.ClientMsg.TheVariants as request_i
 use Rattle.update_msgs.specs.declared.message.ServerMsg.{ServerMsg}
 use Rattle.update_msgs.specs.declared.message.ServerMsg.TheVariants as msg
 use Rattle.update_msgs.specs.declared.message.JsUpdate.{JsUpdate}
-use Rattle.core_model.specs.Names.{Name, sorted, with_row}
+use Rattle.core_model.specs.Names.{Name, in_order, with_row}
 use Rattle.core_model.specs.Sources.{Text}
 use Rattle.core_model.specs.Page.{Plan, begun, staged, given_up, forced_too}
 use Rattle.client_model.specs.Language.{Language}
@@ -28,6 +28,10 @@ begin kind replaced pairs r = record r { page = begun kind replaced r.page; text
 -- the client has its number and its roots, and the page is to be loaded
 abbrev pub connect : ℕ → List Name → Runtime → Did
 connect client roots r = nothing (record (begin Load [] [] r) { client = client; roots = roots })
+
+-- the line of a batch, where the message has one
+abbrev pub write_batch : ℕ → List Name → Runtime → Did
+write_batch batch triggered r = if batch == 0 then nothing r else write (line.Batch r.client batch (in_order triggered)) r
 
 -- the line is written, and a reload begins
 abbrev pub start_reload : OutLine → Runtime → Did
@@ -44,7 +48,7 @@ pair_of u = (u.path, u.accepted_path)
 -- the lines of the update are written, and it begins
 abbrev pub start_update : List Name → List (Name × Name) → Runtime → Did
 start_update replaced pairs r =
-    and_then (and_then (write (line.Update r.client (sorted replaced)) r)
+    and_then (and_then (write (line.Update r.client (in_order replaced)) r)
     (for_each (λ pair r. write (accept_line r.client pair) r) pairs))
     (λ r. nothing (begin Update replaced pairs r))
 
@@ -98,7 +102,7 @@ ignored n r = and_then (write (line.Ignored r.client n) r) (λ r. nothing (recor
 
 -- `done`, by what was told
 abbrev pub done : ClientMsg → Language → Runtime → Did
-done (request_is.Hello format) language r = nothing r
+done (request_is.Hello format roots) language r = nothing r
 done request_is.Ask language r = nothing r
 done (request_is.Fetch n) language r = nothing r
 done (request_is.Applied table) language r = apply_in r.page.plan language r
@@ -108,7 +112,7 @@ done request_is.Bye language r = nothing r
 
 -- `refused`, by what was told
 abbrev pub refused : ClientMsg → Runtime → Did
-refused (request_is.Hello format) r = nothing r
+refused (request_is.Hello format roots) r = nothing r
 refused request_is.Ask r = nothing r
 refused (request_is.Fetch n) r = nothing r
 refused (request_is.Applied table) r = nothing r
@@ -119,10 +123,10 @@ refused request_is.Bye r = nothing r
 -- what the answer to a request does
 abbrev pub answered : Language → ClientMsg → ServerMsg → Runtime → Did
 answered language asked (msg.Connected client roots) r = connect client roots r
-answered language asked (msg.Update replaced updates) r = start_update replaced (map pair_of updates) r
+answered language asked (msg.Update replaced updates batch triggered) r = and_then (write_batch batch triggered r) (start_update replaced (map pair_of updates))
 answered language asked (msg.Prune paths) r = prune language paths r
-answered language asked (msg.FullReload cause path) r = start_reload (line.Reload r.client cause path) r
-answered language asked (msg.Error n row column word) r = write (line.Error r.client n (record { line = row; col = column; word = word })) r
+answered language asked (msg.FullReload cause path batch triggered) r = and_then (write_batch batch triggered r) (start_reload (line.Reload r.client cause path))
+answered language asked (msg.Error n row column word) r = write (line.Error r.client n row column word) r
 answered language asked (msg.Broken n row column word) r = with_cause (broken n) r
 answered language asked msg.Idle r = nothing r
 answered language asked msg.Done r = done asked language r

@@ -1,17 +1,17 @@
 -- Which messages answer which request.
-use Rattle.std.specs.Prelude.{ℕ, ◌==◌, Bool, true, false, not}
+use Rattle.std.specs.Prelude.{ℕ, ◌==◌, ◌||◌, Bool, true, false, not}
 use Rattle.update_msgs.specs.declared.message.ClientMsg.{ClientMsg}
 use Rattle.update_msgs.specs.declared.message.ClientMsg.TheVariants as request_is
 use Rattle.update_msgs.specs.declared.message.ServerMsg.{ServerMsg}
 use Rattle.update_msgs.specs.declared.message.ServerMsg.TheVariants as msg
 use Rattle.core_model.specs.Names.{Name, same_name}
 
--- a client number, or that there is none left
+-- a client number; or that there is none left, that this client has one, or that its roots are bad
 abbrev pub answers_hello : ServerMsg → Bool
 answers_hello (msg.Connected client roots) = true
-answers_hello (msg.Update replaced updates) = false
+answers_hello (msg.Update replaced updates batch triggered) = false
 answers_hello (msg.Prune paths) = false
-answers_hello (msg.FullReload cause path) = false
+answers_hello (msg.FullReload cause path batch triggered) = false
 answers_hello (msg.Error n row column word) = false
 answers_hello (msg.Broken n row column word) = false
 answers_hello msg.Idle = false
@@ -19,14 +19,14 @@ answers_hello msg.Done = false
 answers_hello (msg.Text n v t) = false
 answers_hello (msg.Missing n) = false
 answers_hello (msg.NotYet n) = false
-answers_hello (msg.Refused code n told kept) = code == 2
+answers_hello (msg.Refused code n told kept) = code == 2 || (code == 3 || code == 7)
 
 -- a page that isn't loaded has nothing to prune, to reload or to update, and a loaded one isn't connected
 abbrev pub answers_ask : Bool → ServerMsg → Bool
 answers_ask loaded (msg.Connected client roots) = not loaded
-answers_ask loaded (msg.Update replaced updates) = loaded
+answers_ask loaded (msg.Update replaced updates batch triggered) = loaded
 answers_ask loaded (msg.Prune paths) = loaded
-answers_ask loaded (msg.FullReload cause path) = loaded
+answers_ask loaded (msg.FullReload cause path batch triggered) = loaded
 answers_ask loaded (msg.Error n row column word) = true
 answers_ask loaded (msg.Broken n row column word) = false
 answers_ask loaded msg.Idle = true
@@ -39,9 +39,9 @@ answers_ask loaded (msg.Refused code n told kept) = false
 -- each of them names the module that was asked for
 abbrev pub answers_fetch : Name → ServerMsg → Bool
 answers_fetch m (msg.Connected client roots) = false
-answers_fetch m (msg.Update replaced updates) = false
+answers_fetch m (msg.Update replaced updates batch triggered) = false
 answers_fetch m (msg.Prune paths) = false
-answers_fetch m (msg.FullReload cause path) = false
+answers_fetch m (msg.FullReload cause path batch triggered) = false
 answers_fetch m (msg.Error n row column word) = false
 answers_fetch m (msg.Broken n row column word) = same_name m n
 answers_fetch m msg.Idle = false
@@ -54,9 +54,9 @@ answers_fetch m (msg.Refused code n told kept) = false
 -- `done`; or, where it may be refused, refused by that number
 abbrev pub answers_told : (ℕ → Bool) → ServerMsg → Bool
 answers_told may_be_refused (msg.Connected client roots) = false
-answers_told may_be_refused (msg.Update replaced updates) = false
+answers_told may_be_refused (msg.Update replaced updates batch triggered) = false
 answers_told may_be_refused (msg.Prune paths) = false
-answers_told may_be_refused (msg.FullReload cause path) = false
+answers_told may_be_refused (msg.FullReload cause path batch triggered) = false
 answers_told may_be_refused (msg.Error n row column word) = false
 answers_told may_be_refused (msg.Broken n row column word) = false
 answers_told may_be_refused msg.Idle = false
@@ -68,7 +68,7 @@ answers_told may_be_refused (msg.Refused code n told kept) = may_be_refused code
 
 -- the message answers the request, of a page that is loaded or not
 abbrev pub is_answer : Bool → ClientMsg → ServerMsg → Bool
-is_answer loaded (request_is.Hello format) m = answers_hello m
+is_answer loaded (request_is.Hello format roots) m = answers_hello m
 is_answer loaded request_is.Ask m = answers_ask loaded m
 is_answer loaded (request_is.Fetch n) m = answers_fetch n m
 is_answer loaded (request_is.Applied table) m = answers_told (λ code. false) m
@@ -78,7 +78,7 @@ is_answer loaded request_is.Bye m = answers_told (λ code. false) m
 
 -- the place of a request in the table of requests, from 1
 abbrev pub request_place : ClientMsg → ℕ
-request_place (request_is.Hello format) = 1
+request_place (request_is.Hello format roots) = 1
 request_place request_is.Ask = 2
 request_place (request_is.Fetch n) = 3
 request_place (request_is.Applied table) = 4
@@ -89,9 +89,9 @@ request_place request_is.Bye = 7
 -- the place of an answer in the table of answers, from 1
 abbrev pub answer_place : ServerMsg → ℕ
 answer_place (msg.Connected client roots) = 1
-answer_place (msg.Update replaced updates) = 2
+answer_place (msg.Update replaced updates batch triggered) = 2
 answer_place (msg.Prune paths) = 3
-answer_place (msg.FullReload cause path) = 4
+answer_place (msg.FullReload cause path batch triggered) = 4
 answer_place (msg.Error n row column word) = 5
 answer_place (msg.Broken n row column word) = 6
 answer_place msg.Idle = 7

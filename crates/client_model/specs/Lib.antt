@@ -3,6 +3,7 @@ pub mod Instance
 pub mod Journal
 pub mod Runtime
 pub mod Order
+pub mod Past
 pub mod Linking
 pub mod Running
 pub mod Making
@@ -10,6 +11,7 @@ pub mod Applying
 pub mod Requesting
 pub mod Answering
 pub mod Expecting
+pub mod Firing
 pub mod Taking
 pub mod Stale
 pub mod Printing

@@ -41,9 +41,13 @@ abbrev pub request_by : Option Plan → Language → Runtime → ClientMsg
 request_by None language r = ask_or_invalidate r.unsent
 request_by (Some p) language r = carry_on r.cause language p r
 
+-- the first request: the format that the client speaks, and the roots that it names
+abbrev pub hello : Runtime → ClientMsg
+hello r = msg.Hello r.format r.named
+
 -- the request that stands
 abbrev pub request : Language → Runtime → ClientMsg
-request language r = if r.client == 0 then msg.Hello 1 else request_by r.page.plan language r
+request language r = if r.client == 0 then hello r else request_by r.page.plan language r
 
 -- the cause of the plan under way to be given up, where there is one
 abbrev pub cause_by : Option Cause → Language → Plan → Runtime → Option Cause

@@ -21,10 +21,18 @@ pub record Invalidation : Type 0 where
   pub version : ℕ
   pub message : Text
 
+-- what a client begins with
+pub record Opening : Type 0 where
+  pub shelf : List (Text × ℕ)  -- the closures of the embedding program: label and number
+  pub roots : List Name  -- the roots that it names for its page; where it names none, it gets the server's
+  pub format : ℕ  -- the format that it speaks, 1 or 2
+
 -- what a client keeps
 pub record Runtime : Type 0 where
+  pub format : ℕ  -- the format that it speaks
+  pub named : List Name  -- the roots that it names at its hello
   pub client : ℕ  -- the number that the last `connected` gave, 0 before any
-  pub roots : List Name
+  pub roots : List Name  -- the roots that the last `connected` gave
   pub page : Page
   pub texts : List (Name × Text)  -- what was fetched for the plan under way
   pub pairs : List (Name × Name)  -- the boundaries of the update under way, each with what it is told of
@@ -36,8 +44,22 @@ pub record Runtime : Type 0 where
   pub stopped : Bool  -- it would have made too many instances
 
 -- a client that took no message yet
-abbrev pub new_runtime : List (Text × ℕ) → Runtime
-new_runtime shelf = record { client = 0; roots = []; page = record new_page { plan = None }; texts = []; pairs = []; cause = None; instances = []; bags = []; unsent = []; shelf = shelf; stopped = false }
+abbrev pub new_runtime : Opening → Runtime
+new_runtime opening = record {
+  format = opening.format;
+  named = opening.roots;
+  client = 0;
+  roots = [];
+  page = record new_page { plan = None };
+  texts = [];
+  pairs = [];
+  cause = None;
+  instances = [];
+  bags = [];
+  unsent = [];
+  shelf = opening.shelf;
+  stopped = false;
+}
 
 -- the empty bag where none is kept
 abbrev pub bag_or_empty : Option Bag → Bag

@@ -4,16 +4,14 @@ use Rattle.std.specs.Prelude.{◌≡◌, ◌≢◌, ◌⊎◌, ℕ, ◌==◌, Bo
 use Prim.{⊥}
 use Rattle.hmr_types.specs.declared.words.PlanKind.{PlanKind}
 use Rattle.hmr_types.specs.declared.words.PlanKind.TheVariants.{Load, Reload, Update}
-use Rattle.update_msgs.specs.declared.message.ServerMsg.{ServerMsg}
 use Rattle.core_model.specs.Names.{Name, at, names_of, sorted}
-use Rattle.core_model.specs.Sources.{Text}
 use Rattle.core_model.specs.View.{imports, imports_of}
 use Rattle.core_model.specs.Page.{Plan}
 use Rattle.client_model.specs.Language.{Language}
 use Rattle.client_model.specs.Instance.{Instance, live_at}
-use Rattle.client_model.specs.Runtime.{Runtime}
+use Rattle.client_model.specs.Runtime.{Runtime, Opening}
 use Rattle.client_model.specs.Linking.{number_in}
-use Rattle.client_model.specs.Taking.{runtime_after}
+use Rattle.client_model.specs.Past.{Past, runtime_after}
 
 -- the number of the live instance of a name
 abbrev pub live_number : Runtime → Name → Option ℕ
@@ -73,6 +71,6 @@ pub record StopsAt (before after : Runtime) (k : ℕ) (b x : Name) : Type 0 wher
   pub renewed : live_number before x ≢ live_number after x
 
 -- some update did, since the instance was made
-abbrev pub Stopped : Language → List (Text × ℕ) → List ServerMsg → ℕ → Name → Name → Type 0
-Stopped language shelf [] k b x = ⊥
-Stopped language shelf (m ∷ past) k b x = StopsAt (runtime_after language shelf past) (runtime_after language shelf (m ∷ past)) k b x ⊎ Stopped language shelf past k b x
+abbrev pub Stopped : Language → Opening → Past → ℕ → Name → Name → Type 0
+Stopped language opening [] k b x = ⊥
+Stopped language opening (came ∷ past) k b x = StopsAt (runtime_after language opening past) (runtime_after language opening (came ∷ past)) k b x ⊎ Stopped language opening past k b x

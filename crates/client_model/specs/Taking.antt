@@ -10,7 +10,7 @@ use Rattle.core_model.specs.Sources.{Text}
 use Rattle.core_model.specs.Page.{Plan}
 use Rattle.client_model.specs.Language.{Language}
 use Rattle.client_model.specs.Journal.{Journal, lines_of_all}
-use Rattle.client_model.specs.Runtime.{Runtime, new_runtime, Did}
+use Rattle.client_model.specs.Runtime.{Runtime, Did}
 use Rattle.client_model.specs.Linking.{new_names}
 use Rattle.client_model.specs.Requesting.{request}
 use Rattle.client_model.specs.Answering.{answered}
@@ -64,13 +64,3 @@ take language r m =
     if r.stopped then unchanged_by is_stopped r else (
     if not (is_answer r.page.loaded asked m) then unchanged_by (unexpected (request_place asked) (answer_place m)) r else (
     if is_too_many asked m r then stop r else did))
-
--- what a client is after the messages that it took, the newest first
-abbrev pub runtime_after : Language → List (Text × ℕ) → List ServerMsg → Runtime
-runtime_after language shelf [] = new_runtime shelf
-runtime_after language shelf (m ∷ past) = (take language (runtime_after language shelf past) m).after
-
--- all that happened meanwhile, the oldest first
-abbrev pub journal_of : Language → List (Text × ℕ) → List ServerMsg → Journal
-journal_of language shelf [] = []
-journal_of language shelf (m ∷ past) = journal_of language shelf past ++ (take language (runtime_after language shelf past) m).journal

@@ -98,31 +98,31 @@ module _ (path : List Name) where
   computed view roots changed forced None some none r = absurd (none (record { end = r.end; path = record { path = path; is = r.is }; badly = r.badly }))
   computed view roots changed forced (Some p) some none r = ap Some (one_least (passes view forced) (changed ++ forced) (ends_badly view roots forced) p path some r)
 
-  pub reload_is : (roots : List Name) (s : Sources) (c : Client) → (ask_row roots s c ≡ reload path) ↔ IsReloadSent roots s c path
-  reload_is roots s c = (
+  pub reload_is : (s : Sources) (c : Client) → (ask_row s c ≡ reload path) ↔ IsReloadSent s c path
+  reload_is s c = (
     (λ e.
         let plan = by_plan c.page.plan _ e in
         let notice = by_notice (first_notice c) _ plan.1 in
         let loaded = by_loaded c.page.loaded (is_held s c) _ notice.1 in
-        let whole = by_dropped (dropped roots c) _ loaded.1 in
+        let whole = by_dropped (dropped c) _ loaded.1 in
         let free = by_held (is_held s c) _ whole.1 in
-        let why : reason roots s c ≡ Some path = by_reason (reason roots s c) (replaced s c) (pairs s c) free.1 in
+        let why : reason s c ≡ Some path = by_reason (reason s c) (replaced s c) (pairs s c) free.1 in
         record {
           idle = plan.0;
           told = no_notice c.notices notice.0;
           loaded = loaded.0;
           whole = whole.0;
           free = free.0;
-          reason = subst (λ q. IfSome q (IsReason c.page.view roots (changed s c) c.page.forced)) why (reason_is c.page.view roots (changed s c) c.page.forced).0;
+          reason = subst (λ q. IfSome q (IsReason c.page.view c.roots (changed s c) c.page.forced)) why (reason_is c.page.view c.roots (changed s c) c.page.forced).0;
         }),
     (λ h.
-        let r = reason_is c.page.view roots (changed s c) c.page.forced in
-        let why : reason roots s c ≡ Some path = computed c.page.view roots (changed s c) c.page.forced (reason roots s c) r.0 r.1 h.reason in
+        let r = reason_is c.page.view c.roots (changed s c) c.page.forced in
+        let why : reason s c ≡ Some path = computed c.page.view c.roots (changed s c) c.page.forced (reason s c) r.0 r.1 h.reason in
         let end : AskRow = row_replaced (replaced s c) (pairs s c) in
-        let at_reason : row_reason (reason roots s c) end ≡ reload path = ap (λ q. row_reason q end) why in
-        let at_held : row_held (is_held s c) (row_reason (reason roots s c) end) ≡ reload path = ap (λ b. row_held b (row_reason (reason roots s c) end)) h.free ∙ at_reason in
-        let at_dropped : row_dropped (dropped roots c) (row_held (is_held s c) (row_reason (reason roots s c) end)) ≡ reload path = ap (λ ns. row_dropped ns (row_held (is_held s c) (row_reason (reason roots s c) end))) h.whole ∙ at_held in
-        let rest : AskRow = row_dropped (dropped roots c) (row_held (is_held s c) (row_reason (reason roots s c) end)) in
+        let at_reason : row_reason (reason s c) end ≡ reload path = ap (λ q. row_reason q end) why in
+        let at_held : row_held (is_held s c) (row_reason (reason s c) end) ≡ reload path = ap (λ b. row_held b (row_reason (reason s c) end)) h.free ∙ at_reason in
+        let at_dropped : row_dropped (dropped c) (row_held (is_held s c) (row_reason (reason s c) end)) ≡ reload path = ap (λ ns. row_dropped ns (row_held (is_held s c) (row_reason (reason s c) end))) h.whole ∙ at_held in
+        let rest : AskRow = row_dropped (dropped c) (row_held (is_held s c) (row_reason (reason s c) end)) in
         ap (λ q. row_plan q (row_notice (first_notice c) (row_loaded c.page.loaded (is_held s c) rest))) h.idle
         ∙ ap (λ notices. row_notice (option_and_then (λ n. with_name n (at notices n)) (first_of (sorted (names_of notices)))) (row_loaded c.page.loaded (is_held s c) rest)) h.told
         ∙ ap (λ b. row_loaded b (is_held s c) rest) h.loaded

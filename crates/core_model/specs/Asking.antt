@@ -1,13 +1,14 @@
 -- What there is to do for a client that asks: the first row of the table that applies.
 use Rattle.std.specs.Prelude.{ℕ, Bool, true, false, List, [], ◌∷◌, Option, Some, None}
 use Rattle.hmr_types.specs.declared.analysis.TextFault.{TextFault}
+use Rattle.hmr_types.specs.declared.words.PlanKind.{PlanKind}
 use Rattle.hmr_types.specs.declared.words.PlanKind.TheVariants.{Load, Reload, Update}
 use Rattle.update_msgs.specs.declared.message.JsUpdate.{JsUpdate}
 use Rattle.core_model.specs.Names.{Name, at}
 use Rattle.core_model.specs.FreshLoad.{version_in}
 use Rattle.core_model.specs.Sources.{Sources}
 use Rattle.core_model.specs.Page.{Plan, begun, pruned}
-use Rattle.core_model.specs.Client.{Client, is_held, dropped, reason, replaced, pairs, first_notice, without_notice}
+use Rattle.core_model.specs.Client.{Client, is_held, dropped, reason, replaced, pairs, first_notice, without_notice, next_batch}
 
 -- the rows of the table
 pub data AskRow : Type 0 where
@@ -57,25 +58,33 @@ row_plan None row = row
 row_plan (Some p) row = out_of_turn
 
 -- the row that an Ask meets
-abbrev pub ask_row : List Name → Sources → Client → AskRow
-ask_row roots s c =
+abbrev pub ask_row : Sources → Client → AskRow
+ask_row s c =
     row_plan c.page.plan
     (row_notice (first_notice c)
     (row_loaded c.page.loaded (is_held s c)
-    (row_dropped (dropped roots c)
+    (row_dropped (dropped c)
     (row_held (is_held s c)
-    (row_reason (reason roots s c)
+    (row_reason (reason s c)
     (row_replaced (replaced s c) (pairs s c)))))))
+
+-- a plan of this kind begins
+abbrev pub begins : PlanKind → List Name → Sources → Client → Client
+begins kind replaced s c = record c { page = begun kind replaced c.page; plan_at = s.served_no }
+
+-- a reload or an update is counted
+abbrev pub counted : Client → Client
+counted c = record c { batches = next_batch c.batches }
 
 -- what the row leaves of the client
 abbrev pub asked : AskRow → Sources → Client → Client
 asked out_of_turn s c = c
 asked (tell n fault) s c = without_notice n c
-asked load s c = record c { page = begun Load [] c.page; plan_at = s.served_no }
+asked load s c = begins Load [] s c
 asked idle s c = c
 asked (prune ns) s c = record c { page = pruned ns c.page }
-asked (reload path) s c = record c { page = begun Reload [] c.page; plan_at = s.served_no }
-asked (update ns ps) s c = record c { page = begun Update ns c.page; plan_at = s.served_no }
+asked (reload path) s c = begins Reload [] s (counted c)
+asked (update ns ps) s c = begins Update ns s (counted c)
 
 -- 0 where there is no number
 abbrev pub number_or_zero : Option ℕ → ℕ

@@ -1,5 +1,6 @@
 -- What the core keeps of a client, and what of it is read from the sources of the day.
-use Rattle.std.specs.Prelude.{ℕ, ◌==◌, Bool, false, List, [], Option, Some, None, option_and_then, option_map}
+use Rattle.std.specs.Prelude.{ℕ, ◌+◌, ◌==◌, nat_lt, Bool, false, List, [], ◌++◌, Option, Some, None, option_and_then, option_map, if◌then◌else◌}
+use Rattle.hmr_types.specs.declared.limits.TheConstants.{LARGEST_NUMBER}
 use Rattle.hmr_types.specs.declared.analysis.TextFault.{TextFault}
 use Rattle.core_model.specs.Names.{Name, at, with_row, without, names_of, sorted, first_of}
 use Rattle.core_model.specs.Page.{Page, new_page}
@@ -9,14 +10,16 @@ use Rattle.core_model.specs.Spread.{reason_of, replaced_of, pairs_of}
 
 -- what the core keeps of a client
 pub record Client : Type 0 where
+  pub roots : List Name  -- of its page
+  pub batches : ℕ  -- how many reloads and updates it was sent
   pub page : Page
   pub plan_at : ℕ  -- served_no when the last plan began
   pub held_at : Option ℕ  -- served_no when the plan began that was given up last
   pub notices : List (Name × TextFault)  -- the faults that it isn't told of yet
 
 -- a client that has just been connected
-abbrev pub new_client : ℕ → Client
-new_client served_no = record { page = new_page; plan_at = served_no; held_at = None; notices = [] }
+abbrev pub new_client : List Name → ℕ → Client
+new_client roots served_no = record { roots = roots; batches = 0; page = new_page; plan_at = served_no; held_at = None; notices = [] }
 
 -- the number is there, and is this one
 abbrev pub same_number : Option ℕ → ℕ → Bool
@@ -32,12 +35,12 @@ abbrev pub changed : Sources → Client → List Name
 changed s c = changed_of s.served c.page.view
 
 -- what no root of the page reaches
-abbrev pub dropped : List Name → Client → List Name
-dropped roots c = dropped_of c.page.view roots
+abbrev pub dropped : Client → List Name
+dropped c = dropped_of c.page.view c.roots
 
 -- the reason of a reload, where one is wanted
-abbrev pub reason : List Name → Sources → Client → Option (List Name)
-reason roots s c = reason_of c.page.view roots (changed s c) c.page.forced
+abbrev pub reason : Sources → Client → Option (List Name)
+reason s c = reason_of c.page.view c.roots (changed s c) c.page.forced
 
 -- what an update would replace
 abbrev pub replaced : Sources → Client → List Name
@@ -46,6 +49,14 @@ replaced s c = replaced_of c.page.view (changed s c) c.page.forced
 -- who would be told of what
 abbrev pub pairs : Sources → Client → List (Name × Name)
 pairs s c = pairs_of c.page.view (replaced s c) c.page.forced
+
+-- what a reload or an update is for: the changed and the invalidated names, rising by bytes
+abbrev pub triggered : Sources → Client → List Name
+triggered s c = sorted (changed s c ++ c.page.forced)
+
+-- the number of the next reload or update; it stands still at the largest number
+abbrev pub next_batch : ℕ → ℕ
+next_batch batches = if nat_lt batches LARGEST_NUMBER then batches + 1 else batches
 
 -- the fault with its module's name
 abbrev pub with_name : Name → Option TextFault → Option (Name × TextFault)

@@ -2,16 +2,17 @@
 use Rattle.std.specs.Prelude.{ℕ, ◌+◌, ◌==◌, nat_le, Bool, true, false, not, ◌||◌, List, [], ◌∷◌, length, map, filter, reverse, Option, Some, None, if◌then◌else◌}
 use Rattle.hmr_types.specs.declared.limits.TheConstants.{CLIENTS, LARGEST_CLIENT}
 use Rattle.update_msgs.specs.declared.message.ServerMsg.TheVariants as msg
-use Rattle.core_model.specs.declared.refusal.Refusal.TheVariants.{UnknownClient, TooManyClients}
+use Rattle.core_model.specs.declared.refusal.Refusal.TheVariants.{UnknownClient, TooManyClients, BadRoots}
+use Rattle.core_model.specs.Roots.{are_bad, roots_or}
 use Rattle.core_model.specs.Names.{Name}
 use Rattle.core_model.specs.Sources.{Sources, Change, edit, result, edit_answer, result_answer, changed_by, no_sources}
 use Rattle.core_model.specs.Client.{Client, new_client, told_of_edit, told_of_result}
 use Rattle.core_model.specs.Requests.{Request, Reply, edited, settled, to_client, refused, gone, heard}
 
--- an edit or a result, a client that comes, a request of a client, or a client that goes
+-- an edit or a result, a client that comes and names its roots or none, a request of a client, or a client that goes
 pub data Event : Type 0 where
   change : Change → Event
-  connect : Event
+  connect : List Name → Event
   request : ℕ → Request → Event
   disconnect : ℕ → Event
 
@@ -30,9 +31,10 @@ client_at (row ∷ rows) i = if row.0 == i then Some row.1 else client_at rows i
 abbrev pub without_client : {X : Type 0} → ℕ → List (ℕ × X) → List (ℕ × X)
 without_client i rows = filter (λ row. not (row.0 == i)) rows
 
--- the clients with this one in place of the number's own
+-- the clients with this one in the place of the number's own; a new number comes last
 abbrev pub with_client : {X : Type 0} → ℕ → X → List (ℕ × X) → List (ℕ × X)
-with_client i c rows = (i, c) ∷ without_client i rows
+with_client i c [] = (i, c) ∷ []
+with_client i c (row ∷ rows) = if row.0 == i then (i, c) ∷ rows else row ∷ with_client i c rows
 
 -- each client, changed by f
 abbrev pub each_client : {X : Type 0} → (X → X) → List (ℕ × X) → List (ℕ × X)
@@ -58,26 +60,38 @@ after_change core ch = record core { sources = changed_by core.sources ch; clien
 abbrev pub is_full : Core → Bool
 is_full core = nat_le CLIENTS (length core.clients) || nat_le LARGEST_CLIENT core.given
 
--- a client gets the next number, or is refused
+-- a client gets the next number, with these roots
+abbrev pub admitted : List Name → Core → Core × Reply
+admitted roots core = (
+  record core { clients = with_client (core.given + 1) (new_client roots core.sources.served_no) core.clients; given = core.given + 1 },
+  to_client (msg.Connected (core.given + 1) roots),
+)
+
+-- no further client is taken; else what follows
+abbrev pub if_room : Bool → List Name → Core → Core × Reply
+if_room true roots core = (core, refused TooManyClients)
+if_room false roots core = admitted roots core
+
+-- the roots that the client names are bad; else what follows
 abbrev pub connected : Bool → List Name → Core → Core × Reply
-connected true roots core = (core, refused TooManyClients)
-connected false roots core = (record core { clients = with_client (core.given + 1) (new_client core.sources.served_no) core.clients; given = core.given + 1 }, to_client (msg.Connected (core.given + 1) roots))
+connected true roots core = (core, refused BadRoots)
+connected false roots core = if_room (is_full core) roots core
 
 -- a connected client's request is heard on its own record
-abbrev pub requested : Option Client → List Name → ℕ → Core → Request → Core × Reply
-requested None roots i core r = (core, refused UnknownClient)
-requested (Some c) roots i core r = (record core { clients = with_client i (heard roots i core.sources c r).0 core.clients }, (heard roots i core.sources c r).1)
+abbrev pub requested : Option Client → ℕ → Core → Request → Core × Reply
+requested None i core r = (core, refused UnknownClient)
+requested (Some c) i core r = (record core { clients = with_client i (heard i core.sources c r).0 core.clients }, (heard i core.sources c r).1)
 
 -- a connected client is no more
 abbrev pub disconnected : Option Client → ℕ → Core → Core × Reply
 disconnected None i core = (core, refused UnknownClient)
 disconnected (Some c) i core = (record core { clients = without_client i core.clients }, gone)
 
--- what an event makes of the core, and the reply
+-- what an event makes of the core of these roots, and the reply
 abbrev pub step : List Name → Core → Event → Core × Reply
 step roots core (change ch) = (after_change core ch, answer_change core ch)
-step roots core connect = connected (is_full core) roots core
-step roots core (request i r) = requested (client_at core.clients i) roots i core r
+step roots core (connect names) = connected (are_bad names) (roots_or names roots) core
+step roots core (request i r) = requested (client_at core.clients i) i core r
 step roots core (disconnect i) = disconnected (client_at core.clients i) i core
 
 -- no event yet
@@ -102,6 +116,6 @@ replies roots core (event ∷ events) = (step roots core event).1 ∷ replies ro
 abbrev pub changes_of : List Event → List Change
 changes_of [] = []
 changes_of (change ch ∷ events) = ch ∷ changes_of events
-changes_of (connect ∷ events) = changes_of events
+changes_of (connect names ∷ events) = changes_of events
 changes_of (request i r ∷ events) = changes_of events
 changes_of (disconnect i ∷ events) = changes_of events

@@ -87,4 +87,4 @@ serving_one = replay (m ∷ []) (change (edit m (Some one_text)) ∷ change (res
 
 -- a client asks out of turn, tells tables that aren't its plan's, and invalidates what doesn't accept itself
 abbrev pub lies : List Event
-lies = connect ∷ request 1 ask ∷ request 1 (applied_as []) ∷ request 1 (fetch m) ∷ request 1 (applied_as ((m, 2) ∷ [])) ∷ request 1 (applied_as ((m, 1) ∷ [])) ∷ request 1 (invalidate m 1) ∷ request 2 ask ∷ []
+lies = connect [] ∷ request 1 ask ∷ request 1 (applied_as []) ∷ request 1 (fetch m) ∷ request 1 (applied_as ((m, 2) ∷ [])) ∷ request 1 (applied_as ((m, 1) ∷ [])) ∷ request 1 (invalidate m 1) ∷ request 2 ask ∷ []

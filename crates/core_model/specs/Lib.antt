@@ -10,6 +10,7 @@ pub mod Page
 pub mod Client
 pub mod Asking
 pub mod Requests
+pub mod Roots
 pub mod Core
 pub mod Transcript
 pub mod Examples

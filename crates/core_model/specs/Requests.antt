@@ -10,7 +10,7 @@ use Rattle.core_model.specs.Sources.{Source, Serving, Sources, Verdict, outstand
 use Rattle.core_model.specs.Spread.{cause_of}
 use Rattle.core_model.specs.View.{View, Entry, table_of}
 use Rattle.core_model.specs.Page.{Plan, staged, applied, given_up, forced_too, unfetched_of, new_view}
-use Rattle.core_model.specs.Client.{Client}
+use Rattle.core_model.specs.Client.{Client, triggered}
 use Rattle.core_model.specs.Asking.{AskRow, out_of_turn, tell, load, idle, prune, reload, update, ask_row, asked, js_update, number_or_zero}
 
 -- what a client asks or tells
@@ -31,15 +31,19 @@ pub data Reply : Type 0 where
 
 -- an Ask
 
--- the answer to an Ask, by its row
-abbrev pub ask_reply : List Name → ℕ → Sources → Client → AskRow → Reply
-ask_reply roots i s c out_of_turn = refused OutOfTurn
-ask_reply roots i s c (tell n fault) = to_client (msg.Error n fault.line fault.col fault.word)
-ask_reply roots i s c load = to_client (msg.Connected i roots)
-ask_reply roots i s c idle = to_client msg.Idle
-ask_reply roots i s c (prune ns) = to_client (msg.Prune ns)
-ask_reply roots i s c (reload path) = to_client (msg.FullReload (cause_of c.page.view path) path)
-ask_reply roots i s c (update ns ps) = to_client (msg.Update ns (map (js_update s) ps))
+-- the answer to an Ask, by its row, where the client is as the Ask leaves it
+abbrev pub ask_reply : ℕ → Sources → Client → AskRow → Reply
+ask_reply i s c out_of_turn = refused OutOfTurn
+ask_reply i s c (tell n fault) = to_client (msg.Error n fault.line fault.col fault.word)
+ask_reply i s c load = to_client (msg.Connected i c.roots)
+ask_reply i s c idle = to_client msg.Idle
+ask_reply i s c (prune ns) = to_client (msg.Prune ns)
+ask_reply i s c (reload path) = to_client (msg.FullReload (cause_of c.page.view path) path c.batches (triggered s c))
+ask_reply i s c (update ns ps) = to_client (msg.Update ns (map (js_update s) ps) c.batches (triggered s c))
+
+-- the answer to an Ask that leaves the client so
+abbrev pub answer_ask : ℕ → Sources → AskRow → Client → Client × Reply
+answer_ask i s row c = (asked row s c, ask_reply i s (asked row s c) row)
 
 -- a Fetch
 
@@ -115,10 +119,10 @@ abbrev pub applied_row : List Name → Plan → View → List (Name × ℕ) → 
 applied_row roots p view table = row_unfetched (unfetched_of roots p view) (row_differing (differing table (table_of (new_view roots p view))) table (table_of (new_view roots p view)))
 
 -- the plan's page stands where all fits, and else nothing changes
-abbrev pub after_applied : AppliedRow → List Name → Plan → Client → Client
-after_applied (unfetched n) roots p c = c
-after_applied (mismatch n told kept) roots p c = c
-after_applied done roots p c = record c { page = applied roots p c.page; held_at = None }
+abbrev pub after_applied : AppliedRow → Plan → Client → Client
+after_applied (unfetched n) p c = c
+after_applied (mismatch n told kept) p c = c
+after_applied done p c = record c { page = applied c.roots p c.page; held_at = None }
 
 -- the answer to an Applied, by its row
 abbrev pub applied_reply : AppliedRow → Reply
@@ -151,9 +155,9 @@ fetched_in None s n c = (c, refused OutOfTurn)
 fetched_in (Some p) s n c = (fetched (fetch_row s n) p n c, fetch_reply (fetch_row s n) n)
 
 -- an Applied needs a plan under way
-abbrev pub applied_in : Option Plan → List Name → List (Name × ℕ) → Client → Client × Reply
-applied_in None roots table c = (c, refused OutOfTurn)
-applied_in (Some p) roots table c = (after_applied (applied_row roots p c.page.view table) roots p c, applied_reply (applied_row roots p c.page.view table))
+abbrev pub applied_in : Option Plan → List (Name × ℕ) → Client → Client × Reply
+applied_in None table c = (c, refused OutOfTurn)
+applied_in (Some p) table c = (after_applied (applied_row c.roots p c.page.view table) p c, applied_reply (applied_row c.roots p c.page.view table))
 
 -- an Aborted needs a plan under way, and holds the client until something is served
 abbrev pub aborted_in : Option Plan → Client → Client × Reply
@@ -166,9 +170,9 @@ invalidated_in None n v c = (invalidated (is_at_version (at c.page.view n) v) n 
 invalidated_in (Some p) n v c = (c, refused OutOfTurn)
 
 -- what a request makes of the client's record, and the reply
-abbrev pub heard : List Name → ℕ → Sources → Client → Request → Client × Reply
-heard roots i s c ask = (asked (ask_row roots s c) s c, ask_reply roots i s c (ask_row roots s c))
-heard roots i s c (fetch n) = fetched_in c.page.plan s n c
-heard roots i s c (applied_as table) = applied_in c.page.plan roots table c
-heard roots i s c aborted = aborted_in c.page.plan c
-heard roots i s c (invalidate n v) = invalidated_in c.page.plan n v c
+abbrev pub heard : ℕ → Sources → Client → Request → Client × Reply
+heard i s c ask = answer_ask i s (ask_row s c) c
+heard i s c (fetch n) = fetched_in c.page.plan s n c
+heard i s c (applied_as table) = applied_in c.page.plan table c
+heard i s c aborted = aborted_in c.page.plan c
+heard i s c (invalidate n v) = invalidated_in c.page.plan n v c

@@ -2,8 +2,8 @@
 -- made it.
 use Rattle.std.specs.Prelude.{◌≡◌, ℕ, ◌+◌, ◌≤◌, Bool, true, not, ◌&&◌, List, [], ◌∷◌, length, sum_by, map, All, ⊤}
 use Rattle.hmr_types.specs.declared.analysis.Outcome.{Outcome}
-use Rattle.hmr_types.specs.declared.limits.TheConstants.{ROOTS}
-use Rattle.core_model.specs.Names.{Name, has}
+use Rattle.core_model.specs.Names.{Name}
+use Rattle.core_model.specs.Roots.{AreRoots}
 use Rattle.core_model.specs.Sources.{Text, edit, result, text_or_none}
 use Rattle.core_model.specs.Requests.{Request, Reply, ask, fetch, applied_as, aborted, invalidate}
 use Rattle.core_model.specs.Core.{Event, change, connect, request, disconnect, step, replay}
@@ -36,7 +36,7 @@ request_bytes (invalidate n v) = length n
 abbrev pub event_bytes : Event → ℕ
 event_bytes (change (edit n t)) = length n + length (text_or_none t)
 event_bytes (change (result n t o v)) = length n + length t
-event_bytes connect = 0
+event_bytes (connect names) = sum_by length names
 event_bytes (request i r) = request_bytes r
 event_bytes (disconnect i) = 0
 
@@ -44,22 +44,11 @@ event_bytes (disconnect i) = 0
 abbrev pub transcript_bytes : List Entry → ℕ
 transcript_bytes entries = sum_by (λ entry. 64 + event_bytes entry.1) entries
 
--- no two are equal
-abbrev pub are_distinct : List Name → Bool
-are_distinct [] = true
-are_distinct (n ∷ names) = not (has names n) && are_distinct names
-
--- the roots of a page: one at least, 16 at most, no two equal
-pub record AreRoots (roots : List Name) : Type 0 where
-  pub some : 1 ≤ length roots
-  pub few : length roots ≤ ROOTS
-  pub distinct : are_distinct roots ≡ true
-
 -- a result that comes is the one that transforming its text gives
 abbrev pub IsTrueEvent : (Name → Text → Outcome) → Event → Type 0
 IsTrueEvent transformed (change (edit n t)) = ⊤
 IsTrueEvent transformed (change (result n t o v)) = o ≡ transformed n t
-IsTrueEvent transformed connect = ⊤
+IsTrueEvent transformed (connect names) = ⊤
 IsTrueEvent transformed (request i r) = ⊤
 IsTrueEvent transformed (disconnect i) = ⊤
 

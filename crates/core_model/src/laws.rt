@@ -98,7 +98,7 @@ pub fn sources_are_of_the_changes()
 /// loaded, nothing is dropped, the client isn't held, and an unaccepted path ends badly; the path that
 /// is told is the least such path.
 pub fn reload_is_sent_exactly()
-    ensures { (roots : List Name) (s : Sources) (c : Client) (path : List Name) → (ask_row roots s c ≡ reload path) ↔ IsReloadSent roots s c path }
+    ensures { (s : Sources) (c : Client) (path : List Name) → (ask_row s c ≡ reload path) ↔ IsReloadSent s c path }
 {}
 
 /// The view that a plan makes rises by name, and so does its table; so do the dropped and the replaced

@@ -6,7 +6,7 @@ use hmr_types::{ModName, Ver};
 pub enum Refusal {
     /// No client of this number is connected.
     UnknownClient,
-    /// 32 clients are connected, or all client numbers were given.
+    /// 32 clients are connected, or all client numbers were given, and the roots aren't bad.
     TooManyClients,
     /// The request isn't one for a client with a plan under way, or for one without.
     OutOfTurn,
@@ -17,4 +17,6 @@ pub enum Refusal {
     Unfetched(ModName),
     /// The module isn't on the page at this version, or it doesn't accept itself.
     Ignored,
+    /// The roots that a client names for its page are more than 16, or two of them are equal.
+    BadRoots,
 }
