@@ -4,7 +4,7 @@ use Rattle.std.specs.Prelude.{slice_set, filter, not, ◌||◌, Some, if◌then�
 use Rattle.std.proofs.lemmas.Bool.{false≢true}
 use Rattle.std.proofs.lemmas.List.{drop_more, take-append-drop, take_more_set, drop-set-lt, append_assoc}
 use Rattle.core_model.specs.Names.{Name, same_name, has, at, names_of, sorted}
-use Rattle.core_model.specs.Transcript.{are_distinct}
+use Rattle.core_model.specs.Roots.{are_distinct}
 use Rattle.core_model.specs.View.{View, Entry, imports_of, imports}
 use Rattle.core_model.proofs.Naming.{same_true, true_same, has_is, both_true, and_both, not_true, not_from, sorted_has, or_right}
 use Rattle.module_graph.specs.Entries.{put_entry, importing}

@@ -5,7 +5,7 @@ ghost use Rattle.std.specs.Cmp.Lexicographic.{slice_cmp};
 ghost use Rattle.std.specs.List.Sorted.{IsStrictlySortedBy};
 ghost use Rattle.std.specs.Ordering.{nat_cmp};
 ghost use Rattle.core_model.specs.Names.{Name, at, has, names_of, without_all};
-ghost use Rattle.core_model.specs.Transcript.{are_distinct};
+ghost use Rattle.core_model.specs.Roots.{are_distinct};
 ghost use Rattle.core_model.specs.View.{Entry, imports_of, imports, accepts, self_accepts, declines};
 ghost use Rattle.module_graph.specs.Entries.{put_entry, importing};
 
@@ -63,7 +63,7 @@ pub struct View {
 impl Model for View {
     ghost use Rattle.std.specs.Prelude.{◌≡◌, true};
     ghost use Rattle.core_model.specs.Names.{names_of};
-    ghost use Rattle.core_model.specs.Transcript.{are_distinct};
+    ghost use Rattle.core_model.specs.Roots.{are_distinct};
     ghost use Rattle.core_model.specs.View.{View};
 
     ghost Value = { View };

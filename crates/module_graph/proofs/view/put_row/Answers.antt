@@ -2,7 +2,7 @@ use Rattle.std.proofs.Common.{◌≡◌, ap, sym, ◌∙◌}
 use Rattle.std.specs.Prelude.{slice_set, ◌++◌, ◌∷◌, []}
 use Rattle.std.proofs.Math.Path.{subst}
 use Rattle.core_model.specs.Names.{names_of}
-use Rattle.core_model.specs.Transcript.{are_distinct}
+use Rattle.core_model.specs.Roots.{are_distinct}
 use Rattle.core_model.specs.View.{View}
 use Rattle.module_graph.specs.Entries.{put_entry}
 use Rattle.module_graph.proofs.Rows.{put_distinct}

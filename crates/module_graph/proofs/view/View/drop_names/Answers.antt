@@ -1,7 +1,7 @@
 use Rattle.std.proofs.Common.{ap, ◌∙◌}
 use Rattle.std.specs.Prelude.{not}
 use Rattle.core_model.specs.Names.{has, names_of}
-use Rattle.core_model.specs.Transcript.{are_distinct}
+use Rattle.core_model.specs.Roots.{are_distinct}
 use Rattle.core_model.specs.View.{View}
 use Rattle.module_graph.proofs.Rows.{Row, kept_distinct}
 use Rattle.module_graph.proofs.view.View.drop_names.Goals as goal
