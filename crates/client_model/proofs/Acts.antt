@@ -1,7 +1,7 @@
 -- What holds of each thing that a client does, where it does it, holds of what it does with a plan: every
 -- way through the end of old instances, the making of new ones, callbacks and prunes is gone once, here.
 use Rattle.std.proofs.Common.{ℕ, Bool, true, false, List, [], ◌∷◌, ◌≡◌, refl}
-use Rattle.std.specs.Prelude.{Option, Some, None, if◌then◌else◌, slice_get}
+use Rattle.std.specs.Prelude.{reverse, Option, Some, None, if◌then◌else◌, slice_get}
 use Rattle.hmr_types.specs.declared.words.PlanKind.{PlanKind}
 use Rattle.hmr_types.specs.declared.words.PlanKind.TheVariants.{Load, Reload, Update}
 use Rattle.output_lines.specs.declared.words.FaultPlace.{FaultPlace}
@@ -17,6 +17,8 @@ use Rattle.client_model.specs.Runtime.{Runtime, Did, nothing, and_then, for_each
 use Rattle.client_model.specs.Running.{scope_of, run_deed, no_arguments, did_run, run_handler, run_of, run_each, drop_each, end_instance, give_up_bag, TakesNothing}
 use Rattle.client_model.specs.Making.{Birth, make, make_unrun, make_run, has_failed_link}
 use Rattle.client_model.specs.Applying.{is_left_behind, fate_by, itself_in, listed_in, reload_instance, reload_all, give_up_all_bags, live_of, replace_instance, replaced_instances, end_old, births, run_own, run_dep, tell_boundary, tell_all, set_aside, drop_set_aside, prune_instance}
+use Rattle.client_model.specs.Firing.{hear_event, hear_all, event_arguments}
+use Rattle.hmr_types.specs.declared.value.Value.{Value}
 use Rattle.client_model.specs.Linking.{new_names, number_after, number_in}
 
 -- the one or the other is done
@@ -86,6 +88,10 @@ module _ (language : Language) (P : Runtime → Did → Type 0) (k : IsHandled l
 
   pub handled_set_aside : (p : Plan) (before r : Runtime) → P r (drop_set_aside p before r)
   handled_set_aside p before r = handled_each (λ i s. drop_each is_held i.number s) (λ i s. k.drop is_held i.number s) (set_aside p.kind p before) r
+
+  -- each instance of a list hears an event
+  pub handled_hear : (event : Name) (value : Value) (is : List Instance) (r : Runtime) → P r (for_each (hear_event language event value) is r)
+  handled_hear event value is r = handled_each (hear_event language event value) (λ i s. handled_run_each place.Dep (event_arguments event value) (λ t h. tt) (accepts_dep event) i.number s) is r
 
   pub handled_lines : {X : Type 0} (l : X → Runtime → OutLine) (xs : List X) (r : Runtime) → P r (for_each (λ x s. write (l x s) s) xs r)
   handled_lines l xs r = handled_each (λ x s. write (l x s) s) (λ x s. k.wrote (l x s) s) xs r
@@ -203,6 +209,9 @@ module _ (P : Runtime → Did → Type 0) (k : IsKept P) (language : Language) w
 
   pub kept_pruning : (names : List Name) (r : Runtime) → P r (for_each (prune_instance language) (live_of (has names) r) r)
   kept_pruning names r = walked_pruning language P walk names r
+
+  pub kept_hear : (event : Name) (value : Value) (r : Runtime) → P r (hear_all language event value r)
+  kept_hear event value r = handled_hear language P handled event value (reverse (live_of (λ n. true) r)) r
 
   pub kept_lines : {X : Type 0} (l : X → Runtime → OutLine) (xs : List X) (r : Runtime) → P r (for_each (λ x s. write (l x s) s) xs r)
   kept_lines l xs r = handled_lines language P handled l xs r

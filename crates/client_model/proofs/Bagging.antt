@@ -16,13 +16,13 @@ use Rattle.core_model.proofs.Tables.{at_without, at_with_row}
 use Rattle.client_model.specs.Language.{Language, Bag, Ran, Evaluated, Registered}
 use Rattle.client_model.specs.Instance.{Instance, Handler, Deed, code, host, numbered, places_of, places_from, is_held, disposes, prunes}
 use Rattle.client_model.specs.Journal.{Journal, bag_after, bag_left, dropped, registered, no_host}
-use Rattle.client_model.specs.Runtime.{Runtime, Did, and_then, for_each, bag_or_empty, bag_of}
+use Rattle.client_model.specs.Runtime.{Runtime, Opening, Did, and_then, for_each, bag_or_empty, bag_of}
 use Rattle.client_model.specs.Running.{no_arguments, did_run, run_each, drop_each, end_instance, give_up_bag}
 use Rattle.client_model.specs.Making.{Registry, Birth, is_displaced_by, new_handler, without_first, with_handler, with_host, register_once, make_evaluated, evaluate, register_in, make}
 use Rattle.client_model.specs.Applying.{live_of, finish, apply, prune_instance, leave_page, prune}
-use Rattle.client_model.specs.Taking.{take, runtime_after, journal_of}
-use Rattle.client_model.proofs.Acts.{IsKept, before_finish, kept_applying, kept_pruning, by_make}
-use Rattle.client_model.proofs.Takes.{AreLines, Quiet, IsTaken, lines_by, take_does}
+use Rattle.client_model.specs.Past.{Past, met, runtime_after, journal_of}
+use Rattle.client_model.proofs.Acts.{IsKept, before_finish, kept_applying, kept_pruning, kept_hear, by_make}
+use Rattle.client_model.proofs.Takes.{AreLines, Quiet, IsTaken, lines_by, met_does}
 
 -- what a client does leaves each name the bag that what happened left of the one before
 abbrev pub Keeps : Runtime → Did → Type 0
@@ -126,14 +126,15 @@ module _ (language : Language) where
     quiet = keeps_quiet;
     prunes = λ names r none loaded. keeps_prune names r;
     applies = λ p r e due counted. keeps_apply p r;
+    hears = λ n value r loaded idle. kept_hear Keeps bags_kept language n value r;
   }
 
   -- a client's bags are those that all that happened left
-  pub bags_are : (shelf : List (Text × ℕ)) (past : List ServerMsg) (n : Name) → bag_of (runtime_after language shelf past) n ≡ bag_left (journal_of language shelf past) n
-  bags_are shelf [] n = refl
-  bags_are shelf (m ∷ past) n = take_does language Keeps bags_taken (runtime_after language shelf past) m n
-      ∙ ap (λ bag. fold (bag_after n) bag (take language (runtime_after language shelf past) m).journal) (bags_are shelf past n)
-      ∙ sym (fold-append (bag_after n) [] (journal_of language shelf past) (take language (runtime_after language shelf past) m).journal)
+  pub bags_are : (opening : Opening) (past : Past) (n : Name) → bag_of (runtime_after language opening past) n ≡ bag_left (journal_of language opening past) n
+  bags_are opening [] n = refl
+  bags_are opening (came ∷ past) n = met_does language Keeps bags_taken (runtime_after language opening past) came n
+      ∙ ap (λ bag. fold (bag_after n) bag (met language came (runtime_after language opening past)).1) (bags_are opening past n)
+      ∙ sym (fold-append (bag_after n) [] (journal_of language opening past) (met language came (runtime_after language opening past)).1)
 
   -- a pruned module's bag is empty
   pub pruned_bag_is_empty : (i : Instance) (r : Runtime) → bag_of (prune_instance language i r).0 i.name ≡ []

@@ -12,7 +12,7 @@ use Rattle.core_model.specs.Page.{Plan}
 use Rattle.client_model.specs.Language.{Language}
 use Rattle.client_model.specs.Runtime.{Runtime, Cause, missing, broken, unlinked, Invalidation}
 use Rattle.client_model.specs.Linking.{next_needed, link_cause}
-use Rattle.client_model.specs.Requesting.{request, request_by, carry_on, fetch_or_finish, apply_or_abort, abort_message, ask_or_invalidate}
+use Rattle.client_model.specs.Requesting.{request, hello, request_by, carry_on, fetch_or_finish, apply_or_abort, abort_message, ask_or_invalidate}
 use Rattle.client_model.specs.Expecting.{is_answer}
 
 -- all is fetched, and every new instance can be linked
@@ -20,7 +20,7 @@ abbrev pub IsDue : Language → Plan → Runtime → Type 0
 IsDue language p r = (next_needed p r ≡ None) × (link_cause language p r ≡ None)
 
 abbrev pub Needs : Language → ClientMsg → Runtime → Type 0
-Needs language (request_is.Hello format) r = (r.client == 0) ≡ true
+Needs language (request_is.Hello format roots) r = (r.client == 0) ≡ true
 Needs language request_is.Ask r = r.page.plan ≡ None
 Needs language (request_is.Fetch n) r = ⊤
 Needs language (request_is.Applied table) r = ((r.client == 0) ≡ false) × ((p : Plan) → r.page.plan ≡ Some p → IsDue language p r)
@@ -54,7 +54,7 @@ module _ (language : Language) (r : Runtime) where
   plan_needs None c e = unsent_needs r.unsent e
   plan_needs (Some p) c e = carry_needs r.cause p c e
 
-  hello_needs : (b : Bool) → (r.client == 0) ≡ b → Needs language (if b then request_is.Hello 1 else request_by r.page.plan language r) r
+  hello_needs : (b : Bool) → (r.client == 0) ≡ b → Needs language (if b then hello r else request_by r.page.plan language r) r
   hello_needs true e = e
   hello_needs false e = plan_needs r.page.plan e refl
 
@@ -63,7 +63,7 @@ module _ (language : Language) (r : Runtime) where
 
 -- modules are pruned only at an ask of a page that is loaded
 pub prunes_at_ask : (language : Language) (asked : ClientMsg) (names : List Name) (r : Runtime) → Needs language asked r → is_answer r.page.loaded asked (msg.Prune names) ≡ true → (r.page.plan ≡ None) × (r.page.loaded ≡ true)
-prunes_at_ask language (request_is.Hello format) names r n a = absurd (false≢true a)
+prunes_at_ask language (request_is.Hello format roots) names r n a = absurd (false≢true a)
 prunes_at_ask language request_is.Ask names r n a = (n, a)
 prunes_at_ask language (request_is.Fetch m) names r n a = absurd (false≢true a)
 prunes_at_ask language (request_is.Applied table) names r n a = absurd (false≢true a)

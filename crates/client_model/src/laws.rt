@@ -4,14 +4,12 @@ ghost use Rattle.core_model.specs.Names.{Name, has};
 ghost use Rattle.core_model.specs.Paths.{Reaches};
 ghost use Rattle.core_model.specs.View.{View};
 ghost use Rattle.core_model.specs.Page.{Plan, plan_imports, met_of};
-ghost use Rattle.core_model.specs.Sources.{Text};
-ghost use Rattle.update_msgs.specs.declared.message.ServerMsg.{ServerMsg};
 ghost use Rattle.client_model.specs.Language.{Language};
 ghost use Rattle.client_model.specs.Instance.{Instance};
 ghost use Rattle.client_model.specs.Journal.{bag_left};
-ghost use Rattle.client_model.specs.Runtime.{Runtime, bag_of};
+ghost use Rattle.client_model.specs.Runtime.{Runtime, Opening, bag_of};
 ghost use Rattle.client_model.specs.Applying.{prune_instance};
-ghost use Rattle.client_model.specs.Taking.{runtime_after, journal_of};
+ghost use Rattle.client_model.specs.Past.{Past, runtime_after, journal_of};
 ghost use Rattle.client_model.specs.Order.{fetch_order, evaluation_order};
 
 /// A client's walk meets exactly the modules that the core's walk of the plan meets.
@@ -28,7 +26,8 @@ pub fn orders_have_the_same_modules()
 /// The bag that a client keeps for a name is the one that all that happened left: what the last
 /// evaluation or handler of the name left, and empty once it was given up.
 pub fn bags_are_what_was_left()
-    ensures { (language : Language) (shelf : List (Text × ℕ)) (past : List ServerMsg) (n : Name) → bag_of (runtime_after language shelf past) n ≡ bag_left (journal_of language shelf past) n }
+    ensures { (language : Language) (opening : Opening) (past : Past) (n : Name) →
+        bag_of (runtime_after language opening past) n ≡ bag_left (journal_of language opening past) n }
 {}
 
 /// The bag of a module is empty after its prune.
