@@ -21,7 +21,7 @@ pub struct Handlers<F> {
 
 impl<F> Model for Handlers<F> {
     ghost use Rattle.std.specs.Coded.{codes};
-    ghost use Rattle.hmr_types.specs.contracts.tree.Stmt as stmt;
+    ghost use Rattle.module_tree.specs.contracts.tree.Stmt as stmt;
     ghost use Rattle.handler_table.specs.Handlers.{Holdings};
 
     ghost Value = { Holdings F };

@@ -1,22 +1,20 @@
--- Each bag that a client of the module language keeps is a bag, whatever messages it took.
+-- Each bag that a client of the module language keeps is a bag, whatever came to it.
 use Rattle.std.proofs.Common.{◌≡◌, ℕ, Bool, true, false, List, [], ◌∷◌, refl, ap, ◌∙◌}
-use Rattle.std.specs.Prelude.{Option, None, if◌then◌else◌}
-use Rattle.update_msgs.specs.declared.message.ServerMsg.{ServerMsg}
+use Rattle.std.specs.Prelude.{reverse, Option, None, if◌then◌else◌}
 use Rattle.core_model.specs.Names.{Name, same_name, at, with_row, without}
-use Rattle.core_model.specs.Sources.{Text}
 use Rattle.core_model.proofs.Tables.{at_without}
 use Rattle.module_semantics.specs.Entries.{is_bag}
 use Rattle.client_model.specs.Language.{Bag, Slots}
 use Rattle.client_model.specs.Instance.{Deed, code, host}
-use Rattle.client_model.specs.Runtime.{Runtime, Did, bag_or_empty, bag_of}
+use Rattle.client_model.specs.Runtime.{Runtime, Opening, Did, bag_or_empty, bag_of}
 use Rattle.client_model.specs.Running.{scope_of, run_deed}
 use Rattle.client_model.specs.Making.{Birth, make, evaluate}
 use Rattle.client_model.specs.Linking.{new_names}
-use Rattle.client_model.specs.Applying.{births, end_old}
-use Rattle.client_model.specs.Taking.{runtime_after}
-use Rattle.client_model.proofs.Acts.{IsHandled, IsWalked, by_make, handled_each, walked_applying, walked_pruning}
+use Rattle.client_model.specs.Applying.{births, end_old, live_of}
+use Rattle.client_model.specs.Past.{Past, runtime_after}
+use Rattle.client_model.proofs.Acts.{IsHandled, IsWalked, by_make, handled_each, handled_hear, walked_applying, walked_pruning}
 use Rattle.client_model.proofs.Bagging.{bag_put}
-use Rattle.client_model.proofs.Takes.{IsTaken, take_does}
+use Rattle.client_model.proofs.Takes.{IsTaken, met_does}
 use Rattle.module_language.specs.ModuleLanguage.{module_language}
 use Rattle.module_language.proofs.Leaving.{evaluated_bag, ran_bag, hosted_bag}
 
@@ -66,8 +64,9 @@ taken = record {
   quiet = λ r did q are n. ap (λ bags. is_bag (bag_or_empty (at bags n))) q.bags ∙ are n;
   prunes = λ names r none loaded are. walked_pruning module_language Leaves walked names r are;
   applies = λ p r e due counted are. walked_applying module_language Leaves walked p r (handled_each module_language Leaves handled (make module_language) leaves_made (births (new_names p r) p r) (end_old p.kind module_language p r).0) are;
+  hears = λ n value r loaded idle are. handled_hear module_language Leaves handled n value (reverse (live_of (λ n. true) r)) r are;
 }
 
-pub bags_are_bags : (shelf : List (Text × ℕ)) (past : List ServerMsg) (n : Name) → is_bag (bag_of (runtime_after module_language shelf past) n) ≡ true
-bags_are_bags shelf [] n = refl
-bags_are_bags shelf (m ∷ past) n = take_does module_language Leaves taken (runtime_after module_language shelf past) m (bags_are_bags shelf past) n
+pub bags_are_bags : (opening : Opening) (past : Past) (n : Name) → is_bag (bag_of (runtime_after module_language opening past) n) ≡ true
+bags_are_bags opening [] n = refl
+bags_are_bags opening (came ∷ past) n = met_does module_language Leaves taken (runtime_after module_language opening past) came (bags_are_bags opening past) n

@@ -4,12 +4,11 @@ ghost use Rattle.std.specs.Prelude.{◌≡◌, ℕ, true, List, [], Option, Ok, 
 ghost use Rattle.module_tree.specs.Syntax.{HandlerTree, ModuleTree};
 ghost use Rattle.hmr_types.specs.declared.analysis.Analysis.{Analysis};
 ghost use Rattle.hmr_types.specs.declared.analysis.TextFault.{TextFault};
-ghost use Rattle.update_msgs.specs.declared.message.ServerMsg.{ServerMsg};
 ghost use Rattle.core_model.specs.Names.{Name};
 ghost use Rattle.core_model.specs.Sources.{Text};
 ghost use Rattle.client_model.specs.Language.{BindsImports, Bag, Slots, links_of};
-ghost use Rattle.client_model.specs.Runtime.{bag_of};
-ghost use Rattle.client_model.specs.Taking.{runtime_after};
+ghost use Rattle.client_model.specs.Runtime.{Opening, bag_of};
+ghost use Rattle.client_model.specs.Past.{Past, runtime_after};
 ghost use Rattle.module_semantics.specs.Entries.{is_bag, names_of};
 ghost use Rattle.module_semantics.specs.ModuleText.{parsing};
 ghost use Rattle.module_semantics.specs.Modules.{declared_names};
@@ -46,7 +45,8 @@ pub fn evaluations_keep_bags()
 
 /// So each bag that a client keeps is one, whatever messages it took.
 pub fn clients_keep_bags()
-    ensures { (shelf : List (Text × ℕ)) (past : List ServerMsg) (n : Name) → is_bag (bag_of (runtime_after module_language shelf past) n) ≡ true }
+    ensures { (opening : Opening) (past : Past) (n : Name) →
+        is_bag (bag_of (runtime_after module_language opening past) n) ≡ true }
 {}
 
 /// The variables that the evaluation of a module's text leaves are the module's declared names, in
