@@ -13,12 +13,12 @@ use Rattle.client_model.specs.Runtime.{Runtime}
 
 -- A client is caught up: its page is loaded, no plan is under way, and nothing is changed, invalidated,
 -- dropped or waiting to be told, on either side.
-pub record IsCaughtUp (roots : List Name) (s : Sources) (c : Client) (r : Runtime) : Type 0 where
+pub record IsCaughtUp (s : Sources) (c : Client) (r : Runtime) : Type 0 where
   pub loaded : c.page.loaded ≡ true
   pub idle : c.page.plan ≡ None
   pub unchanged : changed s c ≡ []
   pub unforced : c.page.forced ≡ []
-  pub whole : dropped roots c ≡ []
+  pub whole : dropped c ≡ []
   pub told : c.notices ≡ []
   pub sent : r.unsent ≡ []
 
@@ -28,20 +28,20 @@ is_empty [] = true
 is_empty (x ∷ xs) = false
 
 -- the same, as a test
-abbrev pub is_caught_up : List Name → Sources → Client → Runtime → Bool
-is_caught_up roots s c r = c.page.loaded && is_none c.page.plan && is_empty (changed s c) && is_empty c.page.forced && is_empty (dropped roots c) && is_empty c.notices && is_empty r.unsent
+abbrev pub is_caught_up : Sources → Client → Runtime → Bool
+is_caught_up s c r = c.page.loaded && is_none c.page.plan && is_empty (changed s c) && is_empty c.page.forced && is_empty (dropped c) && is_empty c.notices && is_empty r.unsent
 
 -- a client without a record isn't caught up
-abbrev pub state_of : List Name → Sources → Option Client → Runtime → ClientState
-state_of roots s None r = Behind
-state_of roots s (Some c) r = if is_caught_up roots s c r then Up else Behind
+abbrev pub state_of : Sources → Option Client → Runtime → ClientState
+state_of s None r = Behind
+state_of s (Some c) r = if is_caught_up s c r then Up else Behind
 
 -- The debt of a client: a bound on the turns until it is caught up, where nothing is edited meanwhile
 -- and the fresh load is whole.
 
 -- each changed or invalidated name is dropped
-abbrev pub wants_nothing : List Name → Sources → Client → Bool
-wants_nothing roots s c = list_all (has (dropped roots c)) (changed s c ++ c.page.forced)
+abbrev pub wants_nothing : Sources → Client → Bool
+wants_nothing s c = list_all (has (dropped c)) (changed s c ++ c.page.forced)
 
 -- the served names that aren't staged
 abbrev pub unstaged : Served → View → List Name
@@ -53,11 +53,11 @@ plan_turns s = length s.served + 4
 
 -- with no plan: an answer for each invalidation and notice, one for what is dropped, and a plan where
 -- something is to be changed
-abbrev pub debt_between : List Name → Sources → Client → Runtime → ℕ
-debt_between roots s c r =
+abbrev pub debt_between : Sources → Client → Runtime → ℕ
+debt_between s c r =
     (length r.unsent + length c.notices)
-    + (if is_empty (dropped roots c) then 0 else 1)
-    + (if c.page.loaded && is_empty r.unsent && wants_nothing roots s c then 0 else plan_turns s)
+    + (if is_empty (dropped c) then 0 else 1)
+    + (if c.page.loaded && is_empty r.unsent && wants_nothing s c then 0 else plan_turns s)
 
 -- with a plan: an answer for each notice and one at its end, what is to be fetched, and a plan more where
 -- something was served meanwhile
@@ -68,13 +68,13 @@ debt_within p s c r =
     + (if c.plan_at == s.served_no then 0 else plan_turns s)
 
 -- the debt, with a plan under way or with none
-abbrev pub debt_by : Option Plan → List Name → Sources → Client → Runtime → ℕ
-debt_by None roots s c r = debt_between roots s c r
-debt_by (Some p) roots s c r = debt_within p s c r
+abbrev pub debt_by : Option Plan → Sources → Client → Runtime → ℕ
+debt_by None s c r = debt_between s c r
+debt_by (Some p) s c r = debt_within p s c r
 
 -- how far a client is from caught up
-abbrev pub debt : List Name → Sources → Client → Runtime → ℕ
-debt roots s c r = debt_by c.page.plan roots s c r
+abbrev pub debt : Sources → Client → Runtime → ℕ
+debt s c r = debt_by c.page.plan s c r
 
 -- the debt is never above this
 abbrev pub largest_debt : Sources → Client → Runtime → ℕ

@@ -32,7 +32,7 @@ faulty_text = codes "export const = 2;"
 
 abbrev pub faulty_script : List Command
 faulty_script =
-    edited m one_text ∷ settle_all ∷ step opens ∷ turns 1 9 ∷
+    edited m one_text ∷ settle_all ∷ step (opens 1 []) ∷ turns 1 9 ∷
     edited m faulty_text ∷ settle_all ∷ turns 1 9 ∷ step (show 1) ∷
     edited m two_text ∷ settle_all ∷ turns 1 9 ∷ step (show 1) ∷ []
 
@@ -66,7 +66,7 @@ moving = page_of (
 
 abbrev pub moving_script : List Command
 moving_script =
-    edited m moving_m ∷ edited a moving_1 ∷ settle_all ∷ step opens ∷ turns 1 9 ∷
+    edited m moving_m ∷ edited a moving_1 ∷ settle_all ∷ step (opens 1 []) ∷ turns 1 9 ∷
     edited a moving_2 ∷ settle_all ∷ step (turn 1) ∷
     edited a moving_3 ∷ settle_all ∷ turns 1 9 ∷ step (show 1) ∷
     edited a moving_4 ∷ settle_all ∷ turns 1 9 ∷ step (show 1) ∷ []
@@ -102,7 +102,7 @@ mixed = page_of (
 
 abbrev pub mixed_script : List Command
 mixed_script =
-    edited m mixed_m ∷ edited a mixed_a ∷ edited x mixed_x_1 ∷ settle_all ∷ step opens ∷ turns 1 9 ∷
+    edited m mixed_m ∷ edited a mixed_a ∷ edited x mixed_x_1 ∷ settle_all ∷ step (opens 1 []) ∷ turns 1 9 ∷
     edited x mixed_x_2 ∷ settle_all ∷ step (turn 1) ∷ step (turn 1) ∷
     edited a mixed_a_new ∷ edited x mixed_x_3 ∷ settle_all ∷ turns 1 9 ∷ step (show 1) ∷ []
 
@@ -128,7 +128,7 @@ needing = page_of ((
 
 abbrev pub needing_script : List Command
 needing_script =
-    edited m needing_m ∷ edited x needed_1 ∷ settle_all ∷ step opens ∷ turns 1 9 ∷
+    edited m needing_m ∷ edited x needed_1 ∷ settle_all ∷ step (opens 1 []) ∷ turns 1 9 ∷
     step (edits x None) ∷ turns 1 5 ∷ step (show 1) ∷ step fresh ∷
     edited x needed_5 ∷ settle_all ∷ turns 1 9 ∷ step (show 1) ∷ []
 
@@ -146,6 +146,6 @@ after_fetch = page_of (
 
 abbrev pub after_fetch_script : List Command
 after_fetch_script =
-    edited m after_m ∷ edited a [] ∷ settle_all ∷ step opens ∷ turns 1 9 ∷
+    edited m after_m ∷ edited a [] ∷ settle_all ∷ step (opens 1 []) ∷ turns 1 9 ∷
     edited a one_text ∷ settle_all ∷ step (turn 1) ∷ step (turn 1) ∷
     edited a two_text ∷ settle_all ∷ step (turn 1) ∷ step (show 1) ∷ turns 1 9 ∷ step (show 1) ∷ []

@@ -35,7 +35,7 @@ seeing = page_of (
 
 abbrev pub seeing_script : List Command
 seeing_script =
-    edited m with_x ∷ edited x seeing_x ∷ settle_all ∷ step opens ∷ turns 1 9 ∷
+    edited m with_x ∷ edited x seeing_x ∷ settle_all ∷ step (opens 1 []) ∷ turns 1 9 ∷
     edited m without_x ∷ settle_all ∷ turns 1 9 ∷ step (show 1) ∷
     edited m with_x ∷ settle_all ∷ turns 1 9 ∷ step (fates 1) ∷ []
 
@@ -63,7 +63,7 @@ hosting = record (page_of (
 
 abbrev pub hosting_script : List Command
 hosting_script =
-    edited m hosting_1 ∷ settle_all ∷ step opens ∷ turns 1 9 ∷
+    edited m hosting_1 ∷ settle_all ∷ step (opens 1 []) ∷ turns 1 9 ∷
     edited m hosting_2 ∷ settle_all ∷ turns 1 9 ∷
     edited m hosting_3 ∷ settle_all ∷ turns 1 9 ∷ step (fates 1) ∷ []
 
@@ -90,15 +90,15 @@ invalidating = page_of (
 
 abbrev pub invalidating_script : List Command
 invalidating_script =
-    edited m invalid_m ∷ edited a invalid_a ∷ settle_all ∷ step opens ∷ step opens ∷ turns 1 9 ∷ turns 2 9 ∷
+    edited m invalid_m ∷ edited a invalid_a ∷ settle_all ∷ step (opens 1 []) ∷ step (opens 1 []) ∷ turns 1 9 ∷ turns 2 9 ∷
     edited a valid_a ∷ settle_all ∷ turns 1 20 ∷ step (show 1) ∷ step (show 2) ∷ []
 
 -- The same where the second client opens after the edit: it has the version that the first invalidates.
 
 abbrev pub second_client_script : List Command
 second_client_script =
-    edited m invalid_m ∷ edited a invalid_a ∷ settle_all ∷ step opens ∷ turns 1 9 ∷
-    edited a valid_a ∷ settle_all ∷ step opens ∷ turns 2 9 ∷ turns 1 20 ∷ step (show 1) ∷ step (show 2) ∷ []
+    edited m invalid_m ∷ edited a invalid_a ∷ settle_all ∷ step (opens 1 []) ∷ turns 1 9 ∷
+    edited a valid_a ∷ settle_all ∷ step (opens 1 []) ∷ turns 2 9 ∷ turns 1 20 ∷ step (show 1) ∷ step (show 2) ∷ []
 
 -- A root that invalidates itself.
 
@@ -111,7 +111,7 @@ invalid_root_page = page_of (
     (without_x, module_of (self_accepting (importing [])) [] (own None ∷ [])) ∷ [])
 
 abbrev pub invalid_root_script : List Command
-invalid_root_script = edited m invalid_root ∷ settle_all ∷ step opens ∷ turns 1 9 ∷ edited m without_x ∷ settle_all ∷ turns 1 9 ∷ []
+invalid_root_script = edited m invalid_root ∷ settle_all ∷ step (opens 1 []) ∷ turns 1 9 ∷ edited m without_x ∷ settle_all ∷ turns 1 9 ∷ []
 
 -- A dependency that faults: its importer isn't run, and a callback gets undefined for it.
 
@@ -138,11 +138,11 @@ faulting = page_of (
     (sound_x, module_of (exporting (codes "n" ∷ []) (importing [])) [] (export_n ∷ [])) ∷ [])
 
 abbrev pub faulting_script : List Command
-faulting_script = edited m faulting_m ∷ edited x faulting_x ∷ settle_all ∷ step opens ∷ turns 1 9 ∷ step (show 1) ∷ step (values 1) ∷ []
+faulting_script = edited m faulting_m ∷ edited x faulting_x ∷ settle_all ∷ step (opens 1 []) ∷ turns 1 9 ∷ step (show 1) ∷ step (values 1) ∷ []
 
 abbrev pub watching_script : List Command
 watching_script =
-    edited m watching_m ∷ edited x sound_x ∷ settle_all ∷ step opens ∷ turns 1 9 ∷
+    edited m watching_m ∷ edited x sound_x ∷ settle_all ∷ step (opens 1 []) ∷ turns 1 9 ∷
     edited x faulting_x ∷ settle_all ∷ turns 1 9 ∷ []
 
 -- A closure that isn't there.
@@ -154,4 +154,4 @@ abbrev pub asking : Stage
 asking = page_of ((asking_m, module_of (importing []) [] (dispose (host (codes "Z")) ∷ [])) ∷ [])
 
 abbrev pub asking_script : List Command
-asking_script = edited m asking_m ∷ settle_all ∷ step opens ∷ turns 1 9 ∷ step (fates 1) ∷ []
+asking_script = edited m asking_m ∷ settle_all ∷ step (opens 1 []) ∷ turns 1 9 ∷ step (fates 1) ∷ []

@@ -62,7 +62,7 @@ is_up Behind = false
 -- whether a client of the world is caught up
 abbrev pub is_up_in : Stage → World → ℕ → Option Runtime → Bool
 is_up_in stage w i None = false
-is_up_in stage w i (Some r) = is_up (state_in stage.roots w i r)
+is_up_in stage w i (Some r) = is_up (state_in w i r)
 
 -- turns of a client until it is caught up, so many at most
 abbrev pub play_turns : Stage → ℕ → ℕ → Played → Played

@@ -45,7 +45,7 @@ counter = page_of ((
 
 abbrev pub counter_script : List Command
 counter_script =
-    edited m main_text ∷ edited c counter_text ∷ settle_all ∷ step opens ∷ turns 1 9 ∷
+    edited m main_text ∷ edited c counter_text ∷ settle_all ∷ step (opens 1 []) ∷ turns 1 9 ∷
     edited c counter_by_ten ∷ settle_all ∷ turns 1 9 ∷
     step (show 1) ∷ step (values 1) ∷ step (fates 1) ∷ step fresh ∷ []
 
@@ -72,7 +72,7 @@ chain = page_of (
 
 abbrev pub chain_script : List Command
 chain_script =
-    edited m chain_m ∷ edited a chain_a ∷ edited b chain_b ∷ settle_all ∷ step opens ∷ turns 1 9 ∷
+    edited m chain_m ∷ edited a chain_a ∷ edited b chain_b ∷ settle_all ∷ step (opens 1 []) ∷ turns 1 9 ∷
     edited b chain_b_new ∷ settle_all ∷ turns 1 9 ∷ step (fates 1) ∷ []
 
 -- A cycle: m accepts a; a and b import each other, b accepts itself, a imports x.
@@ -102,5 +102,5 @@ cycle = page_of (
 
 abbrev pub cycle_script : List Command
 cycle_script =
-    edited m cycle_m ∷ edited a cycle_a ∷ edited b cycle_b ∷ edited x cycle_x ∷ settle_all ∷ step opens ∷ turns 1 9 ∷
+    edited m cycle_m ∷ edited a cycle_a ∷ edited b cycle_b ∷ edited x cycle_x ∷ settle_all ∷ step (opens 1 []) ∷ turns 1 9 ∷
     edited x cycle_x_new ∷ settle_all ∷ turns 1 9 ∷ step (show 1) ∷ []

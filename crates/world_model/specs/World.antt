@@ -1,6 +1,7 @@
 -- The world: a core, its open clients, and the jobs whose results haven't come.
 use Rattle.std.specs.Prelude.{ℕ, List, [], Option, Some}
 use Rattle.output_lines.specs.declared.out_line.OutLine.{OutLine}
+use Rattle.hmr_types.specs.declared.value.Value.{Value}
 use Rattle.core_model.specs.Names.{Name}
 use Rattle.core_model.specs.Sources.{Text}
 use Rattle.core_model.specs.Core.{Core, new_core}
@@ -22,13 +23,15 @@ pub record World : Type 0 where
 pub data Step : Type 0 where
   edits : Name → Option Text → Step
   settles : Name → ℕ → Step
-  opens : Step
+  opens : ℕ → List Name → Step  -- a client of this format, that names these roots or none
   turn : ℕ → Step
   closes : ℕ → Step
   show : ℕ → Step
   values : ℕ → Step
   fates : ℕ → Step
   fresh : Step
+  fresh_of : ℕ → Step  -- of a client's own roots
+  fires : ℕ → Name → Value → Step  -- an event, at a client's page
 
 -- what a step makes, and its lines; none where a client would have made too many instances, which ends
 -- the run

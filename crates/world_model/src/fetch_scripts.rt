@@ -40,7 +40,7 @@ pub fn faulty_text_is_told()
     ensures { quiet_play late faulty_script ≡
         line.Applied 1 Load ∷
         line.Settle m 2 (settle.Refused (record { line = 1; col = 1; word = Unexpected })) ∷
-        line.Error 1 m (record { line = 1; col = 1; word = Unexpected }) ∷
+        line.Error 1 m 1 1 Unexpected ∷
         line.Client 1 Up ∷
         line.Module m 1 ∷
         line.Reload 1 Root (m ∷ []) ∷

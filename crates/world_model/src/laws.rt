@@ -9,7 +9,7 @@ ghost use Rattle.world_model.specs.Ties.{AreTied, AreServedRight, Understands, W
 
 /// After every list of steps, each open client has of its page exactly what the core's record of it has.
 pub fn clients_are_tied_to_their_records()
-    ensures tied { (language : Language) (roots : List Name) (shelves : List (List (Text × ℕ))) (past : List Step) → WentOn language roots shelves past → AreTied roots (world_after language roots shelves past) }
+    ensures tied { (language : Language) (roots : List Name) (shelves : List (List (Text × ℕ))) (past : List Step) → WentOn language roots shelves past → AreTied (world_after language roots shelves past) }
     ensures served { (language : Language) (roots : List Name) (shelves : List (List (Text × ℕ))) (past : List Step) → WentOn language roots shelves past → AreServedRight language (world_after language roots shelves past).core.sources.served }
 {}
 
