@@ -1,22 +1,26 @@
-// What the server has in store for a client: the forced names, the waiting notices and the hold.
-ghost use Rattle.std.specs.Prelude.{◌≡◌, ◌≤◌, [], None, Some, IfOk, IsOk, OnOk, OnErr, drop, filter, not};
+// What the server has in store for a client: the names that it knows, of which some are marked, the
+// forced names, the waiting notices and the hold.
+ghost use Rattle.std.specs.Prelude.{◌≡◌, ◌≤◌, [], None, Some, IfOk, IsOk, OnOk, OnErr, drop, filter, not, true, false};
 ghost use Rattle.std.specs.Cmp.Lexicographic.{slice_cmp};
 ghost use Rattle.std.specs.List.Sorted.{IsStrictlySortedBy};
 ghost use Rattle.std.specs.Ordering.{nat_cmp};
-ghost use Rattle.core_model.specs.Names.{first_of, names_of, put_name, same_name, without};
-ghost use Rattle.client_queue.specs.Queue.{put_row};
+ghost use Rattle.core_model.specs.Names.{Name, at, first_of, has, names_of, put_name, same_name, without};
+ghost use Rattle.client_queue.specs.Queue.{MarkIs, is_clear, is_marked, mark_where_known, put_row};
 
+use crate::marks;
 use crate::sorted::{first, put_name, put_row, without_name, without_row};
 use hmr_types::{ModName, TextFault};
 use module_graph::copy_of;
 use std::alloc::{AllocError, Global};
+use std::collections::BTreeMap;
 use std::marker::Model;
 
-/// What the server has in store for a client. Contracts see it as a record: the forced names and the
-/// waiting notices, both rising by bytes, the hold, and `spare`, for how many more notices there is
-/// room.
+/// What the server has in store for a client. Contracts see it as a record: the known names, each with
+/// whether it is marked, the forced names and the waiting notices, all rising by bytes, the hold, and
+/// `spare`, for how many more notices there is room.
 #[derive(Drop)]
 pub struct ClientQueue {
+    known: BTreeMap<ModName, bool>,
     forced: Vec<ModName>,
     notices: Vec<(ModName, TextFault)>,
     held: Option<u64>,
@@ -28,27 +32,81 @@ impl Model for ClientQueue {
     ghost use Rattle.std.specs.List.Sorted.{IsStrictlySortedBy};
     ghost use Rattle.std.specs.Ordering.{nat_cmp};
     ghost use Rattle.core_model.specs.Names.{names_of};
+    ghost use Rattle.std.specs.BTreeMap.{IsOrdered};
     ghost use Rattle.client_queue.specs.Queue.{Queue};
 
     ghost Value = { Queue };
 
-    ghost view = { λ q. record { forced = q.forced.items; notices = q.notices.items; held = q.held; spare = vec_capacity q.notices - vec_len q.notices } };
+    ghost view = { λ q. record { known = q.known.entries; forced = q.forced.items; notices = q.notices.items; held = q.held; spare = vec_capacity q.notices - vec_len q.notices } };
 
-    ghost invariant = { λ q. IsStrictlySortedBy (slice_cmp nat_cmp) q.forced.items × IsStrictlySortedBy (slice_cmp nat_cmp) (names_of q.notices.items) };
+    ghost invariant = { λ q. IsOrdered (slice_cmp nat_cmp) q.known × IsStrictlySortedBy (slice_cmp nat_cmp) q.forced.items × IsStrictlySortedBy (slice_cmp nat_cmp) (names_of q.notices.items) };
 }
 
 impl ClientQueue {
-    /// Nothing is in store. It takes no memory.
+    /// No name is known, and nothing is in store. It takes no memory.
     pub fn new(alloc: Global) -> ClientQueue
+        ensures known { result.known ≡ [] }
         ensures forced { result.forced ≡ [] }
         ensures notices { result.notices ≡ [] }
         ensures held { result.held ≡ None }
     {
         ClientQueue {
+            known: BTreeMap::new(alloc),
             forced: Vec::new(alloc),
             notices: Vec::new(alloc),
             held: None,
         }
+    }
+
+    /// The name is known from now on, and unmarked; where it is known, nothing changes. A refusal changes
+    /// nothing. It takes as many comparisons of names as the logarithm of the number of known ones, and so
+    /// do `leave`, `mark` and `unmark`.
+    pub fn enter(&mut self, name: ModName) -> Result<(), AllocError>
+        ensures ok { OnOk result (MarkIs name (Some (is_marked self.old name)) self.old self.new) }
+        ensures err { OnErr result (self.new ≡ self.old) }
+        ensures kept { self.new ≡ record self.old { known = self.new.known } }
+    {
+        marks::enter(&mut self.known, name)
+    }
+
+    /// The name is known no more. It takes no memory.
+    pub fn leave(&mut self, name: &ModName)
+        ensures mark { MarkIs name.now None self.old self.new }
+        ensures kept { self.new ≡ record self.old { known = self.new.known } }
+    {
+        marks::leave(&mut self.known, name);
+    }
+
+    /// The name is marked from now on, where it is known; else nothing changes. It takes no memory.
+    pub fn mark(&mut self, name: &ModName)
+        ensures mark { MarkIs name.now (mark_where_known true (at self.old.known name.now)) self.old self.new }
+        ensures kept { self.new ≡ record self.old { known = self.new.known } }
+    {
+        marks::set(&mut self.known, name, true);
+    }
+
+    /// The name is marked no more. It takes no memory.
+    pub fn unmark(&mut self, name: &ModName)
+        ensures mark { MarkIs name.now (mark_where_known false (at self.old.known name.now)) self.old self.new }
+        ensures kept { self.new ≡ record self.old { known = self.new.known } }
+    {
+        marks::set(&mut self.known, name, false);
+    }
+
+    /// The marked names, rising by bytes, each once.
+    pub fn marked(&self, alloc: Global) -> Result<Vec<ModName>, AllocError>
+        ensures names { IfOk result (λ names. (n : Name) → has names.items n ≡ is_marked self.now n) }
+        ensures rising { IfOk result (λ names. IsStrictlySortedBy (slice_cmp nat_cmp) names.items) }
+    {
+        let names = marks::marked(alloc, &self.known)?;
+        Ok(names)
+    }
+
+    /// Whether nothing is marked, forced or waiting as a notice. It takes no memory.
+    pub fn is_clear(&self) -> bool
+        ensures { result ≡ is_clear self.now }
+    {
+        self.forced.is_empty() && self.notices.is_empty() && !marks::is_any_marked(&self.known)
     }
 
     /// The name is forced from now on. A refusal changes nothing.

@@ -10,7 +10,8 @@ use Rattle.core_model.specs.View.{View, Entry}
 use Rattle.core_model.specs.Page.{Plan}
 use Rattle.core_model.specs.Client.{Client, new_client, told_of_edit, told_of_result}
 use Rattle.core_model.specs.Requests.{Request, heard}
-use Rattle.core_model.specs.Core.{Core, Event, change, connect, request, disconnect, client_at, told_of, is_full, connected, requested, disconnected, core_after, changes_of}
+use Rattle.core_model.specs.Roots.{are_bad, roots_or}
+use Rattle.core_model.specs.Core.{Core, Event, change, connect, request, disconnect, client_at, told_of, is_full, if_room, connected, requested, disconnected, core_after, changes_of}
 use Rattle.core_model.proofs.Clients.{at_without, at_with, at_each}
 use Rattle.core_model.proofs.Replaying.{sources_are}
 use Rattle.core_laws.specs.Given.{given, entry_of, IsGiven}
@@ -61,40 +62,40 @@ later_current s t c (inl e) l f k = subst (PlanIsServed c.page.plan c.page.view)
 later_current s t c (inr g) l f k = absurd (omega (arith, g, l, k))
 
 -- a record that isn't touched, when what is served may have changed
-pub later_keeps : (roots : List Name) (f g : Name → ℕ → Option Analysis) (s t : Sources) (c : Client) → Grows f g → IsLater s t → ClientFacts roots f s c → ClientFacts roots g t c
-later_keeps roots f g s t c more later facts = record {
+pub later_keeps : (f g : Name → ℕ → Option Analysis) (s t : Sources) (c : Client) → Grows f g → IsLater s t → ClientFacts f s c → ClientFacts g t c
+later_keeps f g s t c more later facts = record {
   closed = facts.closed;
   empty = facts.empty;
   rises = facts.rises;
   viewed = λ n. given_more f g more n (at c.page.view n) (facts.viewed n);
   accepting = facts.accepting;
-  planned = plan_more f g more c.page.plan roots c.page.loaded c.page.view c.page.forced facts.planned;
+  planned = plan_more f g more c.page.plan c.roots c.page.loaded c.page.view c.page.forced facts.planned;
   begun = omega (arith, facts.begun, later_low s t later);
   held = most_later c.held_at s.served_no t.served_no (later_low s t later) facts.held;
   current = later_current s t c later facts.begun facts.current;
 }
 
-module _ (roots : List Name) (by : Name → ℕ → Option Analysis) (t : Sources) (all_given : (n : Name) → IsGiven (by n) (entry_of (at t.served n))) (c : Client) (facts : ClientFacts roots by t c) where
-  edit_told : (answer : EditAnswer) (n : Name) → ClientFacts roots by t (told_of_edit answer n c)
+module _ (by : Name → ℕ → Option Analysis) (t : Sources) (all_given : (n : Name) → IsGiven (by n) (entry_of (at t.served n))) (c : Client) (facts : ClientFacts by t c) where
+  edit_told : (answer : EditAnswer) (n : Name) → ClientFacts by t (told_of_edit answer n c)
   edit_told (job v) n = facts
   edit_told same n = facts
-  edit_told (removed v) n = with_notices roots by t all_given c facts _
+  edit_told (removed v) n = with_notices by t all_given c facts _
   edit_told (refused w) n = facts
 
-  result_told : (answer : ResultAnswer) (n : Name) → ClientFacts roots by t (told_of_result answer n c)
-  result_told (serve a) n = with_notices roots by t all_given c facts _
-  result_told (refuse f) n = with_notices roots by t all_given c facts _
+  result_told : (answer : ResultAnswer) (n : Name) → ClientFacts by t (told_of_result answer n c)
+  result_told (serve a) n = with_notices by t all_given c facts _
+  result_told (refuse f) n = with_notices by t all_given c facts _
   result_told late n = facts
 
-  told_keeps : (s : Sources) (ch : Change) → ClientFacts roots by t (told_of s ch c)
+  told_keeps : (s : Sources) (ch : Change) → ClientFacts by t (told_of s ch c)
   told_keeps s (edit n x) = edit_told (edit_answer s n x) n
   told_keeps s (result n x o v) = result_told (result_answer s n x o v) n
 
-change_keeps : (roots : List Name) (past : List Change) (ch : Change) (c : Client) (s : Sources) → s ≡ sources_after past → ClientFacts roots (given past) s c → ClientFacts roots (given (ch ∷ past)) (changed_by s ch) (told_of s ch c)
-change_keeps roots past ch c s e facts = told_keeps roots (given (ch ∷ past)) (changed_by s ch) (λ n. subst (λ x. IsGiven (given (ch ∷ past) n) (entry_of (at (changed_by x ch).served n))) (sym e) ((sources_facts (ch ∷ past)).served n)) c
-    (later_keeps roots (given past) (given (ch ∷ past)) s (changed_by s ch) c (given_stays past ch) (changed_later s ch) facts) s ch
+change_keeps : (past : List Change) (ch : Change) (c : Client) (s : Sources) → s ≡ sources_after past → ClientFacts (given past) s c → ClientFacts (given (ch ∷ past)) (changed_by s ch) (told_of s ch c)
+change_keeps past ch c s e facts = told_keeps (given (ch ∷ past)) (changed_by s ch) (λ n. subst (λ x. IsGiven (given (ch ∷ past) n) (entry_of (at (changed_by x ch).served n))) (sym e) ((sources_facts (ch ∷ past)).served n)) c
+    (later_keeps (given past) (given (ch ∷ past)) s (changed_by s ch) c (given_stays past ch) (changed_later s ch) facts) s ch
 
-pub new_facts : (roots : List Name) (by : Name → ℕ → Option Analysis) (s : Sources) → ClientFacts roots by s (new_client s.served_no)
+pub new_facts : (roots : List Name) (by : Name → ℕ → Option Analysis) (s : Sources) → ClientFacts by s (new_client roots s.served_no)
 new_facts roots by s = record { closed = λ h. absurd (false≢true h); empty = λ h. refl; rises = refl; viewed = λ n. tt; accepting = λ n h. absurd (false≢true h); planned = (refl, λ n. tt); begun = omega arith; held = tt; current = λ e. (λ n. tt, tt) }
 
 -- Each client.
@@ -107,31 +108,35 @@ some_map : {X : Type 0} (P Q : X → Type 0) (f : X → X) (o : Option X) → ((
 some_map P Q f None g p = tt
 some_map P Q f (Some x) g p = g x p
 
-abbrev AllClients : List Name → (Name → ℕ → Option Analysis) → Core → Type 0
-AllClients roots by core = (j : ℕ) → IfSome (client_at core.clients j) (ClientFacts roots by core.sources)
+abbrev AllClients : (Name → ℕ → Option Analysis) → Core → Type 0
+AllClients by core = (j : ℕ) → IfSome (client_at core.clients j) (ClientFacts by core.sources)
 
-connect_keeps : (full : Bool) (roots : List Name) (by : Name → ℕ → Option Analysis) (core : Core) → AllClients roots by core → AllClients roots by (connected full roots core).0
-connect_keeps true roots by core f j = f j
-connect_keeps false roots by core f j = subst (λ o. IfSome o (ClientFacts roots by core.sources)) (sym (at_with (core.given + 1) (new_client core.sources.served_no) core.clients j))
-    (some_if (ClientFacts roots by core.sources) (core.given + 1 == j) _ _ (new_facts roots by core.sources) (f j))
+room_keeps : (full : Bool) (names : List Name) (by : Name → ℕ → Option Analysis) (core : Core) → AllClients by core → AllClients by (if_room full names core).0
+room_keeps true names by core f j = f j
+room_keeps false names by core f j = subst (λ o. IfSome o (ClientFacts by core.sources)) (sym (at_with (core.given + 1) (new_client names core.sources.served_no) core.clients j))
+    (some_if (ClientFacts by core.sources) (core.given + 1 == j) _ _ (new_facts names by core.sources) (f j))
 
-request_keeps : (o : Option Client) (roots : List Name) (by : Name → ℕ → Option Analysis) (i : ℕ) (core : Core) (r : Request) → ((n : Name) → IsGiven (by n) (entry_of (at core.sources.served n))) → IfSome o (ClientFacts roots by core.sources) → AllClients roots by core → AllClients roots by (requested o roots i core r).0
-request_keeps None roots by i core r g h f j = f j
-request_keeps (Some c) roots by i core r g h f j = subst (λ o. IfSome o (ClientFacts roots by core.sources)) (sym (at_with i (heard roots i core.sources c r).0 core.clients j))
-    (some_if (ClientFacts roots by core.sources) (i == j) _ _ (heard_keeps roots by core.sources g c h i r) (f j))
+connect_keeps : (bad : Bool) (names : List Name) (by : Name → ℕ → Option Analysis) (core : Core) → AllClients by core → AllClients by (connected bad names core).0
+connect_keeps true names by core f j = f j
+connect_keeps false names by core f j = room_keeps (is_full core) names by core f j
 
-disconnect_keeps : (o : Option Client) (roots : List Name) (by : Name → ℕ → Option Analysis) (i : ℕ) (core : Core) → AllClients roots by core → AllClients roots by (disconnected o i core).0
-disconnect_keeps None roots by i core f j = f j
-disconnect_keeps (Some c) roots by i core f j = subst (λ o. IfSome o (ClientFacts roots by core.sources)) (sym (at_without i core.clients j)) (some_if (ClientFacts roots by core.sources) (i == j) None _ tt (f j))
+request_keeps : (o : Option Client) (by : Name → ℕ → Option Analysis) (i : ℕ) (core : Core) (r : Request) → ((n : Name) → IsGiven (by n) (entry_of (at core.sources.served n))) → IfSome o (ClientFacts by core.sources) → AllClients by core → AllClients by (requested o i core r).0
+request_keeps None by i core r g h f j = f j
+request_keeps (Some c) by i core r g h f j = subst (λ o. IfSome o (ClientFacts by core.sources)) (sym (at_with i (heard i core.sources c r).0 core.clients j))
+    (some_if (ClientFacts by core.sources) (i == j) _ _ (heard_keeps by core.sources g c h i r) (f j))
+
+disconnect_keeps : (o : Option Client) (by : Name → ℕ → Option Analysis) (i : ℕ) (core : Core) → AllClients by core → AllClients by (disconnected o i core).0
+disconnect_keeps None by i core f j = f j
+disconnect_keeps (Some c) by i core f j = subst (λ o. IfSome o (ClientFacts by core.sources)) (sym (at_without i core.clients j)) (some_if (ClientFacts by core.sources) (i == j) None _ tt (f j))
 
 pub served_given : (roots : List Name) (past : List Event) (n : Name) → IsGiven (given (changes_of past) n) (entry_of (at (core_after roots past).sources.served n))
 served_given roots past n = subst (λ s. IsGiven (given (changes_of past) n) (entry_of (at s.served n))) (sym (sources_are roots past)) ((sources_facts (changes_of past)).served n)
 
 -- every list of events keeps the facts of each client
-pub client_facts : (roots : List Name) (past : List Event) (j : ℕ) → IfSome (client_at (core_after roots past).clients j) (ClientFacts roots (given (changes_of past)) (core_after roots past).sources)
+pub client_facts : (roots : List Name) (past : List Event) (j : ℕ) → IfSome (client_at (core_after roots past).clients j) (ClientFacts (given (changes_of past)) (core_after roots past).sources)
 client_facts roots [] j = tt
-client_facts roots (change ch ∷ past) j = subst (λ o. IfSome o (ClientFacts roots (given (ch ∷ changes_of past)) (changed_by (core_after roots past).sources ch))) (sym (at_each (told_of (core_after roots past).sources ch) (core_after roots past).clients j))
-    (some_map (ClientFacts roots (given (changes_of past)) (core_after roots past).sources) (ClientFacts roots (given (ch ∷ changes_of past)) (changed_by (core_after roots past).sources ch)) (told_of (core_after roots past).sources ch) (client_at (core_after roots past).clients j) (λ c. change_keeps roots (changes_of past) ch c (core_after roots past).sources (sources_are roots past)) (client_facts roots past j))
-client_facts roots (connect ∷ past) j = connect_keeps (is_full (core_after roots past)) roots (given (changes_of past)) (core_after roots past) (client_facts roots past) j
-client_facts roots (request i r ∷ past) j = request_keeps (client_at (core_after roots past).clients i) roots (given (changes_of past)) i (core_after roots past) r (served_given roots past) (client_facts roots past i) (client_facts roots past) j
-client_facts roots (disconnect i ∷ past) j = disconnect_keeps (client_at (core_after roots past).clients i) roots (given (changes_of past)) i (core_after roots past) (client_facts roots past) j
+client_facts roots (change ch ∷ past) j = subst (λ o. IfSome o (ClientFacts (given (ch ∷ changes_of past)) (changed_by (core_after roots past).sources ch))) (sym (at_each (told_of (core_after roots past).sources ch) (core_after roots past).clients j))
+    (some_map (ClientFacts (given (changes_of past)) (core_after roots past).sources) (ClientFacts (given (ch ∷ changes_of past)) (changed_by (core_after roots past).sources ch)) (told_of (core_after roots past).sources ch) (client_at (core_after roots past).clients j) (λ c. change_keeps (changes_of past) ch c (core_after roots past).sources (sources_are roots past)) (client_facts roots past j))
+client_facts roots (connect names ∷ past) j = connect_keeps (are_bad names) (roots_or names roots) (given (changes_of past)) (core_after roots past) (client_facts roots past) j
+client_facts roots (request i r ∷ past) j = request_keeps (client_at (core_after roots past).clients i) (given (changes_of past)) i (core_after roots past) r (served_given roots past) (client_facts roots past i) (client_facts roots past) j
+client_facts roots (disconnect i ∷ past) j = disconnect_keeps (client_at (core_after roots past).clients i) (given (changes_of past)) i (core_after roots past) (client_facts roots past) j

@@ -11,7 +11,7 @@ ghost use Rattle.core_model.specs.FreshLoad.{Served};
 ghost use Rattle.core_model.specs.Spread.{IsReloadWanted, reason_of, cause_of};
 ghost use Rattle.core_model.specs.View.{View, differs, declines};
 ghost use Rattle.core_model.specs.Page.{Plan};
-ghost use Rattle.core_model.specs.Client.{Client};
+ghost use Rattle.core_model.specs.Client.{Client, triggered, next_batch};
 ghost use Rattle.core_model.specs.Requests.{Request, ask, heard, to_client};
 ghost use Rattle.core_model.specs.Core.{Core, Event, connect, request, disconnect, client_at, told_of, changes_of, step, core_after, replay, replies};
 ghost use Rattle.core_laws.specs.Given.{given};
@@ -32,7 +32,7 @@ ghost use Rattle.core_laws.specs.Isolated.{AreNumbered, concerns, without_others
 /// served, and all that it keeps.
 pub fn facts_are_kept()
     ensures sources { (past : List Change) → SourcesFacts (given past) (sources_after past) }
-    ensures clients { (roots : List Name) (past : List Event) (i : ℕ) → IfSome (client_at (core_after roots past).clients i) (ClientFacts roots (given (changes_of past)) (core_after roots past).sources) }
+    ensures clients { (roots : List Name) (past : List Event) (i : ℕ) → IfSome (client_at (core_after roots past).clients i) (ClientFacts (given (changes_of past)) (core_after roots past).sources) }
 {}
 
 /// A version of a module is served once at most, and the analysis that it was served with stays known.
@@ -59,23 +59,24 @@ pub fn version_decides_the_module()
 /// While a plan is under way the page's modules and its forced names stay: a request after which a
 /// plan is still under way leaves them, and so does each edit and each result.
 pub fn page_stays_during_a_plan()
-    ensures request { (roots : List Name) (i : ℕ) (s : Sources) (c : Client) (r : Request) (p q : Plan) → c.page.plan ≡ Some p → (heard roots i s c r).0.page.plan ≡ Some q → SamePage c (heard roots i s c r).0 }
+    ensures request { (i : ℕ) (s : Sources) (c : Client) (r : Request) (p q : Plan) → c.page.plan ≡ Some p → (heard i s c r).0.page.plan ≡ Some q → SamePage c (heard i s c r).0 }
     ensures change { (s : Sources) (ch : Change) (c : Client) → (told_of s ch c).page ≡ c.page }
 {}
 
 /// A loaded page with nothing changed and nothing dropped is exactly a fresh load of what is served:
 /// the same modules in the same order, at the same versions; and the fresh load misses nothing.
 pub fn caught_up_is_fresh()
-    ensures { (roots : List Name) (past : List Event) (i : ℕ) → IfSome (client_at (core_after roots past).clients i) (λ c. IsUpToDate roots (core_after roots past).sources c → IsFreshLoad roots (core_after roots past).sources c) }
+    ensures { (roots : List Name) (past : List Event) (i : ℕ) → IfSome (client_at (core_after roots past).clients i) (λ c. IsUpToDate (core_after roots past).sources c → IsFreshLoad (core_after roots past).sources c) }
 {}
 
 /// An Ask of a connected client is answered by a full reload exactly where no plan is under way, no
 /// notice waits, the page is loaded, nothing is dropped, the client isn't held, and an unaccepted path
 /// ends badly: at a module that declines, or at a root that doesn't accept itself or is forced. What is
-/// told is the least such path, and which of the two its end is.
+/// told is the least such path, which of the two its end is, the number of the batch, and what
+/// triggered it.
 pub fn full_reload_is_answered_exactly()
-    ensures exactly { (roots : List Name) (core : Core) (i : ℕ) (c : Client) → client_at core.clients i ≡ Some c → IsFullReload (step roots core (request i ask)).1 ↔ IsReloadDue roots core.sources c }
-    ensures told { (roots : List Name) (core : Core) (i : ℕ) (c : Client) (cause : ReloadCause) (path : List Name) → client_at core.clients i ≡ Some c → ((step roots core (request i ask)).1 ≡ to_client (msg.FullReload cause path)) ↔ ((cause ≡ cause_of c.page.view path) × IsReloadSent roots core.sources c path) }
+    ensures exactly { (roots : List Name) (core : Core) (i : ℕ) (c : Client) → client_at core.clients i ≡ Some c → IsFullReload (step roots core (request i ask)).1 ↔ IsReloadDue core.sources c }
+    ensures told { (roots : List Name) (core : Core) (i : ℕ) (c : Client) (cause : ReloadCause) (path : List Name) (batch : ℕ) (names : List Name) → client_at core.clients i ≡ Some c → ((step roots core (request i ask)).1 ≡ to_client (msg.FullReload cause path batch names)) ↔ ((cause ≡ cause_of c.page.view path) × (batch ≡ next_batch c.batches) × (names ≡ triggered core.sources c) × IsReloadSent core.sources c path) }
 {}
 
 /// Each connected client has one record, under a number that was given.
@@ -88,7 +89,7 @@ pub fn clients_are_numbered()
 pub fn clients_leave_one_another()
     ensures request { (roots : List Name) (core : Core) (i j : ℕ) (r : Request) → (i == j) ≡ false → client_at (step roots core (request i r)).0.clients j ≡ client_at core.clients j }
     ensures disconnect { (roots : List Name) (core : Core) (i j : ℕ) → (i == j) ≡ false → client_at (step roots core (disconnect i)).0.clients j ≡ client_at core.clients j }
-    ensures connect { (roots : List Name) (past : List Event) (j : ℕ) → is_some (client_at (core_after roots past).clients j) ≡ true → client_at (core_after roots (connect ∷ past)).clients j ≡ client_at (core_after roots past).clients j }
+    ensures connect { (roots : List Name) (past : List Event) (names : List Name) (j : ℕ) → is_some (client_at (core_after roots past).clients j) ≡ true → client_at (core_after roots (connect names ∷ past)).clients j ≡ client_at (core_after roots past).clients j }
 {}
 
 /// Leaving out all requests of other clients changes nothing in a client's record, nothing in the

@@ -110,7 +110,7 @@ one roots b c lines.Quiet some h = plain roots b c lines.Quiet some (command_say
 one roots b c (lines.Remove name) some h = plain roots b c (lines.Remove name) some (command_says (lines.Remove name) h)
 one roots b c lines.SettleAll some h = plain roots b c lines.SettleAll some (command_says lines.SettleAll h)
 one roots b c (lines.Settle name n) some h = plain roots b c (lines.Settle name n) some (command_says (lines.Settle name n) h)
-one roots b c lines.Open some h = plain roots b c lines.Open some (command_says lines.Open h)
+one roots b c (lines.Open format names) some h = plain roots b c (lines.Open format names) some (command_says (lines.Open format names) h)
 one roots b c (lines.Close n) some h = plain roots b c (lines.Close n) some (command_says (lines.Close n) h)
 one roots b c (lines.Turn n) some h = plain roots b c (lines.Turn n) some (command_says (lines.Turn n) h)
 one roots b c (lines.Turns n k) some h = plain roots b c (lines.Turns n k) some (command_says (lines.Turns n k) h)
@@ -118,6 +118,7 @@ one roots b c (lines.Show n) some h = plain roots b c (lines.Show n) some (comma
 one roots b c (lines.Values n) some h = plain roots b c (lines.Values n) some (command_says (lines.Values n) h)
 one roots b c (lines.Fates n) some h = plain roots b c (lines.Fates n) some (command_says (lines.Fates n) h)
 one roots b c lines.Fresh some h = plain roots b c lines.Fresh some (command_says lines.Fresh h)
+one roots b c (lines.FreshOf n) some h = plain roots b c (lines.FreshOf n) some (command_says (lines.FreshOf n) h)
 
 -- what the lines of commands lead to
 abbrev Ends : List (List ℕ) → Bool → Bool → List ScriptLine → Type 0

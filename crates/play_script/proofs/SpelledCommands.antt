@@ -50,7 +50,7 @@ not_text lines.Quiet = refl
 not_text (lines.Remove name) = refl
 not_text lines.SettleAll = refl
 not_text (lines.Settle name n) = refl
-not_text lines.Open = refl
+not_text (lines.Open format roots) = refl
 not_text (lines.Close n) = refl
 not_text (lines.Turn n) = refl
 not_text (lines.Turns n k) = refl
@@ -58,6 +58,7 @@ not_text (lines.Show n) = refl
 not_text (lines.Values n) = refl
 not_text (lines.Fates n) = refl
 not_text lines.Fresh = refl
+not_text (lines.FreshOf n) = refl
 
 no_text : (ls : List ScriptLine) → text_below (map ended (flat_map command_lines ls)) ≡ []
 no_text [] = refl
@@ -80,7 +81,7 @@ one lines.Quiet more h none = plain lines.Quiet more (command_says lines.Quiet h
 one (lines.Remove name) more h none = plain (lines.Remove name) more (command_says (lines.Remove name) h)
 one lines.SettleAll more h none = plain lines.SettleAll more (command_says lines.SettleAll h)
 one (lines.Settle name n) more h none = plain (lines.Settle name n) more (command_says (lines.Settle name n) h)
-one lines.Open more h none = plain lines.Open more (command_says lines.Open h)
+one (lines.Open format roots) more h none = plain (lines.Open format roots) more (command_says (lines.Open format roots) h)
 one (lines.Close n) more h none = plain (lines.Close n) more (command_says (lines.Close n) h)
 one (lines.Turn n) more h none = plain (lines.Turn n) more (command_says (lines.Turn n) h)
 one (lines.Turns n k) more h none = plain (lines.Turns n k) more (command_says (lines.Turns n k) h)
@@ -88,6 +89,7 @@ one (lines.Show n) more h none = plain (lines.Show n) more (command_says (lines.
 one (lines.Values n) more h none = plain (lines.Values n) more (command_says (lines.Values n) h)
 one (lines.Fates n) more h none = plain (lines.Fates n) more (command_says (lines.Fates n) h)
 one lines.Fresh more h none = plain lines.Fresh more (command_says lines.Fresh h)
+one (lines.FreshOf n) more h none = plain (lines.FreshOf n) more (command_says (lines.FreshOf n) h)
 
 all_said : (ls : List ScriptLine) → list_all is_writable ls ≡ true → commands (map ended (flat_map command_lines ls)) ≡ ls
 all_said [] h = refl

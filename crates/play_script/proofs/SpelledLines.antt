@@ -1,12 +1,13 @@
 -- The line of each command, as it is spelled, says that command.
-use Rattle.std.proofs.Common.{ℕ, ◌^◌, ◌<◌, ◌≤◌, List, [], ◌∷◌, ◌++◌, length, true, false, ◌≡◌, refl, ap, ◌∙◌, arith, Ok}
-use Rattle.std.specs.Prelude.{◌==◌, ◌&&◌, codes, decimal, nat_lt, nat_le}
+use Rattle.std.proofs.Common.{◌⊎◌, inl, inr, ℕ, ◌^◌, ◌<◌, ◌≤◌, List, [], ◌∷◌, ◌++◌, length, true, false, ◌≡◌, refl, sym, ap, subst, ◌∙◌, arith, append_assoc, Ok}
+use Rattle.std.specs.Prelude.{◌==◌, ◌&&◌, codes, decimal, not, nat_lt, nat_le}
 use Rattle.std.specs.List.{All, list_all}
 use Rattle.std.specs.Str.{is_utf8, IsUtf8, chars}
 use lib.Utf8.{encode}
 use Rattle.std.proofs.lemmas.Bool.{and_parts}
 use Rattle.std.proofs.lemmas.Bool.Decides.{nat_tests}
-use Rattle.std.proofs.lemmas.List.{length-append}
+use Rattle.std.proofs.lemmas.List.{append-nil, length-append}
+use Rattle.std.proofs.lemmas.List.Elements.{All-cons}
 use Rattle.std.proofs.lemmas.List.Splits.{slice_split_at, slice_split_none}
 use Rattle.std.proofs.lemmas.Fmt.{IsAscii-decimal, length-decimal-le}
 use Rattle.std.proofs.lemmas.Str.{IsUtf8-append, IsUtf8-from_ascii, IsUtf8-from_is_utf8, is_utf8-from_IsUtf8}
@@ -17,9 +18,9 @@ use Rattle.play_script.specs.declared.script_line.ScriptLine.{ScriptLine}
 use Rattle.play_script.specs.declared.script_line.ScriptLine.TheVariants as lines
 use Rattle.play_script.specs.declared.words.Said.{Said}
 use Rattle.play_script.specs.declared.words.Said.TheVariants as says
-use Rattle.play_script.specs.Texts.{spaced, spaced_number}
+use Rattle.play_script.specs.Texts.{names_text, spaced, spaced_number}
 use Rattle.play_script.specs.Script.{line_said, lines_from, number, said, whole_line, words}
-use Rattle.play_script.specs.Spelling.{command_text, fits, in_range, is_writable}
+use Rattle.play_script.specs.Spelling.{command_text, fits, in_range, is_opening, is_writable, open_word}
 use Rattle.play_script.proofs.SpelledNames.{no_space-name}
 use Rattle.play_script.proofs.SpelledNumbers.{no_space-decimal, number-decimal}
 
@@ -56,6 +57,13 @@ alone w h = slice_split_none (λ b. b == 32) w h.2
 before : (w rest : List ℕ) → Word w → words (w ++ 32 ∷ rest) ≡ w ∷ words rest
 before w rest h = slice_split_at (λ b. b == 32) w 32 rest h.2 refl
 
+-- a word, and names behind it
+words_of_names : (names : List (List ℕ)) (w : List ℕ) → All (λ b. (b == 32) ≡ false) w → list_all is_name names ≡ true → words (w ++ names_text names) ≡ w ∷ names
+words_of_names [] w h all = ap words (append-nil w) ∙ slice_split_none (λ b. b == 32) w h
+words_of_names (n ∷ ns) w h all =
+    let here = and_parts (is_name n) (list_all is_name ns) all in
+    slice_split_at (λ b. b == 32) w 32 (n ++ names_text ns) h refl ∙ ap (λ ws. w ∷ ws) (words_of_names ns n (no_space-name n here.0) here.1)
+
 space_is : is_utf8 (codes " ") ≡ true
 unfolding is_utf8 chars encode
 space_is = refl
@@ -75,7 +83,7 @@ abbrev pub Says : List ℕ → Said → Type 0
 Says line s = (line_said line true ≡ Ok s) × (whole_line line ≡ Ok s)
 
 -- a line of words says what its words say
-of_words : (b : ℕ) (bs : List ℕ) (s : Said) → IsUtf8 (b ∷ bs) → length (b ∷ bs) ≤ 1000 → (b == 35) ≡ false → (b == 124) ≡ false → said (words (b ∷ bs)) ≡ Ok s → Says (b ∷ bs) s
+of_words : (b : ℕ) (bs : List ℕ) (s : Said) → IsUtf8 (b ∷ bs) → length (b ∷ bs) ≤ 65535 → (b == 35) ≡ false → (b == 124) ≡ false → said (words (b ∷ bs)) ≡ Ok s → Says (b ∷ bs) s
 of_words b bs s text few hash bar e =
     let utf8 = is_utf8-from_IsUtf8 (b ∷ bs) text in
     let long : nat_lt 65535 (length (b ∷ bs)) ≡ false = grind (arith, nat_tests) in
@@ -87,10 +95,16 @@ one_utf8 first w f h = IsUtf8-append first (spaced w) f (IsUtf8-append (codes " 
 two_utf8 : (first v w : List ℕ) → IsUtf8 first → Word v → Word w → IsUtf8 (first ++ spaced v ++ spaced w)
 two_utf8 first v w f g h = IsUtf8-append (first ++ spaced v) (spaced w) (one_utf8 first v f g) (IsUtf8-append (codes " ") w space_utf8 h.0)
 
-one_few : (first w : List ℕ) → length first ≤ 20 → Word w → length (first ++ spaced w) ≤ 1000
+names_utf8 : (names : List (List ℕ)) (first : List ℕ) → IsUtf8 first → list_all is_name names ≡ true → IsUtf8 (first ++ names_text names)
+names_utf8 [] first f all = subst IsUtf8 (sym (append-nil first)) f
+names_utf8 (n ∷ ns) first f all =
+    let here = and_parts (is_name n) (list_all is_name ns) all in
+    subst IsUtf8 (append_assoc first (spaced n) (names_text ns)) (names_utf8 ns (first ++ spaced n) (one_utf8 first n f (name_word n here.0)) here.1)
+
+one_few : (first w : List ℕ) → length first ≤ 20 → Word w → length (first ++ spaced w) ≤ 65535
 one_few first w f h = omega (arith, f, h.1, length-append first (spaced w), length-append (codes " ") w)
 
-two_few : (first v w : List ℕ) → length first ≤ 20 → Word v → Word w → length (first ++ spaced v ++ spaced w) ≤ 1000
+two_few : (first v w : List ℕ) → length first ≤ 20 → Word v → Word w → length (first ++ spaced v ++ spaced w) ≤ 65535
 two_few first v w f g h = omega (arith, f, g.1, h.1, length-append (first ++ spaced v) (spaced w), length-append first (spaced v), length-append (codes " ") v, length-append (codes " ") w)
 
 client_word : (n : ℕ) → in_range LARGEST_CLIENT n ≡ true → Word (decimal n)
@@ -165,9 +179,69 @@ fates_said n h =
     let last : said (codes "fates" ∷ decimal n ∷ []) ≡ Ok (says.Command (lines.Fates n)) = rw read refl in
     ap (λ ws. said (codes "fates" ∷ ws)) (alone (decimal n) (client_word n h)) ∙ last
 
+fresh_said : (n : ℕ) → in_range LARGEST_CLIENT n ≡ true → said (words (codes "fresh" ++ spaced_number n)) ≡ Ok (says.Command (lines.FreshOf n))
+fresh_said n h =
+    let read = client_read n h in
+    let last : said (codes "fresh" ∷ decimal n ∷ []) ≡ Ok (says.Command (lines.FreshOf n)) = rw read refl in
+    ap (λ ws. said (codes "fresh" ∷ ws)) (alone (decimal n) (client_word n h)) ∙ last
+
 pub root_says : (name : List ℕ) → is_name name ≡ true → Says (codes "root" ++ spaced name) (says.Root name)
 unfolding is_utf8 chars encode
 root_says name h = let w = name_word name h in of_words 114 (codes "oot" ++ spaced name) (says.Root name) (one_utf8 (codes "root") name (IsUtf8-from_is_utf8 (codes "root") refl) w) (one_few (codes "root") name (omega arith) w) refl refl (root_said name h)
+
+-- the parts of an opening that has a spelling
+pub record Opening (format : ℕ) (roots : List (List ℕ)) : Type 0 where
+  pub formats : (format ≡ 1) ⊎ (format ≡ 2)
+  pub names : list_all is_name roots ≡ true
+  pub few : length (open_word format ++ names_text roots) ≤ 65535
+
+one_or_two : (format : ℕ) → in_range 2 format ≡ true → (format ≡ 1) ⊎ (format ≡ 2)
+one_or_two format h = let here = in_range-parts 2 format h in grind (arith, here.0, here.1)
+
+pub opening_parts : (format : ℕ) (roots : List (List ℕ)) → is_opening format roots ≡ true → Opening format roots
+opening_parts format roots h =
+    let all = and_parts (in_range 2 format && list_all is_name roots) (nat_le (length (open_word format ++ names_text roots)) 65535) h in
+    let both = and_parts (in_range 2 format) (list_all is_name roots) all.0 in
+    record {
+      formats = one_or_two format both.0;
+      names = both.1;
+      few = grind (arith, nat_tests, all.1);
+    }
+
+no_space_bytes : (bs : List ℕ) → list_all (λ b. not (b == 32)) bs ≡ true → All (λ b. (b == 32) ≡ false) bs
+no_space_bytes [] h = λ k d lt. absurd (omega arith)
+no_space_bytes (b ∷ bs) h =
+    let here = and_parts (not (b == 32)) (list_all (λ b. not (b == 32)) bs) h in
+    All-cons (λ x. (x == 32) ≡ false) b bs (grind (arith, nat_tests, here.0)) (no_space_bytes bs here.1)
+
+-- an opening with these names, where its line isn't too long, says that opening
+abbrev SaysOpening : List (List ℕ) → ℕ → Type 0
+SaysOpening roots format =
+    length (open_word format ++ names_text roots) ≤ 65535
+    → Says (open_word format ++ names_text roots) (says.Command (lines.Open format roots))
+
+open_says : (roots : List (List ℕ)) → list_all is_name roots ≡ true → SaysOpening roots 1
+unfolding is_utf8 chars encode
+open_says roots all few =
+    let utf8 = names_utf8 roots (codes "open") (IsUtf8-from_is_utf8 (codes "open") refl) all in
+    let whole = words_of_names roots (codes "open") (no_space_bytes (codes "open") refl) all in
+    let last : said (codes "open" ∷ roots) ≡ Ok (says.Command (lines.Open 1 roots)) = rw all refl in
+    of_words 111 (codes "pen" ++ names_text roots) (says.Command (lines.Open 1 roots)) utf8 few refl refl (ap said whole ∙ last)
+
+open2_says : (roots : List (List ℕ)) → list_all is_name roots ≡ true → SaysOpening roots 2
+unfolding is_utf8 chars encode
+open2_says roots all few =
+    let utf8 = names_utf8 roots (codes "open2") (IsUtf8-from_is_utf8 (codes "open2") refl) all in
+    let whole = words_of_names roots (codes "open2") (no_space_bytes (codes "open2") refl) all in
+    let last : said (codes "open2" ∷ roots) ≡ Ok (says.Command (lines.Open 2 roots)) = rw all refl in
+    of_words 111 (codes "pen2" ++ names_text roots) (says.Command (lines.Open 2 roots)) utf8 few refl refl (ap said whole ∙ last)
+
+by_format : (format : ℕ) (roots : List (List ℕ)) → (format ≡ 1) ⊎ (format ≡ 2) → list_all is_name roots ≡ true → SaysOpening roots format
+by_format format roots (inl e) all = subst (SaysOpening roots) (sym e) (open_says roots all)
+by_format format roots (inr e) all = subst (SaysOpening roots) (sym e) (open2_says roots all)
+
+opening_says : (format : ℕ) (roots : List (List ℕ)) → is_opening format roots ≡ true → Says (open_word format ++ names_text roots) (says.Command (lines.Open format roots))
+opening_says format roots h = let parts = opening_parts format roots h in by_format format roots parts.formats parts.names parts.few
 
 -- a command's line says that command
 pub command_says : (line : ScriptLine) → is_writable line ≡ true → Says (command_text line) (said_of line)
@@ -177,7 +251,7 @@ command_says (lines.Edit name text) h = let n = (and_parts (is_name name) (list_
 command_says (lines.Remove name) h = let w = name_word name h in of_words 114 (codes "emove" ++ spaced name) (says.Command (lines.Remove name)) (one_utf8 (codes "remove") name (IsUtf8-from_is_utf8 (codes "remove") refl) w) (one_few (codes "remove") name (omega arith) w) refl refl (remove_said name h)
 command_says lines.SettleAll h = of_words 115 (codes "ettle") (says.Command lines.SettleAll) (IsUtf8-from_is_utf8 (codes "settle") refl) (omega arith) refl refl refl
 command_says (lines.Settle name n) h = let both = and_parts (is_name name) (in_range LARGEST_NUMBER n) h in let v = name_word name both.0 in let w = version_word n both.1 in of_words 115 (codes "ettle" ++ spaced name ++ spaced_number n) (says.Command (lines.Settle name n)) (two_utf8 (codes "settle") name (decimal n) (IsUtf8-from_is_utf8 (codes "settle") refl) v w) (two_few (codes "settle") name (decimal n) (omega arith) v w) refl refl (settle_said name n both.0 both.1)
-command_says lines.Open h = of_words 111 (codes "pen") (says.Command lines.Open) (IsUtf8-from_is_utf8 (codes "open") refl) (omega arith) refl refl refl
+command_says (lines.Open format roots) h = opening_says format roots h
 command_says (lines.Close n) h = let w = client_word n h in of_words 99 (codes "lose" ++ spaced_number n) (says.Command (lines.Close n)) (one_utf8 (codes "close") (decimal n) (IsUtf8-from_is_utf8 (codes "close") refl) w) (one_few (codes "close") (decimal n) (omega arith) w) refl refl (close_said n h)
 command_says (lines.Turn n) h = let w = client_word n h in of_words 116 (codes "urn" ++ spaced_number n) (says.Command (lines.Turn n)) (one_utf8 (codes "turn") (decimal n) (IsUtf8-from_is_utf8 (codes "turn") refl) w) (one_few (codes "turn") (decimal n) (omega arith) w) refl refl (turn_said n h)
 command_says (lines.Turns c k) h = let both = and_parts (in_range LARGEST_CLIENT c) (in_range LARGEST_CLIENT k) h in let v = client_word c both.0 in let w = client_word k both.1 in of_words 116 (codes "urns" ++ spaced_number c ++ spaced_number k) (says.Command (lines.Turns c k)) (two_utf8 (codes "turns") (decimal c) (decimal k) (IsUtf8-from_is_utf8 (codes "turns") refl) v w) (two_few (codes "turns") (decimal c) (decimal k) (omega arith) v w) refl refl (turns_said c k both.0 both.1)
@@ -185,3 +259,4 @@ command_says (lines.Show n) h = let w = client_word n h in of_words 115 (codes "
 command_says (lines.Values n) h = let w = client_word n h in of_words 118 (codes "alues" ++ spaced_number n) (says.Command (lines.Values n)) (one_utf8 (codes "values") (decimal n) (IsUtf8-from_is_utf8 (codes "values") refl) w) (one_few (codes "values") (decimal n) (omega arith) w) refl refl (values_said n h)
 command_says (lines.Fates n) h = let w = client_word n h in of_words 102 (codes "ates" ++ spaced_number n) (says.Command (lines.Fates n)) (one_utf8 (codes "fates") (decimal n) (IsUtf8-from_is_utf8 (codes "fates") refl) w) (one_few (codes "fates") (decimal n) (omega arith) w) refl refl (fates_said n h)
 command_says lines.Fresh h = of_words 102 (codes "resh") (says.Command lines.Fresh) (IsUtf8-from_is_utf8 (codes "fresh") refl) (omega arith) refl refl refl
+command_says (lines.FreshOf n) h = let w = client_word n h in of_words 102 (codes "resh" ++ spaced_number n) (says.Command (lines.FreshOf n)) (one_utf8 (codes "fresh") (decimal n) (IsUtf8-from_is_utf8 (codes "fresh") refl) w) (one_few (codes "fresh") (decimal n) (omega arith) w) refl refl (fresh_said n h)

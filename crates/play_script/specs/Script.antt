@@ -90,6 +90,10 @@ number most word = or_fault BadNumber (number_of most word)
 abbrev pub named : List ℕ → Result (List ℕ) ScriptKind
 named word = if is_name word then Ok word else Err BadName
 
+-- the names of modules that words are
+abbrev pub all_named : List (List ℕ) → Result (List (List ℕ)) ScriptKind
+all_named ws = if list_all is_name ws then Ok ws else Err BadName
+
 -- the one word
 abbrev pub one_word : List (List ℕ) → Result (List ℕ) ScriptKind
 one_word [] = Err WordCount
@@ -107,6 +111,10 @@ abbrev pub no_word : ScriptLine → List (List ℕ) → Result Said ScriptKind
 no_word line [] = Ok (says.Command line)
 no_word line (word ∷ more) = Err WordCount
 
+-- `open` or `open2`, whose words are the names of the client's roots
+abbrev pub opening : ℕ → List (List ℕ) → Result Said ScriptKind
+opening format ws = all_named ws >>= λ roots. Ok (says.Command (lines.Open format roots))
+
 -- `settle`, alone or with a name and a version
 abbrev pub settle : List (List ℕ) → Result Said ScriptKind
 settle [] = Ok (says.Command lines.SettleAll)
@@ -121,6 +129,12 @@ turns (word ∷ []) = Err WordCount
 turns (client ∷ most ∷ []) = number LARGEST_CLIENT client >>= λ c. number LARGEST_CLIENT most >>= λ k. Ok (says.Command (lines.Turns c k))
 turns (client ∷ most ∷ other ∷ more) = Err WordCount
 
+-- `fresh`, alone or with a client
+abbrev pub fresh : List (List ℕ) → Result Said ScriptKind
+fresh [] = Ok (says.Command lines.Fresh)
+fresh (client ∷ []) = number LARGEST_CLIENT client >>= λ c. Ok (says.Command (lines.FreshOf c))
+fresh (client ∷ other ∷ more) = Err WordCount
+
 -- what a command's first word and the words behind it say
 abbrev pub command : Word → List (List ℕ) → Result Said ScriptKind
 command first.Root ws = one_name ws >>= λ name. Ok (says.Root name)
@@ -128,14 +142,15 @@ command first.Quiet ws = no_word lines.Quiet ws
 command first.Edit ws = one_name ws >>= λ name. Ok (says.Edit name)
 command first.Remove ws = one_name ws >>= λ name. Ok (says.Command (lines.Remove name))
 command first.Settle ws = settle ws
-command first.Open ws = no_word lines.Open ws
+command first.Open ws = opening 1 ws
+command first.Open2 ws = opening 2 ws
 command first.Close ws = one_client ws >>= λ client. Ok (says.Command (lines.Close client))
 command first.Turn ws = one_client ws >>= λ client. Ok (says.Command (lines.Turn client))
 command first.Turns ws = turns ws
 command first.Show ws = one_client ws >>= λ client. Ok (says.Command (lines.Show client))
 command first.Values ws = one_client ws >>= λ client. Ok (says.Command (lines.Values client))
 command first.Fates ws = one_client ws >>= λ client. Ok (says.Command (lines.Fates client))
-command first.Fresh ws = no_word lines.Fresh ws
+command first.Fresh ws = fresh ws
 
 -- the first word of a line
 abbrev pub known_word : List ℕ → Result Word ScriptKind
@@ -146,6 +161,7 @@ known_word w =
     else if is_text w (codes "remove") then Ok first.Remove
     else if is_text w (codes "settle") then Ok first.Settle
     else if is_text w (codes "open") then Ok first.Open
+    else if is_text w (codes "open2") then Ok first.Open2
     else if is_text w (codes "close") then Ok first.Close
     else if is_text w (codes "turn") then Ok first.Turn
     else if is_text w (codes "turns") then Ok first.Turns

@@ -2,11 +2,11 @@
 ghost use Rattle.std.specs.Prelude.{◌≡◌, ◌≤◌, IfOk, IfSome, map};
 ghost use Rattle.std.specs.List.{list_all};
 ghost use Rattle.hmr_types.specs.ModName.{between};
-ghost use Rattle.play_script.specs.Script.{Gives, named, number, number_of, up_to, digits_value, is_digit, with_digit, one_word};
+ghost use Rattle.play_script.specs.Script.{Gives, named, all_named, number, number_of, up_to, digits_value, is_digit, with_digit, one_word};
 
 use crate::fault::{Refusal, ScriptKind};
 use hmr_types::limits::{LARGEST_CLIENT, LARGEST_NUMBER};
-use hmr_types::{ClientId, ModName, NameFault, Ver};
+use hmr_types::{ClientId, ModName, NameFault, Sequence, Ver};
 use std::alloc::Global;
 
 /// The one word that there is to be.
@@ -28,6 +28,18 @@ pub fn read_name(alloc: Global, word: &[u8]) -> Result<ModName, Refusal>
         Err(NameFault::NotAName) => Err(Refusal::Fault(ScriptKind::BadName)),
         Err(NameFault::NoMemory) => Err(Refusal::NoMemory),
     }
+}
+
+/// The names that words are, in order. The time is linear in their bytes.
+pub fn read_names(alloc: Global, words: &[&[u8]]) -> Result<Sequence<ModName>, Refusal>
+    ensures { Gives (λ names. names) result (all_named (map (λ w. w.now) words.now)) }
+{
+    let mut names = Vec::new(alloc);
+    for word in words {
+        let name = read_name(alloc, word)?;
+        names.push(name)?;
+    }
+    Ok(Sequence::from_vec(names))
 }
 
 /// The number of a client, or of turns, that a word is.

@@ -14,8 +14,9 @@ pub enum ScriptLine {
     SettleAll,
     /// `settle NAME VERSION`: settles that job.
     Settle(ModName, Ver),
-    /// `open`: connects a client.
-    Open,
+    /// `open NAME..` or `open2 NAME..`: connects a client of format 1 or 2 whose page has these roots;
+    /// with no name, those of the script.
+    Open(u8, Sequence<ModName>),
     /// `close C`: disconnects a client.
     Close(ClientId),
     /// `turn C`: one request of a client.
@@ -28,6 +29,8 @@ pub enum ScriptLine {
     Values(ClientId),
     /// `fates C`: writes what became of each instance of a client.
     Fates(ClientId),
-    /// `fresh`: writes what a page would load anew.
+    /// `fresh`: writes what a page of the script's roots would load anew.
     Fresh,
+    /// `fresh C`: writes what a client's page would load anew.
+    FreshOf(ClientId),
 }

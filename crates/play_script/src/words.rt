@@ -1,9 +1,9 @@
 // What one line says: nothing, text, or by its words a root, the beginning of an edit, or a command.
 ghost use Rattle.std.specs.Prelude.{◌≡◌, IfOk, map};
 ghost use Rattle.hmr_types.specs.ModName.{is_text};
-ghost use Rattle.play_script.specs.Script.{Gives, whole_line, words, said, command, known_word, no_word, one_name, one_client, settle, turns};
+ghost use Rattle.play_script.specs.Script.{Gives, whole_line, words, said, command, known_word, no_word, one_name, one_client, opening, settle, turns, fresh};
 
-use crate::arguments::{only_word, read_count, read_name, read_version};
+use crate::arguments::{only_word, read_count, read_name, read_names, read_version};
 use crate::fault::{Refusal, ScriptKind};
 use crate::script_line::ScriptLine;
 use hmr_types::{ClientId, ModName};
@@ -24,6 +24,8 @@ pub enum Word {
     Settle,
     /// `open`
     Open,
+    /// `open2`
+    Open2,
     /// `close`
     Close,
     /// `turn`
@@ -94,14 +96,15 @@ fn read_command(alloc: Global, word: Word, arguments: &[&[u8]]) -> Result<Said, 
         Word::Edit => Ok(Said::Edit(read_only_name(alloc, arguments)?)),
         Word::Remove => Ok(Said::Command(ScriptLine::Remove(read_only_name(alloc, arguments)?))),
         Word::Settle => read_settle(alloc, arguments),
-        Word::Open => alone(arguments, ScriptLine::Open),
+        Word::Open => read_opening(alloc, 1, arguments),
+        Word::Open2 => read_opening(alloc, 2, arguments),
         Word::Close => Ok(Said::Command(ScriptLine::Close(read_client(arguments)?))),
         Word::Turn => Ok(Said::Command(ScriptLine::Turn(read_client(arguments)?))),
         Word::Turns => read_turns(arguments),
         Word::Show => Ok(Said::Command(ScriptLine::Show(read_client(arguments)?))),
         Word::Values => Ok(Said::Command(ScriptLine::Values(read_client(arguments)?))),
         Word::Fates => Ok(Said::Command(ScriptLine::Fates(read_client(arguments)?))),
-        Word::Fresh => alone(arguments, ScriptLine::Fresh),
+        Word::Fresh => read_fresh(arguments),
     }
 }
 
@@ -126,6 +129,13 @@ fn read_client(arguments: &[&[u8]]) -> Result<ClientId, Refusal>
 {
     let word = only_word(arguments)?;
     read_count(word)
+}
+
+fn read_opening(alloc: Global, format: u8, arguments: &[&[u8]]) -> Result<Said, Refusal>
+    ensures { Gives (λ s. s) result (opening format (map (λ w. w.now) arguments.now)) }
+{
+    let roots = read_names(alloc, arguments)?;
+    Ok(Said::Command(ScriptLine::Open(format, roots)))
 }
 
 fn read_settle(alloc: Global, arguments: &[&[u8]]) -> Result<Said, Refusal>
@@ -155,6 +165,19 @@ fn read_turns(arguments: &[&[u8]]) -> Result<Said, Refusal>
     }
 }
 
+fn read_fresh(arguments: &[&[u8]]) -> Result<Said, Refusal>
+    ensures { Gives (λ s. s) result (fresh (map (λ w. w.now) arguments.now)) }
+{
+    match arguments {
+        [] => Ok(Said::Command(ScriptLine::Fresh)),
+        [client] => {
+            let client = read_count(client)?;
+            Ok(Said::Command(ScriptLine::FreshOf(client)))
+        }
+        _ => Err(Refusal::Fault(ScriptKind::WordCount)),
+    }
+}
+
 fn known_word(word: &[u8]) -> Result<Word, Refusal>
     ensures { Gives (λ w. w) result (known_word word.now) }
 {
@@ -175,6 +198,9 @@ fn known_word(word: &[u8]) -> Result<Word, Refusal>
     }
     if is_text(word, b"open") {
         return Ok(Word::Open);
+    }
+    if is_text(word, b"open2") {
+        return Ok(Word::Open2);
     }
     if is_text(word, b"close") {
         return Ok(Word::Close);

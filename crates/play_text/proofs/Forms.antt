@@ -46,10 +46,11 @@ of_the_server :
     × (line_text (lines.Settle m 2 results.NotIssued) ≡ codes "settle /m.js 2 none\n")
     × (line_text (lines.Open 1) ≡ codes "open 1\n")
     × (line_text lines.OpenRefused ≡ codes "open refused\n")
+    × (line_text lines.OpenBadRoots ≡ codes "open bad-roots\n")
     × (line_text (lines.Close 1) ≡ codes "close 1\n")
     × (line_text (lines.Unknown 9) ≡ codes "unknown 9\n")
 unfolding digits
-of_the_server = (refl, refl, refl, refl, refl, refl, refl, refl, refl, refl, refl, refl, refl, refl, refl, refl, refl)
+of_the_server = (refl, refl, refl, refl, refl, refl, refl, refl, refl, refl, refl, refl, refl, refl, refl, refl, refl, refl)
 
 of_a_client :
     (line_text (lines.Applied 1 plan_words.Load) ≡ codes "1 loaded\n")
@@ -57,6 +58,7 @@ of_a_client :
     × (line_text (lines.Applied 1 plan_words.Update) ≡ codes "1 updated\n")
     × (line_text (lines.Reload 1 cause_words.Root (a ∷ m ∷ [])) ≡ codes "1 reload root /a.js /m.js\n")
     × (line_text (lines.Reload 1 cause_words.Declined (a ∷ m ∷ [])) ≡ codes "1 reload declined /a.js /m.js\n")
+    × (line_text (lines.Batch 1 18446744073709551615 (a ∷ m ∷ [])) ≡ codes "1 batch 18446744073709551615 by /a.js /m.js\n")
     × (line_text (lines.Update 1 (a ∷ m ∷ [])) ≡ codes "1 update /a.js /m.js\n")
     × (line_text (lines.Update 1 []) ≡ codes "1 update\n")
     × (line_text (lines.Accept 1 m a) ≡ codes "1 accept /m.js /a.js\n")
@@ -64,7 +66,7 @@ of_a_client :
     × (line_text (lines.Aborted 1 (aborts.Broken a)) ≡ codes "1 aborted broken /a.js\n")
     × (line_text (lines.Aborted 1 (aborts.Link m a (codes "x"))) ≡ codes "1 aborted link /m.js /a.js x\n")
     × (line_text (lines.Pruned 1 a) ≡ codes "1 pruned /a.js\n")
-    × (line_text (lines.Error 1 m (record { line = 0; col = 0; word = fault_words.TooManyImports })) ≡ codes "1 error /m.js 0:0 too-many-imports\n")
+    × (line_text (lines.Error 1 m 9007199254740991 18446744073709551615 fault_words.TooManyImports) ≡ codes "1 error /m.js 9007199254740991:18446744073709551615 too-many-imports\n")
     × (line_text (lines.Wait 1 m) ≡ codes "1 wait /m.js\n")
     × (line_text (lines.Log 1 m (codes "a\\b\nc\rd e")) ≡ codes "1 log /m.js a\\\\b\\nc\\rd e\n")
     × (line_text (lines.Log 1 m []) ≡ codes "1 log /m.js\n")
@@ -83,7 +85,7 @@ of_a_client :
     × (line_text (lines.Ended 0 ending_words.Link) ≡ codes "0 ended link\n")
     × (line_text (lines.Ended 1 ending_words.Instances) ≡ codes "1 ended instances\n")
 unfolding digits
-of_a_client = (refl, refl, refl, refl, refl, refl, refl, refl, refl, refl, refl, refl, refl, refl, refl, refl, refl, refl, refl, refl, refl, refl, refl, refl, refl, refl, refl, refl, refl, refl)
+of_a_client = (refl, refl, refl, refl, refl, refl, refl, refl, refl, refl, refl, refl, refl, refl, refl, refl, refl, refl, refl, refl, refl, refl, refl, refl, refl, refl, refl, refl, refl, refl, refl)
 
 of_reports :
     (line_text (lines.Client 1 state_words.Up) ≡ codes "client 1 up\n")
@@ -106,7 +108,8 @@ of_reports :
     × (line_text (lines.Handler kind_words.Own handlers.Code end_words.Held) ≡ codes "own code held\n")
     × (line_text (lines.Handler kind_words.Dep handlers.Code end_words.Held) ≡ codes "dep code held\n")
     × (line_text lines.Fresh ≡ codes "fresh\n")
+    × (line_text (lines.FreshOf 4294967295) ≡ codes "fresh 4294967295\n")
     × (line_text (lines.Missing a) ≡ codes "missing /a.js\n")
     × (line_text (lines.Unlinked m a (codes "x")) ≡ codes "unlinked /m.js /a.js x\n")
 unfolding digits
-of_reports = (refl, refl, refl, refl, refl, refl, refl, refl, refl, refl, refl, refl, refl, refl, refl, refl, refl, refl, refl, refl, refl, refl)
+of_reports = (refl, refl, refl, refl, refl, refl, refl, refl, refl, refl, refl, refl, refl, refl, refl, refl, refl, refl, refl, refl, refl, refl, refl)

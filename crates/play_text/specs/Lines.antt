@@ -2,9 +2,10 @@
 use Rattle.std.specs.Prelude.{ℕ, List, ◌++◌, codes, decimal}
 use Rattle.std.specs.List.{flat_map}
 use Rattle.std.specs.Fmt.{signed_decimal}
-use Rattle.play_script.specs.Texts.{spaced, spaced_number}
-use Rattle.play_text.specs.Texts.{of_client, names_text, escaped, quoted, after_space}
+use Rattle.play_script.specs.Texts.{names_text, spaced, spaced_number}
+use Rattle.play_text.specs.Texts.{of_client, escaped, quoted, after_space}
 use Rattle.play_text.specs.Words.{fault_word, refusal_word, plan_word, cause_word, place_word, kind_word, state_word, end_word, status_word, ending_word}
+use Rattle.hmr_types.specs.declared.analysis.FaultWord.{FaultWord}
 use Rattle.hmr_types.specs.declared.analysis.TextFault.{TextFault}
 use Rattle.output_lines.specs.declared.out_line.OutLine.{OutLine}
 use Rattle.output_lines.specs.declared.out_line.OutLine.TheVariants as lines
@@ -27,9 +28,12 @@ use Rattle.output_lines.specs.declared.words.InstanceFate.TheVariants as fates
 use Rattle.output_lines.specs.declared.words.Handled.{Handled}
 use Rattle.output_lines.specs.declared.words.Handled.TheVariants as handlers
 
--- a place and the word of its fault
+-- a place, its line and its column, and the word of the fault there
+abbrev pub fault_at : ℕ → ℕ → FaultWord → List ℕ
+fault_at line column word = decimal line ++ codes ":" ++ decimal column ++ spaced (fault_word word)
+
 abbrev pub text_fault : TextFault → List ℕ
-text_fault fault = decimal fault.line ++ codes ":" ++ decimal fault.col ++ spaced (fault_word fault.word)
+text_fault fault = fault_at fault.line fault.col fault.word
 
 abbrev pub edit_text : EditWord → List ℕ
 edit_text (edits.Job version) = codes "job " ++ decimal version
@@ -87,15 +91,17 @@ body_text (lines.Remove name outcome) = codes "remove " ++ name ++ spaced (remov
 body_text (lines.Settle name version outcome) = codes "settle " ++ name ++ spaced_number version ++ spaced (result_text outcome)
 body_text (lines.Open client) = codes "open " ++ decimal client
 body_text lines.OpenRefused = codes "open refused"
+body_text lines.OpenBadRoots = codes "open bad-roots"
 body_text (lines.Close client) = codes "close " ++ decimal client
 body_text (lines.Unknown client) = codes "unknown " ++ decimal client
 body_text (lines.Applied client plan) = of_client client (codes " ") ++ plan_word plan
 body_text (lines.Reload client cause path) = of_client client (codes " reload ") ++ cause_word cause ++ names_text path
+body_text (lines.Batch client batch triggered) = of_client client (codes " batch ") ++ decimal batch ++ codes " by" ++ names_text triggered
 body_text (lines.Update client replaced) = of_client client (codes " update") ++ names_text replaced
 body_text (lines.Accept client boundary via) = of_client client (codes " accept ") ++ boundary ++ spaced via
 body_text (lines.Aborted client outcome) = of_client client (codes " aborted ") ++ abort_text outcome
 body_text (lines.Pruned client name) = of_client client (codes " pruned ") ++ name
-body_text (lines.Error client name fault) = of_client client (codes " error ") ++ name ++ spaced (text_fault fault)
+body_text (lines.Error client name line column word) = of_client client (codes " error ") ++ name ++ spaced (fault_at line column word)
 body_text (lines.Wait client name) = of_client client (codes " wait ") ++ name
 body_text (lines.Log client name text) = of_client client (codes " log ") ++ name ++ after_space text
 body_text (lines.Fault client name place fault) = of_client client (codes " fault ") ++ name ++ spaced (place_word place) ++ spaced (eval_fault fault)
@@ -113,6 +119,7 @@ body_text (lines.Fates client) = codes "fates " ++ decimal client
 body_text (lines.Instance number name version status fate) = codes "instance " ++ instance_text number name version status fate
 body_text (lines.Handler kind handled end) = kind_word kind ++ spaced (handled_text handled) ++ spaced (end_word end)
 body_text lines.Fresh = codes "fresh"
+body_text (lines.FreshOf client) = codes "fresh " ++ decimal client
 body_text (lines.Missing name) = codes "missing " ++ name
 body_text (lines.Unlinked importer dependency export) = codes "unlinked " ++ importer ++ spaced dependency ++ spaced export
 

@@ -1,16 +1,10 @@
 -- Names and texts as they stand in a line.
 use Rattle.std.specs.Prelude.{ℕ, List, [], ◌∷◌, ◌++◌, codes, decimal, ◌==◌, if◌then◌else◌}
 use Rattle.std.specs.List.{flat_map}
-use Rattle.play_script.specs.Texts.{spaced}
 
 -- the number of a client and a word
 abbrev pub of_client : ℕ → List ℕ → List ℕ
 of_client client word = decimal client ++ word
-
--- each name behind a space
-abbrev pub names_text : List (List ℕ) → List ℕ
-names_text [] = []
-names_text (n ∷ ns) = spaced n ++ names_text ns
 
 -- a byte of a text on one line: the backslash, LF and CR as escapes
 abbrev pub escaped : ℕ → List ℕ

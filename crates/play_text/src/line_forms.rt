@@ -1,20 +1,25 @@
 // The forms of the lines, each put by one small function.
 ghost use Rattle.std.specs.Prelude.{◌≡◌, ◌++◌, OnOk, decimal};
 ghost use Rattle.output_lines.specs.declared.out_line.OutLine.TheVariants as lines;
-ghost use Rattle.play_script.specs.Texts.{spaced};
-ghost use Rattle.play_text.specs.Texts.{after_space, names_text, of_client};
+ghost use Rattle.play_script.specs.Texts.{names_text, spaced};
+ghost use Rattle.play_text.specs.Texts.{after_space, of_client};
 ghost use Rattle.play_text.specs.Lines.{body_text};
 
 use crate::outcomes::{
-    put_abort, put_after_space, put_edit, put_eval_fault, put_handled, put_instance, put_remove,
-    put_result, put_slot, put_text_fault,
+    put_abort, put_after_space, put_edit, put_eval_fault, put_fault_at, put_handled, put_instance,
+    put_remove, put_result, put_slot,
 };
 use crate::pieces::{
     put, put_escaped, put_names, put_number, put_of, put_spaced, put_spaced_number,
 };
 use crate::word_texts::{cause_str, end_str, kind_str, place_str, state_str};
-use hmr_types::{ClientId, EvalFault, HandlerKind, ModName, Name, ReloadCause, Slot, Text, TextFault, Ver};
-use output_lines::{AbortWord, ClientState, EditWord, FaultPlace, Handled, HandlerEnd, InstanceFate, InstanceStatus, RemoveWord, SettleWord};
+use hmr_types::{
+    ClientId, EvalFault, FaultWord, HandlerKind, ModName, Name, ReloadCause, Slot, Text, Ver,
+};
+use output_lines::{
+    AbortWord, ClientState, EditWord, FaultPlace, Handled, HandlerEnd, InstanceFate,
+    InstanceStatus, RemoveWord, SettleWord,
+};
 use std::alloc::AllocError;
 
 /// Puts a word and a text.
@@ -153,6 +158,21 @@ pub fn put_reload_line(
     put_names(out, path)
 }
 
+/// Puts the line of a batch.
+pub fn put_batch_line(
+    out: &mut Vec<u8>,
+    client: ClientId,
+    batch: u64,
+    triggered: &[ModName],
+) -> Result<(), AllocError>
+    ensures { OnOk result (out.new.items ≡ out.old.items ++ body_text (lines.Batch client batch triggered.now)) }
+{
+    put_of(out, client, " batch ")?;
+    put_number(out, batch)?;
+    put(out, " by")?;
+    put_names(out, triggered)
+}
+
 /// Puts the line of an accepted pair.
 pub fn put_accept_line(
     out: &mut Vec<u8>,
@@ -183,13 +203,15 @@ pub fn put_error_line(
     out: &mut Vec<u8>,
     client: ClientId,
     name: &ModName,
-    fault: &TextFault,
+    line: u64,
+    column: u64,
+    word: FaultWord,
 ) -> Result<(), AllocError>
-    ensures { OnOk result (out.new.items ≡ out.old.items ++ body_text (lines.Error client name.now fault.now)) }
+    ensures { OnOk result (out.new.items ≡ out.old.items ++ body_text (lines.Error client name.now line column word)) }
 {
     put_of_text(out, client, " error ", name.as_str())?;
     put(out, " ")?;
-    put_text_fault(out, fault)
+    put_fault_at(out, line, column, word)
 }
 
 /// Puts the line of a body that went wrong.

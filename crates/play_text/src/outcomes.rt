@@ -1,14 +1,16 @@
 // The parts of a line that have several forms: an outcome, a fault, a value, a fate.
 ghost use Rattle.std.specs.Prelude.{◌≡◌, ◌++◌, OnOk};
 ghost use Rattle.play_text.specs.Texts.{after_space};
-ghost use Rattle.play_text.specs.Lines.{text_fault, edit_text, remove_text, result_text, abort_text, eval_fault, slot_text, fate_text, instance_text, handled_text};
+ghost use Rattle.play_text.specs.Lines.{fault_at, text_fault, edit_text, remove_text, result_text, abort_text, eval_fault, slot_text, fate_text, instance_text, handled_text};
 
 use crate::pieces::{
     put, put_escaped, put_number, put_quoted, put_signed, put_spaced, put_spaced_number,
 };
 use crate::word_texts::{fault_str, refusal_str, status_str};
-use hmr_types::{EvalFault, ModName, Slot, Text, TextFault, Value, Ver};
-use output_lines::{AbortWord, EditWord, Handled, InstanceFate, InstanceStatus, RemoveWord, SettleWord};
+use hmr_types::{EvalFault, FaultWord, ModName, Slot, Text, TextFault, Value, Ver};
+use output_lines::{
+    AbortWord, EditWord, Handled, InstanceFate, InstanceStatus, RemoveWord, SettleWord,
+};
 use std::alloc::AllocError;
 
 /// Puts what an instance is, and what became of it.
@@ -77,10 +79,22 @@ pub fn put_result(out: &mut Vec<u8>, outcome: &SettleWord) -> Result<(), AllocEr
 pub fn put_text_fault(out: &mut Vec<u8>, fault: &TextFault) -> Result<(), AllocError>
     ensures { OnOk result (out.new.items ≡ out.old.items ++ text_fault fault.now) }
 {
-    put_number(out, u64::from(fault.line))?;
+    put_fault_at(out, u64::from(fault.line), u64::from(fault.col), fault.word)
+}
+
+/// Puts a line and a column, and the word of the fault there.
+pub fn put_fault_at(
+    out: &mut Vec<u8>,
+    line: u64,
+    column: u64,
+    word: FaultWord,
+) -> Result<(), AllocError>
+    ensures { OnOk result (out.new.items ≡ out.old.items ++ fault_at line column word) }
+{
+    put_number(out, line)?;
     put(out, ":")?;
-    put_number(out, u64::from(fault.col))?;
-    put_spaced(out, fault_str(fault.word))
+    put_number(out, column)?;
+    put_spaced(out, fault_str(word))
 }
 
 /// Puts why a plan was aborted.

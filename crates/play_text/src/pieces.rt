@@ -3,8 +3,8 @@
 ghost use Rattle.std.specs.Prelude.{◌≡◌, ◌++◌, OnOk, decimal};
 ghost use Rattle.std.specs.List.{flat_map};
 ghost use Rattle.std.specs.Fmt.{signed_decimal};
-ghost use Rattle.play_script.specs.Texts.{spaced, spaced_number};
-ghost use Rattle.play_text.specs.Texts.{names_text, of_client, escaped, quoted, quoted_byte};
+ghost use Rattle.play_script.specs.Texts.{names_text, spaced, spaced_number};
+ghost use Rattle.play_text.specs.Texts.{of_client, escaped, quoted, quoted_byte};
 
 use hmr_types::ModName;
 use std::alloc::AllocError;

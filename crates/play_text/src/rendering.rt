@@ -3,10 +3,10 @@ ghost use Rattle.std.specs.Prelude.{◌≡◌, ◌++◌, IfOk, OnOk};
 ghost use Rattle.play_text.specs.Lines.{line_text, body_text};
 
 use crate::line_forms::{
-    put_aborted_line, put_accept_line, put_client_line, put_counted, put_edit_line, put_error_line,
-    put_fault_line, put_handler_line, put_instance_line, put_module, put_nohost_line,
-    put_of_message, put_of_names, put_of_text, put_pair, put_reload_line, put_remove_line,
-    put_settle_line, put_triple, put_value_line, put_worded,
+    put_aborted_line, put_accept_line, put_batch_line, put_client_line, put_counted, put_edit_line,
+    put_error_line, put_fault_line, put_handler_line, put_instance_line, put_module,
+    put_nohost_line, put_of_message, put_of_names, put_of_text, put_pair, put_reload_line,
+    put_remove_line, put_settle_line, put_triple, put_value_line, put_worded,
 };
 use crate::pieces::put;
 use crate::word_texts::{ending_str, plan_str};
@@ -40,6 +40,7 @@ fn put_body(out: &mut Vec<u8>, line: &OutLine) -> Result<(), AllocError>
         } => put_settle_line(out, name, *version, outcome),
         OutLine::Open { client } => put_counted(out, "open ", *client),
         OutLine::OpenRefused => put(out, "open refused"),
+        OutLine::OpenBadRoots => put(out, "open bad-roots"),
         OutLine::Close { client } => put_counted(out, "close ", *client),
         OutLine::Unknown { client } => put_counted(out, "unknown ", *client),
         OutLine::Applied { client, plan } => put_of_text(out, *client, " ", plan_str(*plan)),
@@ -48,6 +49,11 @@ fn put_body(out: &mut Vec<u8>, line: &OutLine) -> Result<(), AllocError>
             cause,
             path,
         } => put_reload_line(out, *client, *cause, path.as_slice()),
+        OutLine::Batch {
+            client,
+            batch,
+            triggered,
+        } => put_batch_line(out, *client, *batch, triggered.as_slice()),
         OutLine::Update { client, replaced } => put_of_names(
             out,
             *client,
@@ -64,8 +70,10 @@ fn put_body(out: &mut Vec<u8>, line: &OutLine) -> Result<(), AllocError>
         OutLine::Error {
             client,
             name,
-            fault,
-        } => put_error_line(out, *client, name, fault),
+            line,
+            column,
+            word,
+        } => put_error_line(out, *client, name, *line, *column, *word),
         OutLine::Wait { client, name } => put_of_text(out, *client, " wait ", name.as_str()),
         OutLine::Log { client, name, text } => put_of_message(out, *client, " log ", name, text),
         OutLine::Fault {
@@ -109,6 +117,7 @@ fn put_body(out: &mut Vec<u8>, line: &OutLine) -> Result<(), AllocError>
         } => put_instance_line(out, *number, name, *version, *status, fate),
         OutLine::Handler { kind, handled, end } => put_handler_line(out, *kind, handled, *end),
         OutLine::Fresh => put(out, "fresh"),
+        OutLine::FreshOf { client } => put_counted(out, "fresh ", *client),
         OutLine::Missing { name } => put_worded(out, "missing ", name.as_str()),
         OutLine::Unlinked {
             importer,

@@ -1,5 +1,5 @@
 use Rattle.std.proofs.Common.{◌≡◌, ◌++◌, drop}
-use Rattle.play_text.specs.Texts.{names_text}
+use Rattle.play_script.specs.Texts.{names_text}
 use Rattle.play_text.proofs.pieces.put_names.Given as goal
 
 -- what is written, and the text of the names that are left, is the whole
