@@ -13,3 +13,4 @@ pub mod Settling
 pub mod Batches
 pub mod Replying
 pub mod Trying
+pub mod Refusing

@@ -7,3 +7,4 @@ pub mod Settled
 pub mod Batch
 pub mod Examples
 pub mod Reloading
+pub mod Refusing

@@ -1,24 +1,26 @@
 // Laws of the core, for every list of events.
-ghost use Rattle.std.specs.Prelude.{◌≡◌, ◌↔◌, ℕ, ◌==◌, true, false, List, [], ◌∷◌, Some, None, is_some, IfSome};
+ghost use Rattle.std.specs.Prelude.{◌≡◌, ◌↔◌, ℕ, ◌==◌, true, false, List, [], ◌∷◌, Option, Some, None, is_some, IfSome};
 ghost use Rattle.hmr_types.specs.declared.analysis.Analysis.{Analysis};
 ghost use Rattle.hmr_types.specs.declared.analysis.Outcome.{Outcome};
 ghost use Rattle.hmr_types.specs.declared.words.ReloadCause.{ReloadCause};
 ghost use Rattle.update_msgs.specs.declared.message.ServerMsg.TheVariants as msg;
 ghost use Rattle.core_model.specs.Sent.{IsReloadSent};
 ghost use Rattle.core_model.specs.Names.{Name, at};
-ghost use Rattle.core_model.specs.Sources.{Sources, Text, Change, serve, result_answer, sources_after};
+ghost use Rattle.core_model.specs.Sources.{Sources, Text, Change, edit, same, serve, late, result_answer, sources_after};
+ghost use Rattle.core_model.specs.Sources as sources;
 ghost use Rattle.core_model.specs.FreshLoad.{Served};
 ghost use Rattle.core_model.specs.Spread.{IsReloadWanted, reason_of, cause_of};
 ghost use Rattle.core_model.specs.View.{View, differs, declines};
 ghost use Rattle.core_model.specs.Page.{Plan};
 ghost use Rattle.core_model.specs.Client.{Client, triggered, next_batch};
-ghost use Rattle.core_model.specs.Requests.{Request, ask, heard, to_client};
-ghost use Rattle.core_model.specs.Core.{Core, Event, connect, request, disconnect, client_at, told_of, changes_of, step, core_after, replay, replies};
+ghost use Rattle.core_model.specs.Requests.{Request, ask, heard, edited, settled, to_client};
+ghost use Rattle.core_model.specs.Core.{Core, Event, change, connect, request, disconnect, client_at, told_of, changes_of, step, core_after, replay, replies};
 ghost use Rattle.core_laws.specs.Given.{given};
 ghost use Rattle.core_laws.specs.Written.{written, IsWritten, IsServedWritten};
 ghost use Rattle.core_laws.specs.Facts.{SourcesFacts, ClientFacts, IsClosed, IsServed, SamePage};
 ghost use Rattle.core_laws.specs.Fresh.{IsUpToDate, IsFreshLoad};
 ghost use Rattle.core_laws.specs.Reloading.{IsFullReload, IsReloadDue};
+ghost use Rattle.core_laws.specs.Refusing.{is_refusal};
 ghost use Rattle.core_laws.specs.Settled.{AllAreGood, of_source, of_serving};
 ghost use Rattle.core_laws.specs.Batch.{Turn, IsBatch, changed_by};
 ghost use Rattle.core_laws.specs.Isolated.{AreNumbered, concerns, without_others, replies_without_others};
@@ -116,4 +118,16 @@ pub fn good_sources_are_served()
 pub fn batch_wants_no_reload()
     ensures wanted { (roots : List Name) (served : Served) (view : View) (turns : List Turn) → IsClosed roots view → ((n : Name) → IsServed (at view n) (at served n)) → ((n : Name) → declines view n ≡ false) → IsBatch roots served view turns → IsReloadWanted view roots (changed_by turns) [] → ⊥ }
     ensures computed { (roots : List Name) (served : Served) (view : View) (turns : List Turn) → IsClosed roots view → ((n : Name) → IsServed (at view n) (at served n)) → ((n : Name) → declines view n ≡ false) → IsBatch roots served view turns → reason_of view roots (changed_by turns) [] ≡ None }
+{}
+
+/// A refused event changes nothing in the core, whatever was refused: an edit, a client that comes, a
+/// request, or a client that goes. Nor does an edit that brings the text that is there, or a late result.
+pub fn refused_event_changes_nothing()
+    ensures refused { (roots : List Name) (core : Core) (event : Event) →
+        is_refusal (step roots core event).1 ≡ true → (step roots core event).0 ≡ core }
+    ensures same { (roots : List Name) (core : Core) (n : Name) (t : Option Text) →
+        (step roots core (change (edit n t))).1 ≡ edited same → (step roots core (change (edit n t))).0 ≡ core }
+    ensures late { (roots : List Name) (core : Core) (n : Name) (t : Text) (o : Outcome) (v : ℕ) →
+        (step roots core (change (sources.result n t o v))).1 ≡ settled late →
+        (step roots core (change (sources.result n t o v))).0 ≡ core }
 {}
