@@ -11,3 +11,5 @@ pub mod Replaying
 pub mod Clients
 pub mod Sending
 pub mod Rising
+pub mod Listing
+pub mod Membering

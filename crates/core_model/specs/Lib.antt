@@ -16,3 +16,5 @@ pub mod Transcript
 pub mod Examples
 pub mod Exchange
 pub mod Sent
+pub mod Ordered
+pub mod Members

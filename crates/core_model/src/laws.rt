@@ -5,16 +5,18 @@ ghost use Rattle.core_model.specs.Paths.{Reaches};
 ghost use Rattle.core_model.specs.Rounds.{IsOver, reached_of};
 ghost use Rattle.core_model.specs.View.{View, imports, IsDropped, dropped_of, table_of};
 ghost use Rattle.core_model.specs.Spread.{IsReason, reason_of, IsReloadWanted, IsReplaced, replaced_of, AreIn, IsPair, pairs_of};
-ghost use Rattle.core_model.specs.Page.{Plan, new_plan, plan_imports, met_of, new_entry, new_view};
+ghost use Rattle.core_model.specs.Page.{Plan, new_plan, plan_imports, met_of, unfetched_of, new_entry, new_view};
 ghost use Rattle.hmr_types.specs.Table.{rises};
 ghost use Rattle.core_model.specs.FreshLoad as fresh;
-ghost use Rattle.core_model.specs.FreshLoad.{Served, reached_by, version_in, fresh_table};
-ghost use Rattle.core_model.specs.Sources.{Sources, sources_after};
+ghost use Rattle.core_model.specs.FreshLoad.{Served, reached_by, version_in, fresh_table, missing_of, unlinked_of};
+ghost use Rattle.core_model.specs.Sources.{Sources, Text, sources_after};
 ghost use Rattle.core_model.specs.Client.{Client};
 ghost use Rattle.core_model.specs.Asking.{ask_row, reload};
 ghost use Rattle.core_model.specs.Sent.{IsReloadSent};
 ghost use Rattle.core_model.specs.Core.{Event, step, core_after, replay, changes_of};
 ghost use Rattle.hmr_types.specs.declared.words.PlanKind.TheVariants.{Update};
+ghost use Rattle.core_model.specs.Ordered.{IsBelow, IsPairBelow, IsTripleBelow, Rises};
+ghost use Rattle.core_model.specs.Members.{IsMissing, IsUnlinked, IsUnfetched};
 ghost use Rattle.core_model.specs.LeastPath.{IsLeastPath, least_path_of};
 
 /// As many rounds as there are names give exactly what some list of names reaches by edges.
@@ -109,4 +111,33 @@ pub fn lists_of_names_rise()
     ensures dropped { (view : View) (roots : List Name) → rising (dropped_of view roots) ≡ true }
     ensures replaced { (view : View) (changed forced : List Name) → rising (replaced_of view changed forced) ≡ true }
     ensures fresh { (served : Served) (roots : List Name) → rising (names_of (fresh_table served roots)) ≡ true }
+{}
+
+/// The computed missing names are those that imports reach and that aren't served, rising by bytes.
+pub fn missing_is_computed()
+    ensures members { (served : Served) (roots : List Name) (n : Name) →
+        Contains (missing_of served roots) n ↔ IsMissing served roots n }
+    ensures order { (served : Served) (roots : List Name) → Rises IsBelow (missing_of served roots) }
+{}
+
+/// The computed unlinked imports are those of reached modules from served ones that don't export them,
+/// rising by importer, then by dependency, then by what is imported.
+pub fn unlinked_is_computed()
+    ensures members { (links : Name → Text → List (Name × Name)) (served : Served) (roots : List Name) →
+        (n m x : Name) → Contains (unlinked_of links served roots) (n, m, x) ↔ IsUnlinked links served roots n m x }
+    ensures order { (links : Name → Text → List (Name × Name)) (served : Served) (roots : List Name) →
+        Rises IsTripleBelow (unlinked_of links served roots) }
+{}
+
+/// The computed names that a plan has to fetch are those that its walk meets and that have no entry,
+/// rising by bytes.
+pub fn unfetched_is_computed()
+    ensures members { (roots : List Name) (p : Plan) (view : View) (n : Name) →
+        Contains (unfetched_of roots p view) n ↔ IsUnfetched roots p view n }
+    ensures order { (roots : List Name) (p : Plan) (view : View) → Rises IsBelow (unfetched_of roots p view) }
+{}
+
+/// The computed pairs rise by boundary, and then by the module that it is told of.
+pub fn pairs_rise()
+    ensures { (view : View) (replaced forced : List Name) → Rises IsPairBelow (pairs_of view replaced forced) }
 {}
