@@ -14,3 +14,5 @@ pub mod Batches
 pub mod Replying
 pub mod Trying
 pub mod Refusing
+pub mod Idling
+pub mod Applying

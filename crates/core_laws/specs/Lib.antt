@@ -8,3 +8,4 @@ pub mod Batch
 pub mod Examples
 pub mod Reloading
 pub mod Refusing
+pub mod Answering

@@ -13,7 +13,7 @@ ghost use Rattle.core_model.specs.Spread.{IsReloadWanted, reason_of, cause_of};
 ghost use Rattle.core_model.specs.View.{View, differs, declines};
 ghost use Rattle.core_model.specs.Page.{Plan};
 ghost use Rattle.core_model.specs.Client.{Client, triggered, next_batch};
-ghost use Rattle.core_model.specs.Requests.{Request, ask, heard, edited, settled, to_client};
+ghost use Rattle.core_model.specs.Requests.{Request, ask, applied_as, heard, edited, settled, to_client};
 ghost use Rattle.core_model.specs.Core.{Core, Event, change, connect, request, disconnect, client_at, told_of, changes_of, step, core_after, replay, replies};
 ghost use Rattle.core_laws.specs.Given.{given};
 ghost use Rattle.core_laws.specs.Written.{written, IsWritten, IsServedWritten};
@@ -21,6 +21,7 @@ ghost use Rattle.core_laws.specs.Facts.{SourcesFacts, ClientFacts, IsClosed, IsS
 ghost use Rattle.core_laws.specs.Fresh.{IsUpToDate, IsFreshLoad};
 ghost use Rattle.core_laws.specs.Reloading.{IsFullReload, IsReloadDue};
 ghost use Rattle.core_laws.specs.Refusing.{is_refusal};
+ghost use Rattle.core_laws.specs.Answering.{IsIdle, IsApplied};
 ghost use Rattle.core_laws.specs.Settled.{AllAreGood, of_source, of_serving};
 ghost use Rattle.core_laws.specs.Batch.{Turn, IsBatch, changed_by};
 ghost use Rattle.core_laws.specs.Isolated.{AreNumbered, concerns, without_others, replies_without_others};
@@ -130,4 +131,22 @@ pub fn refused_event_changes_nothing()
     ensures late { (roots : List Name) (core : Core) (n : Name) (t : Text) (o : Outcome) (v : ℕ) →
         (step roots core (change (sources.result n t o v))).1 ≡ settled late →
         (step roots core (change (sources.result n t o v))).0 ≡ core }
+{}
+
+/// After every list of events an Ask of a connected client is answered Idle exactly where no plan is
+/// under way and no notice waits, and the client is held with nothing to prune, or its page is up to date
+/// and none of its modules was invalidated.
+pub fn idle_is_answered_exactly()
+    ensures { (roots : List Name) (past : List Event) (i : ℕ) (c : Client) →
+        client_at (core_after roots past).clients i ≡ Some c →
+        ((step roots (core_after roots past) (request i ask)).1 ≡ to_client msg.Idle) ↔
+        IsIdle (core_after roots past).sources c }
+{}
+
+/// An Applied of a connected client is answered Done exactly where a plan is under way, nothing is left to
+/// fetch for it, and the table told has at each name the version of the view that the plan makes.
+pub fn done_is_answered_exactly()
+    ensures { (roots : List Name) (core : Core) (i : ℕ) (c : Client) (table : List (Name × ℕ)) →
+        client_at core.clients i ≡ Some c →
+        ((step roots core (request i (applied_as table))).1 ≡ to_client msg.Done) ↔ IsApplied c table }
 {}
