@@ -16,3 +16,6 @@ pub mod Trying
 pub mod Refusing
 pub mod Idling
 pub mod Applying
+pub mod Ranges
+pub mod Keeping
+pub mod Messaging

@@ -9,3 +9,4 @@ pub mod Examples
 pub mod Reloading
 pub mod Refusing
 pub mod Answering
+pub mod Ranges

@@ -1,5 +1,5 @@
 // Laws of the core, for every list of events.
-ghost use Rattle.std.specs.Prelude.{◌≡◌, ◌↔◌, ℕ, ◌==◌, true, false, List, [], ◌∷◌, Option, Some, None, is_some, IfSome};
+ghost use Rattle.std.specs.Prelude.{◌≡◌, ◌↔◌, ℕ, ◌==◌, true, false, List, [], ◌∷◌, Option, Some, None, is_some, IfSome, All};
 ghost use Rattle.hmr_types.specs.declared.analysis.Analysis.{Analysis};
 ghost use Rattle.hmr_types.specs.declared.analysis.Outcome.{Outcome};
 ghost use Rattle.hmr_types.specs.declared.words.ReloadCause.{ReloadCause};
@@ -15,6 +15,7 @@ ghost use Rattle.core_model.specs.Page.{Plan};
 ghost use Rattle.core_model.specs.Client.{Client, triggered, next_batch};
 ghost use Rattle.core_model.specs.Requests.{Request, ask, applied_as, heard, edited, settled, to_client};
 ghost use Rattle.core_model.specs.Core.{Core, Event, change, connect, request, disconnect, client_at, told_of, changes_of, step, core_after, replay, replies};
+ghost use Rattle.core_model.specs.Formed.{IsFormed};
 ghost use Rattle.core_laws.specs.Given.{given};
 ghost use Rattle.core_laws.specs.Written.{written, IsWritten, IsServedWritten};
 ghost use Rattle.core_laws.specs.Facts.{SourcesFacts, ClientFacts, IsClosed, IsServed, SamePage};
@@ -22,6 +23,7 @@ ghost use Rattle.core_laws.specs.Fresh.{IsUpToDate, IsFreshLoad};
 ghost use Rattle.core_laws.specs.Reloading.{IsFullReload, IsReloadDue};
 ghost use Rattle.core_laws.specs.Refusing.{is_refusal};
 ghost use Rattle.core_laws.specs.Answering.{IsIdle, IsApplied};
+ghost use Rattle.core_laws.specs.Ranges.{CoreFits, IsWritableReply};
 ghost use Rattle.core_laws.specs.Settled.{AllAreGood, of_source, of_serving};
 ghost use Rattle.core_laws.specs.Batch.{Turn, IsBatch, changed_by};
 ghost use Rattle.core_laws.specs.Isolated.{AreNumbered, concerns, without_others, replies_without_others};
@@ -149,4 +151,19 @@ pub fn done_is_answered_exactly()
     ensures { (roots : List Name) (core : Core) (i : ℕ) (c : Client) (table : List (Name × ℕ)) →
         client_at core.clients i ≡ Some c →
         ((step roots core (request i (applied_as table))).1 ≡ to_client msg.Done) ↔ IsApplied c table }
+{}
+
+/// An event that is well formed keeps each number of the core in its range, from any core that has them
+/// there: versions lie in 1 to 2^53 - 1, client numbers in 1 to 4,294,967,295, batches up to 2^53 - 1, and
+/// texts have at most 131,072 bytes. The reply, where it is a message, can then be written in each format:
+/// so it is after every list of such events.
+pub fn messages_can_be_written()
+    ensures kept { (roots : List Name) (core : Core) (event : Event) →
+        CoreFits core → IsFormed event → CoreFits (step roots core event).0 }
+    ensures reply { (roots : List Name) (core : Core) (event : Event) →
+        CoreFits core → IsFormed event → IsWritableReply (step roots core event).1 }
+    ensures always { (roots : List Name) (past : List Event) →
+        All IsFormed past → CoreFits (core_after roots past) }
+    ensures written { (roots : List Name) (past : List Event) (event : Event) →
+        All IsFormed (event ∷ past) → IsWritableReply (step roots (core_after roots past) event).1 }
 {}

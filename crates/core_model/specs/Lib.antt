@@ -12,6 +12,7 @@ pub mod Asking
 pub mod Requests
 pub mod Roots
 pub mod Core
+pub mod Formed
 pub mod Transcript
 pub mod Examples
 pub mod Exchange
