@@ -10,3 +10,4 @@ pub mod Reloading
 pub mod Refusing
 pub mod Answering
 pub mod Ranges
+pub mod Kept

@@ -19,6 +19,7 @@ ghost use Rattle.core_model.specs.Formed.{IsFormed};
 ghost use Rattle.core_laws.specs.Given.{given};
 ghost use Rattle.core_laws.specs.Written.{written, IsWritten, IsServedWritten};
 ghost use Rattle.core_laws.specs.Facts.{SourcesFacts, ClientFacts, IsClosed, IsServed, SamePage};
+ghost use Rattle.core_laws.specs.Kept.{CoreFacts, TextFacts, given_by, written_after};
 ghost use Rattle.core_laws.specs.Fresh.{IsUpToDate, IsFreshLoad};
 ghost use Rattle.core_laws.specs.Reloading.{IsFullReload, IsReloadDue};
 ghost use Rattle.core_laws.specs.Refusing.{is_refusal};
@@ -28,7 +29,7 @@ ghost use Rattle.core_laws.specs.Settled.{AllAreGood, of_source, of_serving};
 ghost use Rattle.core_laws.specs.Batch.{Turn, IsBatch, changed_by};
 ghost use Rattle.core_laws.specs.Isolated.{AreNumbered, concerns, without_others, replies_without_others};
 
-/// Every list of events keeps the facts. Of the sources: each is of a counted edit, and is served where
+/// Each event keeps the facts, from any core that has them, and so does every list of events. Of the sources: each is of a counted edit, and is served where
 /// its result was good. Of each connected client: a loaded page holds every root and every import of
 /// its modules, and one that isn't loaded is empty; each module has the analysis that its version was
 /// served with; a forced module accepts itself; a load is of a page that isn't loaded, a reload or an
@@ -36,8 +37,12 @@ ghost use Rattle.core_laws.specs.Isolated.{AreNumbered, concerns, without_others
 /// to; and where nothing was served or removed since a plan began, all that it fetched is what is
 /// served, and all that it keeps.
 pub fn facts_are_kept()
+    ensures step { (roots : List Name) (by : Name → ℕ → Option Analysis) (core : Core) (event : Event) →
+        CoreFacts by core → CoreFacts (given_by core by event) (step roots core event).0 }
     ensures sources { (past : List Change) → SourcesFacts (given past) (sources_after past) }
-    ensures clients { (roots : List Name) (past : List Event) (i : ℕ) → IfSome (client_at (core_after roots past).clients i) (ClientFacts (given (changes_of past)) (core_after roots past).sources) }
+    ensures clients { (roots : List Name) (past : List Event) (i : ℕ) →
+        IfSome (client_at (core_after roots past).clients i)
+        (ClientFacts (given (changes_of past)) (core_after roots past).sources) }
 {}
 
 /// A version of a module is served once at most, and the analysis that it was served with stays known.
@@ -49,6 +54,8 @@ pub fn version_is_served_once()
 /// The current source of a name, and what is served of it, each has the text of the edit of that name
 /// that was counted as its version; and the text of a version stays known.
 pub fn a_version_is_one_text()
+    ensures step { (by : Name → ℕ → Option Text) (s : Sources) (ch : Change) →
+        TextFacts by s → TextFacts (written_after s by ch) (sources.changed_by s ch) }
     ensures current { (past : List Change) (n : Name) → IsWritten (written past n) (at (sources_after past).current n) }
     ensures served { (past : List Change) (n : Name) → IsServedWritten (written past n) (at (sources_after past).served n) }
     ensures stays { (past : List Change) (ch : Change) (n : Name) (v : ℕ) (t : Text) → written past n v ≡ Some t → written (ch ∷ past) n v ≡ Some t }
@@ -86,7 +93,9 @@ pub fn full_reload_is_answered_exactly()
 
 /// Each connected client has one record, under a number that was given.
 pub fn clients_are_numbered()
-    ensures { (roots : List Name) (past : List Event) → AreNumbered (core_after roots past) }
+    ensures step { (roots : List Name) (core : Core) (event : Event) →
+        AreNumbered core → AreNumbered (step roots core event).0 }
+    ensures always { (roots : List Name) (past : List Event) → AreNumbered (core_after roots past) }
 {}
 
 /// A request of one client leaves the record of every other client as it was; and so does a client
