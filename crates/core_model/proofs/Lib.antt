@@ -13,3 +13,4 @@ pub mod Sending
 pub mod Rising
 pub mod Listing
 pub mod Membering
+pub mod LookingBack

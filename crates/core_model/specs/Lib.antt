@@ -19,3 +19,4 @@ pub mod Exchange
 pub mod Sent
 pub mod Ordered
 pub mod Members
+pub mod LookBack

@@ -9,12 +9,13 @@ ghost use Rattle.core_model.specs.Page.{Plan, new_plan, plan_imports, met_of, un
 ghost use Rattle.hmr_types.specs.Table.{rises};
 ghost use Rattle.core_model.specs.FreshLoad as fresh;
 ghost use Rattle.core_model.specs.FreshLoad.{Served, reached_by, version_in, fresh_table, missing_of, unlinked_of};
-ghost use Rattle.core_model.specs.Sources.{Sources, Text, sources_after};
+ghost use Rattle.core_model.specs.Sources.{Sources, Text, Change, sources_after};
 ghost use Rattle.core_model.specs.Client.{Client};
 ghost use Rattle.core_model.specs.Asking.{ask_row, reload};
 ghost use Rattle.core_model.specs.Sent.{IsReloadSent};
 ghost use Rattle.core_model.specs.Core.{Event, step, core_after, replay, changes_of};
 ghost use Rattle.hmr_types.specs.declared.words.PlanKind.TheVariants.{Update};
+ghost use Rattle.core_model.specs.LookBack.{counted_edits, last_edit, last_good, source_edit};
 ghost use Rattle.core_model.specs.Ordered.{IsBelow, IsPairBelow, IsTripleBelow, Rises};
 ghost use Rattle.core_model.specs.Members.{IsMissing, IsUnlinked, IsUnfetched};
 ghost use Rattle.core_model.specs.LeastPath.{IsLeastPath, least_path_of};
@@ -140,4 +141,14 @@ pub fn unfetched_is_computed()
 /// The computed pairs rise by boundary, and then by the module that it is told of.
 pub fn pairs_rise()
     ensures { (view : View) (replaced forced : List Name) → Rises IsPairBelow (pairs_of view replaced forced) }
+{}
+
+/// The sources have what a look back at the edits and results gives: how many edits were counted; of each
+/// name the last counted edit, as its current source; and the last good result with no removal after it,
+/// as what is served.
+pub fn sources_look_back()
+    ensures counted { (past : List Change) → (sources_after past).counted ≡ counted_edits past }
+    ensures current { (past : List Change) (n : Name) →
+        source_edit (at (sources_after past).current n) ≡ last_edit past n }
+    ensures served { (past : List Change) (n : Name) → at (sources_after past).served n ≡ last_good past n }
 {}
