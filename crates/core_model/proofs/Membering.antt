@@ -1,19 +1,19 @@
 -- What is missing, unlinked and unfetched, and that these lists rise; and so do the pairs.
-use Rattle.std.proofs.Common.{◌≡◌, ◌↔◌, ◌⊎◌, inl, inr, Bool, true, false, List, [], ◌∷◌, map, refl, ap, sym, ◌∙◌, Contains}
+use Rattle.std.proofs.Common.{◌≡◌, ◌↔◌, ◌⊎◌, inl, inr, ℕ, Bool, true, false, List, [], ◌∷◌, map, refl, ap, sym, ◌∙◌, Contains}
 use Rattle.std.specs.Prelude.{filter, cond, flat_map, not, ◌&&◌, Option, Some, None, is_some}
 use Prim.{⊥}
 use Rattle.std.proofs.Math.Path.{subst}
 use Rattle.std.proofs.lemmas.Bool.{false≢true}
-use Rattle.core_model.specs.Names.{Name, same_name, has, at, names_of, sorted}
+use Rattle.core_model.specs.Names.{Name, same_name, has, at, names_of, sorted, with_entry, collect}
 use Rattle.core_model.specs.Paths.{Reaches}
 use Rattle.core_model.specs.Rounds.{reached_of}
 use Rattle.core_model.specs.Sources.{Text, Serving}
-use Rattle.core_model.specs.FreshLoad.{Served, imports, imported_of, reached_by, missing_of, linked_from, unlinked_edge, unlinked_module, unlinked_of}
+use Rattle.core_model.specs.FreshLoad.{Served, imports, imported_of, reached_by, version_in, fresh_table, missing_of, linked_from, unlinked_edge, unlinked_module, unlinked_of}
 use Rattle.core_model.specs.View.{View}
 use Rattle.core_model.specs.Spread.{is_pair, pairs_with, pairs_of}
 use Rattle.core_model.specs.Page.{Plan, plan_imports, entry_at, met_of, unfetched_of}
 use Rattle.core_model.specs.Ordered.{IsBelow, IsPairBelow, IsTripleBelow, Rises}
-use Rattle.core_model.specs.Members.{IsMissing, IsUnlinked, IsUnfetched}
+use Rattle.core_model.specs.Members.{IsLoaded, IsMissing, IsUnlinked, IsUnfetched}
 use Rattle.core_model.proofs.Naming.{same_true, true_same, has_is, has_cases, head_has, tail_has, not_true, not_from, filtered_from, filtered_in, sorted_has}
 use Rattle.core_model.proofs.Rising.{sorted_rises}
 use Rattle.core_model.proofs.Loading.{reached_is}
@@ -58,20 +58,20 @@ module _ (view : View) (replaced forced : List Name) where
   abbrev test : Name → Name → Bool
   test = is_pair view replaced forced
 
-  abbrev names : List Name
-  names = sorted (names_of view)
+  abbrev listed : List Name
+  listed = sorted (names_of view)
 
-  of_one : (m : Name) → Rises IsPairBelow (pairs_with test names m)
-  of_one m = made_rise IsBelow IsPairBelow (λ n. (m, n)) (λ a b h. inr (refl, h)) (filter (test m) names) (kept_rise (test m) names (sorted_rise (names_of view)))
+  of_one : (m : Name) → Rises IsPairBelow (pairs_with test listed m)
+  of_one m = made_rise IsBelow IsPairBelow (λ n. (m, n)) (λ a b h. inr (refl, h)) (filter (test m) listed) (kept_rise (test m) listed (sorted_rise (names_of view)))
 
-  of_two : (m k : Name) (p q : Name × Name) → IsBelow m k → Contains (pairs_with test names m) p → Contains (pairs_with test names k) q → IsPairBelow p q
+  of_two : (m k : Name) (p q : Name × Name) → IsBelow m k → Contains (pairs_with test listed m) p → Contains (pairs_with test listed k) q → IsPairBelow p q
   of_two m k p q h c d =
-      let a = made (λ n. (m, n)) (filter (test m) names) p c in
-      let b = made (λ n. (k, n)) (filter (test k) names) q d in
+      let a = made (λ n. (m, n)) (filter (test m) listed) p c in
+      let b = made (λ n. (k, n)) (filter (test k) listed) q d in
       inl (subst (λ x. IsBelow x q.0) (ap (λ (x : Name × Name). x.0) a.is) (subst (IsBelow m) (ap (λ (x : Name × Name). x.0) b.is) h))
 
   pub pairs_rise : Rises IsPairBelow (pairs_of view replaced forced)
-  pairs_rise = all_rise IsBelow IsPairBelow (pairs_with test names) of_one of_two names (sorted_rise (names_of view))
+  pairs_rise = all_rise IsBelow IsPairBelow (pairs_with test listed) of_one of_two listed (sorted_rise (names_of view))
 
 -- Unlinked imports.
 
@@ -208,3 +208,45 @@ module _ (links : Name → Text → List (Name × Name)) (served : Served) (root
 
   pub unlinked_rise : Rises IsTripleBelow (unlinked_of links served roots)
   unlinked_rise = all_rise IsBelow IsTripleBelow modules (λ n. module_rise links served n (at served n)) apart (reached_by served roots) (names_rise (reached_by served roots) (sorted_rises (reached_of (imports served) (imported_of served) roots)))
+
+-- The fresh load's table.
+
+module _ {X : Type 0} (get : Name → Option X) where
+  abbrev IsGot : List Name → Name → X → Type 0
+  IsGot names n x = (has names n ≡ true) × (get n ≡ Some x)
+
+  got_first : (m : Name) (names : List Name) (n : Name) (x y : X) → get m ≡ Some y → (IsGot names n x → IsGot (m ∷ names) n x) → (◌≡◌ {A = Name × X} (m, y) (n, x)) ⊎ IsGot names n x → IsGot (m ∷ names) n x
+  got_first m names n x y e f (inl q) =
+      let k : m ≡ n = ap (λ (r : Name × X). r.0) q in
+      (ap (λ j. has (j ∷ names) n) k ∙ head_has n names, ap get (sym k) ∙ e ∙ ap (λ (r : Name × X). Some r.1) q)
+  got_first m names n x y e f (inr g) = f g
+
+  got_by : (m : Name) (names : List Name) (n : Name) (x : X) (o : Option X) → get m ≡ o → (Contains (collect get names) (n, x) → IsGot names n x) → Contains (with_entry m o (collect get names)) (n, x) → IsGot (m ∷ names) n x
+  got_by m names n x None e f c = let g = f c in (tail_has m names n g.0, g.1)
+  got_by m names n x (Some y) e f c = got_first m names n x y e (λ g. (tail_has m names n g.0, g.1)) (by (in_cases (m, y) (collect get names) (n, x) c))
+    where
+      by : (◌≡◌ {A = Name × X} (m, y) (n, x)) ⊎ Contains (collect get names) (n, x) → (◌≡◌ {A = Name × X} (m, y) (n, x)) ⊎ IsGot names n x
+      by (inl q) = inl q
+      by (inr d) = inr (f d)
+
+  got : (names : List Name) (n : Name) (x : X) → Contains (collect get names) (n, x) → IsGot names n x
+  got [] n x c = none_in (n, x) c
+  got (m ∷ names) n x c = got_by m names n x (get m) refl (got names n x) c
+
+  entry_kept : (m : Name) (o : Option X) (rows : List (Name × X)) (row : Name × X) → Contains rows row → Contains (with_entry m o rows) row
+  entry_kept m None rows row c = c
+  entry_kept m (Some y) rows row c = later_in (m, y) rows row c
+
+  gets_by : (m : Name) (names : List Name) (n : Name) (x : X) → get n ≡ Some x → (has names n ≡ true → Contains (collect get names) (n, x)) → (m ≡ n) ⊎ (has names n ≡ true) → Contains (collect get (m ∷ names)) (n, x)
+  gets_by m names n x e f (inl q) = subst (λ k. Contains (with_entry k (get k) (collect get names)) (n, x)) (sym q) (subst (λ o. Contains (with_entry n o (collect get names)) (n, x)) (sym e) (first_in (n, x) (collect get names)))
+  gets_by m names n x e f (inr h) = entry_kept m (get m) (collect get names) (n, x) (f h)
+
+  gets : (names : List Name) (n : Name) (x : X) → get n ≡ Some x → has names n ≡ true → Contains (collect get names) (n, x)
+  gets [] n x e h = absurd (false≢true h)
+  gets (m ∷ names) n x e h = gets_by m names n x e (gets names n x e) (has_cases m names n h)
+
+pub loaded_is : (served : Served) (roots : List Name) (n : Name) (v : ℕ) → Contains (fresh_table served roots) (n, v) ↔ IsLoaded served roots n v
+loaded_is served roots n v = (
+  (λ c. let g = got (λ k. version_in (at served k)) (reached_by served roots) n v c in record { reached = (reached_is served roots n).0 g.0; version = g.1 }),
+  (λ h. gets (λ k. version_in (at served k)) (reached_by served roots) n v h.version ((reached_is served roots n).1 h.reached)),
+)

@@ -1,11 +1,11 @@
 -- What the computed lists of names are of: missing and unlinked modules of a fresh load, and what a plan
 -- still has to fetch.
-use Rattle.std.specs.Prelude.{◌≡◌, List, None, Option, Some, Contains}
+use Rattle.std.specs.Prelude.{◌≡◌, ℕ, List, None, Option, Some, Contains}
 use Prim.{⊥}
 use Rattle.core_model.specs.Names.{Name, at}
 use Rattle.core_model.specs.Paths.{Reaches}
 use Rattle.core_model.specs.Sources.{Text, Serving}
-use Rattle.core_model.specs.FreshLoad.{Served, imports}
+use Rattle.core_model.specs.FreshLoad.{Served, imports, version_in}
 use Rattle.core_model.specs.View.{View}
 use Rattle.core_model.specs.Page.{Plan, plan_imports, entry_at}
 
@@ -29,3 +29,8 @@ pub record IsUnlinked (links : Name → Text → List (Name × Name)) (served : 
 pub record IsUnfetched (roots : List Name) (p : Plan) (view : View) (n : Name) : Type 0 where
   pub met : Reaches (plan_imports p view) roots n
   pub without : entry_at p view n ≡ None
+
+-- imports of served sources reach n, and v is served of it
+pub record IsLoaded (served : Served) (roots : List Name) (n : Name) (v : ℕ) : Type 0 where
+  pub reached : Reaches (imports served) roots n
+  pub version : version_in (at served n) ≡ Some v

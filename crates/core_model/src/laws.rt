@@ -1,5 +1,5 @@
 // Laws of the definitions: what is computed is what the relations say.
-ghost use Rattle.std.specs.Prelude.{◌≡◌, ◌↔◌, Bool, true, List, [], ◌∷◌, ◌++◌, None, IfSome, IfNone, Contains, if◌then◌else◌};
+ghost use Rattle.std.specs.Prelude.{◌≡◌, ◌↔◌, ℕ, Bool, true, List, [], ◌∷◌, ◌++◌, None, IfSome, IfNone, Contains, if◌then◌else◌};
 ghost use Rattle.core_model.specs.Names.{Name, has, at, names_of, rising};
 ghost use Rattle.core_model.specs.Paths.{Reaches};
 ghost use Rattle.core_model.specs.Rounds.{IsOver, reached_of};
@@ -17,7 +17,7 @@ ghost use Rattle.core_model.specs.Core.{Event, step, core_after, replay, changes
 ghost use Rattle.hmr_types.specs.declared.words.PlanKind.TheVariants.{Update};
 ghost use Rattle.core_model.specs.LookBack.{counted_edits, last_edit, last_good, source_edit};
 ghost use Rattle.core_model.specs.Ordered.{IsBelow, IsPairBelow, IsTripleBelow, Rises};
-ghost use Rattle.core_model.specs.Members.{IsMissing, IsUnlinked, IsUnfetched};
+ghost use Rattle.core_model.specs.Members.{IsLoaded, IsMissing, IsUnlinked, IsUnfetched};
 ghost use Rattle.core_model.specs.LeastPath.{IsLeastPath, least_path_of};
 
 /// As many rounds as there are names give exactly what some list of names reaches by edges.
@@ -83,8 +83,12 @@ pub fn empty_update_changes_nothing()
 /// A fresh load has exactly what imports of served sources reach from the roots, each at its served
 /// version.
 pub fn fresh_load_is_what_is_reached()
-    ensures reached { (served : Served) (roots : List Name) (m : Name) → (has (reached_by served roots) m ≡ true) ↔ Reaches (fresh.imports served) roots m }
-    ensures table { (served : Served) (roots : List Name) (n : Name) → at (fresh_table served roots) n ≡ (if has (reached_by served roots) n then version_in (at served n) else None) }
+    ensures reached { (served : Served) (roots : List Name) (m : Name) →
+        (has (reached_by served roots) m ≡ true) ↔ Reaches (fresh.imports served) roots m }
+    ensures members { (served : Served) (roots : List Name) (n : Name) (v : ℕ) →
+        Contains (fresh_table served roots) (n, v) ↔ IsLoaded served roots n v }
+    ensures table { (served : Served) (roots : List Name) (n : Name) → at (fresh_table served roots) n ≡
+        (if has (reached_by served roots) n then version_in (at served n) else None) }
 {}
 
 /// The replay of a list with one event more is the step of the replay.
