@@ -19,3 +19,4 @@ pub mod Applying
 pub mod Ranges
 pub mod Keeping
 pub mod Messaging
+pub mod Truth

@@ -67,7 +67,7 @@ module _ (by : Name → ℕ → Option Text) (s : Sources) (n : Name) (facts : T
   edit_texts (refused word) t e = facts
 
   -- a result that isn't late is of what was written
-  abbrev IsOf : ResultAnswer → Text → ℕ → Type 0
+  abbrev pub IsOf : ResultAnswer → Text → ℕ → Type 0
   IsOf (serve a) t v = by n v ≡ Some t
   IsOf (refuse f) t v = by n v ≡ Some t
   IsOf late t v = ⊤
@@ -100,7 +100,7 @@ module _ (by : Name → ℕ → Option Text) (s : Sources) (n : Name) (facts : T
       let f = both_true (x.version == v) (same_name x.text t) (both_true ((x.version == v) && same_name x.text t) (is_outstanding x.verdict) h).0 in
       ap (by n) (sym (eqb-true x.version v f.0)) ∙ w ∙ ap Some (same_true x.text t f.1)
 
-  answer_is : (o : Outcome) (t : Text) (v : ℕ) → IsOf (result_answer s n t o v) t v
+  pub answer_is : (o : Outcome) (t : Text) (v : ℕ) → IsOf (result_answer s n t o v) t v
   answer_is o t v = by_test (is_awaited (at s.current n) t v) (awaited_is (at s.current n) t v (facts.current n)) o
     where
       by_test : (b : Bool) → (b ≡ true → by n v ≡ Some t) → (o : Outcome) → IsOf (if b then answer_of o else late) t v

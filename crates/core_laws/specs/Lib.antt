@@ -11,3 +11,4 @@ pub mod Refusing
 pub mod Answering
 pub mod Ranges
 pub mod Kept
+pub mod Truth

@@ -16,7 +16,9 @@ ghost use Rattle.core_model.specs.Client.{Client, triggered, next_batch};
 ghost use Rattle.core_model.specs.Requests.{Request, ask, applied_as, heard, edited, settled, to_client};
 ghost use Rattle.core_model.specs.Core.{Core, Event, change, connect, request, disconnect, client_at, told_of, changes_of, step, core_after, replay, replies};
 ghost use Rattle.core_model.specs.Formed.{IsFormed};
-ghost use Rattle.core_laws.specs.Given.{given};
+ghost use Rattle.core_model.specs.Transcript.{IsTrueEvent};
+ghost use Rattle.core_laws.specs.Given.{given, entry_of};
+ghost use Rattle.core_laws.specs.Truth.{IsTrueChange, IsOfText, IsTrueEntry};
 ghost use Rattle.core_laws.specs.Written.{written, IsWritten, IsServedWritten};
 ghost use Rattle.core_laws.specs.Facts.{SourcesFacts, ClientFacts, IsClosed, IsServed, SamePage};
 ghost use Rattle.core_laws.specs.Kept.{CoreFacts, TextFacts, given_by, written_after};
@@ -175,4 +177,25 @@ pub fn messages_can_be_written()
         All IsFormed past → CoreFits (core_after roots past) }
     ensures written { (roots : List Name) (past : List Event) (event : Event) →
         All IsFormed (event ∷ past) → IsWritableReply (step roots (core_after roots past) event).1 }
+{}
+
+/// Where each result is what transforming its text gives, the analysis that a version was served with is
+/// that of the text of the counted edit of that version; and so is that of each module that is served,
+/// that stands on a page, or that was fetched for the plan under way.
+pub fn true_results_are_of_the_texts()
+    ensures given { (transformed : Name → Text → Outcome) (past : List Change) →
+        All (IsTrueChange transformed) past → (n : Name) (v : ℕ) (a : Analysis) →
+        given past n v ≡ Some a → IsOfText transformed (written past) n v a }
+    ensures served { (transformed : Name → Text → Outcome) (roots : List Name) (past : List Event) →
+        All (IsTrueEvent transformed) past → (n : Name) →
+        IfSome (entry_of (at (core_after roots past).sources.served n))
+        (IsTrueEntry transformed (written (changes_of past)) n) }
+    ensures view { (transformed : Name → Text → Outcome) (roots : List Name) (past : List Event) →
+        All (IsTrueEvent transformed) past → (i : ℕ) (n : Name) →
+        IfSome (client_at (core_after roots past).clients i)
+        (λ c. IfSome (at c.page.view n) (IsTrueEntry transformed (written (changes_of past)) n)) }
+    ensures staged { (transformed : Name → Text → Outcome) (roots : List Name) (past : List Event) →
+        All (IsTrueEvent transformed) past → (i : ℕ) (n : Name) →
+        IfSome (client_at (core_after roots past).clients i) (λ c. IfSome c.page.plan
+        (λ p. IfSome (at p.staged n) (IsTrueEntry transformed (written (changes_of past)) n))) }
 {}
