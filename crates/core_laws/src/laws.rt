@@ -8,7 +8,6 @@ ghost use Rattle.core_model.specs.Sent.{IsReloadSent};
 ghost use Rattle.core_model.specs.Names.{Name, at};
 ghost use Rattle.core_model.specs.Sources.{Sources, Text, Change, edit, same, serve, late, result_answer, sources_after};
 ghost use Rattle.core_model.specs.Sources as sources;
-ghost use Rattle.core_model.specs.FreshLoad.{Served};
 ghost use Rattle.core_model.specs.Spread.{IsReloadWanted, reason_of, cause_of};
 ghost use Rattle.core_model.specs.View.{View, differs, declines};
 ghost use Rattle.core_model.specs.Page.{Plan};
@@ -28,7 +27,7 @@ ghost use Rattle.core_laws.specs.Refusing.{is_refusal};
 ghost use Rattle.core_laws.specs.Answering.{IsIdle, IsApplied};
 ghost use Rattle.core_laws.specs.Ranges.{CoreFits, IsWritableReply};
 ghost use Rattle.core_laws.specs.Settled.{AllAreGood, of_source, of_serving};
-ghost use Rattle.core_laws.specs.Batch.{Turn, IsBatch, changed_by};
+ghost use Rattle.core_laws.specs.Batch.{Turn, AreCalm, names_changed};
 ghost use Rattle.core_laws.specs.Isolated.{AreNumbered, concerns, without_others, replies_without_others};
 
 /// Each event keeps the facts, from any core that has them, and so does every list of events. Of the sources: each is of a counted edit, and is served where
@@ -127,11 +126,15 @@ pub fn good_sources_are_served()
 {}
 
 /// Changes that are applied one by one, none of which wants a reload, want none when they come all at
-/// once. The view holds each root and each import and is as served, no module of it declines, and
-/// nothing is forced.
+/// once, whatever their updates fetch: where the view holds each root and each import, no module of it
+/// declines, and nothing is forced.
 pub fn batch_wants_no_reload()
-    ensures wanted { (roots : List Name) (served : Served) (view : View) (turns : List Turn) → IsClosed roots view → ((n : Name) → IsServed (at view n) (at served n)) → ((n : Name) → declines view n ≡ false) → IsBatch roots served view turns → IsReloadWanted view roots (changed_by turns) [] → ⊥ }
-    ensures computed { (roots : List Name) (served : Served) (view : View) (turns : List Turn) → IsClosed roots view → ((n : Name) → IsServed (at view n) (at served n)) → ((n : Name) → declines view n ≡ false) → IsBatch roots served view turns → reason_of view roots (changed_by turns) [] ≡ None }
+    ensures wanted { (roots : List Name) (view : View) (turns : List Turn) →
+        IsClosed roots view → ((n : Name) → declines view n ≡ false) → AreCalm roots view turns →
+        IsReloadWanted view roots (names_changed turns) [] → ⊥ }
+    ensures computed { (roots : List Name) (view : View) (turns : List Turn) →
+        IsClosed roots view → ((n : Name) → declines view n ≡ false) → AreCalm roots view turns →
+        reason_of view roots (names_changed turns) [] ≡ None }
 {}
 
 /// A refused event changes nothing in the core, whatever was refused: an edit, a client that comes, a
