@@ -14,3 +14,4 @@ pub mod Rising
 pub mod Listing
 pub mod Membering
 pub mod LookingBack
+pub mod Working

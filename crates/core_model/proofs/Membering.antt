@@ -1,24 +1,23 @@
 -- What is missing, unlinked and unfetched, and that these lists rise; and so do the pairs.
 use Rattle.std.proofs.Common.{◌≡◌, ◌↔◌, ◌⊎◌, inl, inr, ℕ, Bool, true, false, List, [], ◌∷◌, map, refl, ap, sym, ◌∙◌, Contains}
-use Rattle.std.specs.Prelude.{filter, cond, flat_map, not, ◌&&◌, Option, Some, None, is_some}
+use Rattle.std.specs.Prelude.{filter, cond, not, Option, Some, None, is_some}
 use Prim.{⊥}
 use Rattle.std.proofs.Math.Path.{subst}
 use Rattle.std.proofs.lemmas.Bool.{false≢true}
 use Rattle.core_model.specs.Names.{Name, same_name, has, at, names_of, sorted, with_entry, collect}
-use Rattle.core_model.specs.Paths.{Reaches}
 use Rattle.core_model.specs.Rounds.{reached_of}
 use Rattle.core_model.specs.Sources.{Text, Serving}
 use Rattle.core_model.specs.FreshLoad.{Served, imports, imported_of, reached_by, version_in, fresh_table, missing_of, linked_from, unlinked_edge, unlinked_module, unlinked_of}
 use Rattle.core_model.specs.View.{View}
 use Rattle.core_model.specs.Spread.{is_pair, pairs_with, pairs_of}
-use Rattle.core_model.specs.Page.{Plan, plan_imports, entry_at, met_of, unfetched_of}
+use Rattle.core_model.specs.Page.{Plan, entry_at, met_of, unfetched_of}
 use Rattle.core_model.specs.Ordered.{IsBelow, IsPairBelow, IsTripleBelow, Rises}
 use Rattle.core_model.specs.Members.{IsLoaded, IsMissing, IsUnlinked, IsUnfetched}
 use Rattle.core_model.proofs.Naming.{same_true, true_same, has_is, has_cases, head_has, tail_has, not_true, not_from, filtered_from, filtered_in, sorted_has}
 use Rattle.core_model.proofs.Rising.{sorted_rises}
 use Rattle.core_model.proofs.Loading.{reached_is}
 use Rattle.core_model.proofs.Planning.{met_is}
-use Rattle.core_model.proofs.Listing.{first_in, later_in, none_in, in_cases, IsMade, made, makes, IsOfAll, of_all, in_all, names_rise, kept_rise, made_rise, all_rise}
+use Rattle.core_model.proofs.Listing.{first_in, later_in, none_in, in_cases, made, makes, of_all, in_all, names_rise, kept_rise, made_rise, all_rise}
 
 none_is : {X : Type 0} (o : Option X) → is_some o ≡ false → o ≡ None
 none_is None h = refl

@@ -1,6 +1,6 @@
 -- Events as a core can be told them: names are names, tables are tables, versions are versions, and the
 -- place of a fault can be told.
-use Rattle.std.specs.Prelude.{◌≡◌, ℕ, ◌≤◌, true, List, All, ⊤}
+use Rattle.std.specs.Prelude.{◌≡◌, ℕ, ◌≤◌, true, All, ⊤}
 use Rattle.hmr_types.specs.declared.limits.TheConstants.{LARGEST_NUMBER}
 use Rattle.hmr_types.specs.declared.analysis.Analysis.{Analysis}
 use Rattle.hmr_types.specs.declared.analysis.TextFault.{TextFault}

@@ -1,6 +1,6 @@
 -- What the computed lists of names are of: missing and unlinked modules of a fresh load, and what a plan
 -- still has to fetch.
-use Rattle.std.specs.Prelude.{◌≡◌, ℕ, List, None, Option, Some, Contains}
+use Rattle.std.specs.Prelude.{◌≡◌, ℕ, List, None, Some, Contains}
 use Prim.{⊥}
 use Rattle.core_model.specs.Names.{Name, at}
 use Rattle.core_model.specs.Paths.{Reaches}

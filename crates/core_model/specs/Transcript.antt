@@ -1,6 +1,6 @@
 -- A transcript: events in the order in which the core met them, each under the number of the pass that
 -- made it.
-use Rattle.std.specs.Prelude.{◌≡◌, ℕ, ◌+◌, ◌≤◌, Bool, true, not, ◌&&◌, List, [], ◌∷◌, length, sum_by, map, All, ⊤}
+use Rattle.std.specs.Prelude.{◌≡◌, ℕ, ◌+◌, ◌≤◌, List, length, sum_by, map, All, ⊤}
 use Rattle.hmr_types.specs.declared.analysis.Outcome.{Outcome}
 use Rattle.core_model.specs.Names.{Name}
 use Rattle.core_model.specs.Roots.{AreRoots}
