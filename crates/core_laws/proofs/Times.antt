@@ -55,7 +55,7 @@ module _ (view : View) (changed forced : List Name) where
   pub unreplaced_unchanged : (n : Name) → has (replaced_of view changed forced) n ≡ false → has changed n ≡ false
   unreplaced_unchanged n h = else_unchanged n (has changed n) refl h
 
-  reached_by_replaced : (n : Name) → IsReplaced view changed forced n ⊎ Contains forced n → Reaches (passes view forced) (changed ++ forced) n
+  pub reached_by_replaced : (n : Name) → IsReplaced view changed forced n ⊎ Contains forced n → Reaches (passes view forced) (changed ++ forced) n
   reached_by_replaced n (inl (inl c)) = reaches_start (passes view forced) (changed ++ forced) n ((has_is (changed ++ forced) n).1 (has_append changed forced n ∙ or_left _ _ ((has_is changed n).0 c)))
   reached_by_replaced n (inl (inr p)) =
       let b : ReachedBy (passes view forced) (changed ++ forced) n = long_back (passes view forced) (changed ++ forced) p.path n p.is p.long in

@@ -1,19 +1,15 @@
 -- Changes that are applied one by one.
-use Rattle.std.specs.Prelude.{◌≡◌, false, List, [], ◌∷◌, map, ⊤}
+use Rattle.std.specs.Prelude.{List, [], ◌∷◌, map, ⊤}
 use Prim.{⊥}
 use Rattle.hmr_types.specs.declared.words.PlanKind.TheVariants.{Update}
-use Rattle.core_model.specs.Names.{Name, same_name, at, without_all}
-use Rattle.core_model.specs.FreshLoad.{Served}
+use Rattle.core_model.specs.Names.{Name, without_all}
 use Rattle.core_model.specs.View.{View, dropped_of}
 use Rattle.core_model.specs.Spread.{IsReloadWanted, replaced_of}
-use Rattle.core_model.specs.Page.{Plan, unfetched_of, new_view}
-use Rattle.core_laws.specs.Facts.{IsServed}
+use Rattle.core_model.specs.Page.{Plan, new_view}
 
--- one change: the module whose served source changes, what is served from then on, and what the
--- update fetches
+-- one change: the module that changes, and what the update fetches
 pub record Turn : Type 0 where
   pub name : Name
-  pub served : Served
   pub staged : View
 
 -- the update of that change
@@ -28,19 +24,15 @@ updated roots view t = new_view roots (update_of view t) view
 abbrev pub view_after : List Name → View → Turn → View
 view_after roots view t = without_all (dropped_of (updated roots view t) roots) (updated roots view t)
 
--- What is served changes at no other name; the change wants no reload; what was fetched is served, and
--- it is all that the update needs.
-pub record IsTurn (roots : List Name) (served : Served) (view : View) (t : Turn) : Type 0 where
-  pub others : (n : Name) → same_name t.name n ≡ false → at t.served n ≡ at served n
-  pub calm : IsReloadWanted view roots (t.name ∷ []) [] → ⊥
-  pub fetched : (n : Name) → IsServed (at t.staged n) (at t.served n)
-  pub whole : unfetched_of roots (update_of view t) view ≡ []
+-- the change wants no reload
+abbrev pub IsCalm : List Name → View → Turn → Type 0
+IsCalm roots view t = IsReloadWanted view roots (t.name ∷ []) [] → ⊥
 
--- each change is applied to the view that the ones before it leave
-abbrev pub IsBatch : List Name → Served → View → List Turn → Type 0
-IsBatch roots served view [] = ⊤
-IsBatch roots served view (t ∷ turns) = IsTurn roots served view t × IsBatch roots t.served (view_after roots view t) turns
+-- none of the changes wants a reload of the view that the ones before it leave
+abbrev pub AreCalm : List Name → View → List Turn → Type 0
+AreCalm roots view [] = ⊤
+AreCalm roots view (t ∷ turns) = IsCalm roots view t × AreCalm roots (view_after roots view t) turns
 
 -- the names of the changed modules
-abbrev pub changed_by : List Turn → List Name
-changed_by turns = map (λ t. t.name) turns
+abbrev pub names_changed : List Turn → List Name
+names_changed turns = map (λ t. t.name) turns

@@ -5,9 +5,8 @@ use Rattle.hmr_types.specs.declared.analysis.TextFault.{TextFault}
 use Rattle.hmr_types.specs.declared.analysis.Outcome.TheVariants.{Good, Bad}
 use Rattle.hmr_types.specs.declared.analysis.FaultWord.TheVariants.{BadByte}
 use Rattle.update_msgs.specs.declared.message.JsUpdate.{JsUpdate}
-use Rattle.core_model.specs.Names.{Name, with_row}
-use Rattle.core_model.specs.Sources.{Text, Serving, edit, result}
-use Rattle.core_model.specs.FreshLoad.{Served}
+use Rattle.core_model.specs.Names.{Name}
+use Rattle.core_model.specs.Sources.{Text, edit, result}
 use Rattle.core_model.specs.Requests.{ask, fetch, applied_as}
 use Rattle.core_model.specs.Core.{Core, Event, change, connect, request, client_at, replay}
 use Rattle.core_model.specs.View.{View, Entry, table_of}
@@ -88,9 +87,6 @@ after events = replay roots events
 abbrev pub entry : ℕ → Analysis → Entry
 entry v told = record { version = v; analysis = told }
 
-abbrev pub serving : ℕ → Analysis → Serving
-serving v told = record { version = v; text = first_text; analysis = told }
-
 abbrev pub of_m : Analysis
 of_m = plain (a ∷ b ∷ []) (a ∷ b ∷ [])
 
@@ -100,14 +96,11 @@ of_leaf = plain [] []
 abbrev pub first_view : View
 first_view = (a, entry 2 of_leaf) ∷ (b, entry 3 of_leaf) ∷ (m, entry 1 of_m) ∷ []
 
-abbrev pub first_served : Served
-first_served = (a, serving 2 of_leaf) ∷ (b, serving 3 of_leaf) ∷ (m, serving 1 of_m) ∷ []
-
 abbrev pub of_a : Turn
-of_a = record { name = a; served = with_row a (serving 4 of_leaf) first_served; staged = (a, entry 4 of_leaf) ∷ [] }
+of_a = record { name = a; staged = (a, entry 4 of_leaf) ∷ [] }
 
 abbrev pub of_b : Turn
-of_b = record { name = b; served = with_row b (serving 5 of_leaf) of_a.served; staged = (b, entry 5 of_leaf) ∷ [] }
+of_b = record { name = b; staged = (b, entry 5 of_leaf) ∷ [] }
 
 abbrev pub two_turns : List Turn
 two_turns = of_a ∷ of_b ∷ []

@@ -11,8 +11,8 @@ ghost use Rattle.core_model.specs.Examples.{plain, m, a, b};
 ghost use Rattle.core_laws.specs.Fresh.{IsUpToDate};
 ghost use Rattle.core_laws.specs.Settled.{AllAreGood, of_source, of_serving};
 ghost use Rattle.core_laws.specs.Isolated.{without_others, replies_without_others};
-ghost use Rattle.core_laws.specs.Batch.{IsBatch, changed_by};
-ghost use Rattle.core_laws.specs.Examples.{roots, first_text, second_text, some_fault, saved, broken, served, loads, grown, updates, shrunk, updates_again, served_leaf, loads_meanwhile, told_of_a, page_of, after, first_served, first_view, two_turns};
+ghost use Rattle.core_laws.specs.Batch.{AreCalm, names_changed};
+ghost use Rattle.core_laws.specs.Examples.{roots, first_text, second_text, some_fault, saved, broken, served, loads, grown, updates, shrunk, updates_again, served_leaf, loads_meanwhile, told_of_a, page_of, after, first_view, two_turns};
 
 /// A page is loaded: it is the fresh load, and there is nothing to do.
 pub fn page_is_loaded()
@@ -78,7 +78,7 @@ pub fn refused_source_is_not_served()
 /// Two modules that their importer accepts change one after the other, and neither change wants a
 /// reload: nor do both together.
 pub fn two_changes_are_a_batch()
-    ensures batch { IsBatch roots first_served first_view two_turns }
-    ensures changed { changed_by two_turns ≡ a ∷ b ∷ [] }
+    ensures batch { AreCalm roots first_view two_turns }
+    ensures changed { names_changed two_turns ≡ a ∷ b ∷ [] }
     ensures together { reason_of first_view roots (a ∷ b ∷ []) [] ≡ None }
 {}

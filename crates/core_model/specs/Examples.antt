@@ -1,6 +1,7 @@
 -- Small pages, to be computed.
-use Rattle.std.specs.Prelude.{ℕ, true, false, List, [], ◌∷◌, Some, codes}
+use Rattle.std.specs.Prelude.{ℕ, true, false, List, [], ◌∷◌, Some, None, codes}
 use Rattle.hmr_types.specs.declared.analysis.Analysis.{Analysis}
+use Rattle.hmr_types.specs.declared.analysis.Outcome.{Outcome}
 use Rattle.hmr_types.specs.declared.analysis.Outcome.TheVariants.{Good}
 use Rattle.core_model.specs.Names.{Name}
 use Rattle.core_model.specs.Sources.{Text, edit, result}
@@ -88,3 +89,22 @@ serving_one = replay (m ∷ []) (change (edit m (Some one_text)) ∷ change (res
 -- a client asks out of turn, tells tables that aren't its plan's, and invalidates what doesn't accept itself
 abbrev pub lies : List Event
 lies = connect [] ∷ request 1 ask ∷ request 1 (applied_as []) ∷ request 1 (fetch m) ∷ request 1 (applied_as ((m, 2) ∷ [])) ∷ request 1 (applied_as ((m, 1) ∷ [])) ∷ request 1 (invalidate m 1) ∷ request 2 ask ∷ []
+
+-- A transcript: m is saved and its text is good, a client loads the page, and m is removed.
+
+abbrev pub saved_text : Text
+saved_text = codes "let x = 1;"
+
+-- each text is good, and imports nothing
+abbrev pub transforming : Name → Text → Outcome
+transforming n t = Good (plain [] [])
+
+abbrev pub transcript : List (ℕ × Event)
+transcript =
+    (1, change (edit m (Some saved_text)))
+    ∷ (1, change (result m saved_text (Good (plain [] [])) 1))
+    ∷ (2, connect [])
+    ∷ (3, request 1 (fetch m))
+    ∷ (4, request 1 (applied_as ((m, 1) ∷ [])))
+    ∷ (5, change (edit m None))
+    ∷ []

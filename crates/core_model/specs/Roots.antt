@@ -1,5 +1,5 @@
 -- The roots of a page: those that its client names, or the server's.
-use Rattle.std.specs.Prelude.{◌≡◌, ℕ, ◌≤◌, nat_lt, Bool, true, not, ◌&&◌, ◌||◌, List, [], ◌∷◌, length}
+use Rattle.std.specs.Prelude.{◌≡◌, ◌≤◌, nat_lt, Bool, true, not, ◌&&◌, ◌||◌, List, [], ◌∷◌, length}
 use Rattle.hmr_types.specs.declared.limits.TheConstants.{ROOTS}
 use Rattle.core_model.specs.Names.{Name, has}
 

@@ -5,9 +5,11 @@ ghost use Rattle.core_model.specs.Spread.{reason_of, cause_of, replaced_of, pair
 ghost use Rattle.core_model.specs.View.{dropped_of};
 ghost use Rattle.update_msgs.specs.declared.message.ServerMsg.TheVariants as msg;
 ghost use Rattle.core_model.specs.declared.refusal.Refusal.TheVariants.{UnknownClient, OutOfTurn, Mismatch, Unfetched, Ignored};
-ghost use Rattle.core_model.specs.Requests.{to_client, refused};
-ghost use Rattle.core_model.specs.Core.{replies};
-ghost use Rattle.core_model.specs.Examples.{serving_one, lies, one_text, chain, diamond, cycle, decliner, leaf, half_accepting, rootless_cycle, two_ways, m, a, b, c, d, e, x};
+ghost use Rattle.core_model.specs.Requests.{edited, settled, to_client, refused};
+ghost use Rattle.core_model.specs.Sources.{job, removed, serve};
+ghost use Rattle.core_model.specs.Transcript.{IsLegal, events_of};
+ghost use Rattle.core_model.specs.Core.{new_core, replies};
+ghost use Rattle.core_model.specs.Examples.{plain, saved_text, transforming, transcript, serving_one, lies, one_text, chain, diamond, cycle, decliner, leaf, half_accepting, rootless_cycle, two_ways, m, a, b, c, d, e, x};
 
 /// Nothing on a chain accepts: a change at its end reloads, by the whole chain.
 pub fn unaccepted_chain_reloads()
@@ -78,4 +80,17 @@ pub fn lying_client_is_refused()
         to_client msg.Done ∷
         refused Ignored ∷
         refused UnknownClient ∷ [] }
+{}
+
+/// A transcript is legal: its events are well formed, its results are true, and it is small. These are the
+/// replies, each the step's after what stands before it.
+pub fn transcript_is_legal()
+    ensures legal { IsLegal transforming (m ∷ []) transcript }
+    ensures replies { replies (m ∷ []) new_core (events_of transcript) ≡
+        edited (job 1) ∷
+        settled (serve (plain [] [])) ∷
+        to_client (msg.Connected 1 (m ∷ [])) ∷
+        to_client (msg.Text m 1 saved_text) ∷
+        to_client msg.Done ∷
+        edited (removed 2) ∷ [] }
 {}

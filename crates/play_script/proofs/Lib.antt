@@ -1,4 +1,5 @@
 pub mod Digits
+pub mod Formats
 pub mod Utf8
 mod Worked
 pub mod SpelledNumbers

@@ -1,8 +1,8 @@
 // The commands of a script, read from its text one by one: the lines are gone over until one says a
 // command, and the text of an edit is taken from the lines of text directly below it.
-ghost use Rattle.std.specs.Prelude.{◌≡◌, [], ◌∷◌, ◌++◌, IfOk, OnOk, OnErr, MatchOption, codes, option_map};
+ghost use Rattle.std.specs.Prelude.{◌≡◌, [], ◌∷◌, ◌++◌, IfOk, IfSome, OnOk, OnErr, MatchOption, codes, option_map};
 ghost use Rattle.play_script.specs.Script.{Line, command_of, commands, lines_from, text_below, text_of, whole_line};
-ghost use Rattle.play_script.specs.Asked.{IsNext};
+ghost use Rattle.play_script.specs.Asked.{HasFormat, IsNext};
 
 use crate::fault::Refusal;
 use crate::first_line::first_line;
@@ -44,13 +44,14 @@ impl<'a> Commands<'a> {
     }
 
     /// The first of the commands that are left, which is then gone from them; or `None` where none is
-    /// left.
+    /// left. One that opens a client opens it in format 1 or 2.
     ///
     /// An error comes only where memory ran out, and those left are then as before. The memory is that
     /// of the command and of the words of one line. The time of all calls to the last command is
     /// linear in the text.
     pub fn next(&mut self, alloc: Global) -> Result<Option<ScriptLine>, AllocError>
         ensures next { IfOk result (λ next. IsNext next self.old self.new) }
+        ensures format { IfOk result (λ next. IfSome next HasFormat) }
         ensures refused { OnErr result (self.new ≡ self.old) }
     {
         match next_command(alloc, self.left)? {

@@ -5,7 +5,7 @@ use Rattle.core_model.specs.Names.{Name}
 use Rattle.core_model.specs.View.{View}
 use Rattle.core_model.specs.Spread.{IsReason, IsReloadWanted, reason_of}
 use Rattle.core_model.proofs.Spreading.{reason_is}
-use Rattle.core_laws.specs.Batch.{changed_by}
+use Rattle.core_laws.specs.Batch.{names_changed}
 use Rattle.core_laws.proofs.Batches.{batch_is_calm}
 use Rattle.core_laws.proofs.laws.batch_wants_no_reload.Goals as goal
 
@@ -17,4 +17,4 @@ pub returns-clause-wanted : goal.returns-clause-wanted
 returns-clause-wanted c = batch_is_calm
 
 pub returns-clause-computed : goal.returns-clause-computed
-returns-clause-computed c roots served view turns closed sync eager batch = no_reason view roots (changed_by turns) (reason_of view roots (changed_by turns) []) (reason_is view roots (changed_by turns) []).0 (batch_is_calm roots served view turns closed sync eager batch)
+returns-clause-computed c roots view turns closed eager batch = no_reason view roots (names_changed turns) (reason_of view roots (names_changed turns) []) (reason_is view roots (names_changed turns) []).0 (batch_is_calm roots view turns closed eager batch)
