@@ -1,0 +1,6 @@
+pub mod ByKind
+pub mod Filters
+pub mod Places
+pub mod Taking
+pub mod Gaining
+pub mod Losing

@@ -1,0 +1,5 @@
+pub mod Marks
+pub mod Seeing
+pub mod Scopes
+pub mod Taking
+pub mod Holding
