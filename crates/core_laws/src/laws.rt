@@ -4,6 +4,7 @@ ghost use Rattle.hmr_types.specs.declared.analysis.Analysis.{Analysis};
 ghost use Rattle.hmr_types.specs.declared.analysis.Outcome.{Outcome};
 ghost use Rattle.hmr_types.specs.declared.words.ReloadCause.{ReloadCause};
 ghost use Rattle.update_msgs.specs.declared.message.ServerMsg.TheVariants as msg;
+ghost use Rattle.hmr_types.specs.Table.{is_table};
 ghost use Rattle.core_model.specs.Sent.{IsReloadSent};
 ghost use Rattle.core_model.specs.Names.{Name, at};
 ghost use Rattle.core_model.specs.Sources.{Sources, Text, Change, edit, same, serve, late, result_answer, sources_after};
@@ -24,7 +25,7 @@ ghost use Rattle.core_laws.specs.Kept.{CoreFacts, TextFacts, given_by, written_a
 ghost use Rattle.core_laws.specs.Fresh.{IsUpToDate, IsFreshLoad};
 ghost use Rattle.core_laws.specs.Reloading.{IsFullReload, IsReloadDue};
 ghost use Rattle.core_laws.specs.Refusing.{is_refusal};
-ghost use Rattle.core_laws.specs.Answering.{IsIdle, IsApplied};
+ghost use Rattle.core_laws.specs.Answering.{IsIdle, IsApplied, IsAppliedAs};
 ghost use Rattle.core_laws.specs.Ranges.{CoreFits, IsWritableReply};
 ghost use Rattle.core_laws.specs.Settled.{AllAreGood, of_source, of_serving};
 ghost use Rattle.core_laws.specs.Batch.{Turn, AreCalm, names_changed};
@@ -200,11 +201,16 @@ pub fn idle_is_answered_exactly()
 {}
 
 /// An Applied of a connected client is answered Done exactly where a plan is under way, nothing is left to
-/// fetch for it, and the table told has at each name the version of the view that the plan makes.
+/// fetch for it, and what is told has at each name the version of the view that the plan makes, 0 where it
+/// has none. A table, after events that are well formed, is then that view's.
 pub fn done_is_answered_exactly()
-    ensures { (roots : List Name) (core : Core) (i : ℕ) (c : Client) (table : List (Name × ℕ)) →
+    ensures versions { (roots : List Name) (core : Core) (i : ℕ) (c : Client) (table : List (Name × ℕ)) →
         client_at core.clients i ≡ Some c →
         ((step roots core (request i (applied_as table))).1 ≡ to_client msg.Done) ↔ IsApplied c table }
+    ensures table { (roots : List Name) (past : List Event) (i : ℕ) (c : Client) (table : List (Name × ℕ)) →
+        All IsFormed past → is_table table ≡ true → client_at (core_after roots past).clients i ≡ Some c →
+        ((step roots (core_after roots past) (request i (applied_as table))).1 ≡ to_client msg.Done) ↔
+        IsAppliedAs c table }
 {}
 
 /// An event that is well formed keeps each number of the core in its range, from any core that has them
