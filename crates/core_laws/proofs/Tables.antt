@@ -1,11 +1,11 @@
 -- A table that has the versions of the new view is the new view's.
 use Rattle.std.proofs.Common.{◌≡◌, ◌↔◌, ℕ, ◌≤◌, Bool, true, false, List, [], ◌∷◌, ◌++◌, refl, ap, sym, ◌∙◌, arith}
-use Rattle.std.specs.Prelude.{◌&&◌, All, Option, Some, None, is_some, IfSome, if◌then◌else◌}
+use Rattle.std.specs.Prelude.{◌&&◌, All, Option, Some, None, IfSome, if◌then◌else◌}
 use Rattle.std.specs.List.{list_all}
 use Rattle.std.specs.Ordering.{nat_cmp, is_lt}
 use Rattle.std.specs.Cmp.Lexicographic.{slice_cmp}
 use Rattle.std.proofs.Math.Path.{subst}
-use Rattle.std.proofs.lemmas.Bool.{false≢true, leb-true}
+use Rattle.std.proofs.lemmas.Bool.{leb-true}
 use Rattle.hmr_types.specs.Table.{rises, is_version, is_table}
 use Rattle.update_msgs.specs.declared.message.ServerMsg.TheVariants as msg
 use Rattle.update_msgs.specs.Writable.{IsVersion}

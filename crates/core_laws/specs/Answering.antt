@@ -1,5 +1,5 @@
 -- When an Ask is answered Idle, and an Applied is answered Done.
-use Rattle.std.specs.Prelude.{◌≡◌, ◌⊎◌, ℕ, true, List, [], Option, Some, None}
+use Rattle.std.specs.Prelude.{◌≡◌, ◌⊎◌, ℕ, true, List, [], Some, None}
 use Rattle.core_model.specs.Names.{Name}
 use Rattle.core_model.specs.Sources.{Sources}
 use Rattle.core_model.specs.View.{table_of}

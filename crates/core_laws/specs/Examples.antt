@@ -104,3 +104,9 @@ of_b = record { name = b; staged = (b, entry 5 of_leaf) ∷ [] }
 
 abbrev pub two_turns : List Turn
 two_turns = of_a ∷ of_b ∷ []
+
+-- A second client has a page of its own root.
+
+-- the client of this number loads a page of a alone
+abbrev pub loads_a : ℕ → List Event
+loads_a i = connect (a ∷ []) ∷ request i (fetch a) ∷ request i (applied_as ((a, 2) ∷ [])) ∷ []

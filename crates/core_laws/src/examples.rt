@@ -2,9 +2,11 @@
 ghost use Rattle.std.specs.Prelude.{◌≡◌, [], ◌∷◌, ◌++◌, Some, None, IfSome};
 ghost use Rattle.hmr_types.specs.declared.words.ReloadCause.TheVariants.{Root};
 ghost use Rattle.update_msgs.specs.declared.message.ServerMsg.TheVariants as msg;
+ghost use Rattle.core_model.specs.declared.refusal.Refusal.TheVariants.{BadRoots};
+ghost use Rattle.core_model.specs.Exchange.{message_for};
 ghost use Rattle.core_model.specs.Names.{at};
 ghost use Rattle.core_model.specs.FreshLoad.{fresh_table, missing_of};
-ghost use Rattle.core_model.specs.Requests.{ask, fetch, aborted, invalidate, to_client};
+ghost use Rattle.core_model.specs.Requests.{ask, fetch, aborted, invalidate, to_client, refused};
 ghost use Rattle.core_model.specs.Core.{connect, request, client_at, replies};
 ghost use Rattle.core_model.specs.Spread.{reason_of};
 ghost use Rattle.core_model.specs.Examples.{plain, m, a, b};
@@ -12,7 +14,7 @@ ghost use Rattle.core_laws.specs.Fresh.{IsUpToDate};
 ghost use Rattle.core_laws.specs.Settled.{AllAreGood, of_source, of_serving};
 ghost use Rattle.core_laws.specs.Isolated.{without_others, replies_without_others};
 ghost use Rattle.core_laws.specs.Batch.{AreCalm, names_changed};
-ghost use Rattle.core_laws.specs.Examples.{roots, first_text, second_text, some_fault, saved, broken, served, loads, grown, updates, shrunk, updates_again, served_leaf, loads_meanwhile, told_of_a, page_of, after, first_view, two_turns};
+ghost use Rattle.core_laws.specs.Examples.{roots, first_text, second_text, some_fault, saved, broken, served, loads, loads_a, grown, updates, shrunk, updates_again, served_leaf, loads_meanwhile, told_of_a, page_of, after, first_view, two_turns};
 
 /// A page is loaded: it is the fresh load, and there is nothing to do.
 pub fn page_is_loaded()
@@ -106,4 +108,19 @@ pub fn two_changes_are_a_batch()
     ensures batch { AreCalm roots first_view two_turns }
     ensures changed { names_changed two_turns ≡ a ∷ b ∷ [] }
     ensures together { reason_of first_view roots (a ∷ b ∷ []) [] ≡ None }
+{}
+
+/// Two clients with roots of their own: the same change updates the page whose root accepts it, and
+/// reloads the page of which it is the root. A client that speaks format 1 isn't told of the batch.
+pub fn own_roots_decide()
+    ensures page { page_of (after (served ++ loads 1 ++ loads_a 2)) 2 ≡ Some ((a, 2) ∷ []) }
+    ensures replies { replies roots (after (served ++ loads 1 ++ loads_a 2 ++ saved a second_text (plain [] []) 3))
+        (request 1 ask ∷ request 2 ask ∷ []) ≡
+        to_client (msg.Update (a ∷ []) (told_of_a 3 ∷ []) 1 (a ∷ [])) ∷
+        to_client (msg.FullReload Root (a ∷ []) 1 (a ∷ [])) ∷ [] }
+    ensures refused { replies roots (after []) (connect (m ∷ m ∷ []) ∷ []) ≡ refused BadRoots ∷ [] }
+    ensures first_format { message_for 1 (to_client (msg.FullReload Root (a ∷ []) 1 (a ∷ []))) ≡
+        Some (msg.FullReload Root (a ∷ []) 0 []) }
+    ensures second_format { message_for 2 (to_client (msg.FullReload Root (a ∷ []) 1 (a ∷ []))) ≡
+        Some (msg.FullReload Root (a ∷ []) 1 (a ∷ [])) }
 {}
