@@ -14,7 +14,7 @@ ghost use Rattle.core_laws.specs.Fresh.{IsUpToDate};
 ghost use Rattle.core_laws.specs.Settled.{AllAreGood, of_source, of_serving};
 ghost use Rattle.core_laws.specs.Isolated.{without_others, replies_without_others};
 ghost use Rattle.core_laws.specs.Batch.{AreCalm, names_changed};
-ghost use Rattle.core_laws.specs.Examples.{roots, first_text, second_text, some_fault, saved, broken, served, loads, loads_a, grown, updates, shrunk, updates_again, served_leaf, loads_meanwhile, told_of_a, page_of, after, first_view, two_turns};
+ghost use Rattle.core_laws.specs.Examples.{roots, first_text, second_text, saved, served, loads, loads_a, grown, updates, shrinking, two_pages_changed, breaking, served_leaf, loads_meanwhile, told_of_a, page_of, after, first_view, two_turns};
 
 /// A page is loaded: it is the fresh load, and there is nothing to do.
 pub fn page_is_loaded()
@@ -41,16 +41,11 @@ pub fn page_is_updated()
 
 /// A module that nothing imports any more is dropped, and pruned: only then is the page the fresh load.
 pub fn module_is_pruned()
-    ensures before { page_of (after (served ++ loads 1 ++ grown ++ updates ++ shrunk ++ updates_again)) 1 ≡
-        Some ((a, 5) ∷ (b, 4) ∷ (m, 1) ∷ []) }
-    ensures replies { replies roots (after (served ++ loads 1 ++ grown ++ updates ++ shrunk ++ updates_again))
-        (request 1 ask ∷ request 1 ask ∷ []) ≡ to_client (msg.Prune (b ∷ [])) ∷ to_client msg.Idle ∷ [] }
-    ensures page { page_of (after (served ++ loads 1 ++ grown ++ updates ++ shrunk ++ updates_again ++ request 1 ask ∷ []))
-        1 ≡
-        Some ((a, 5) ∷ (m, 1) ∷ []) }
-    ensures fresh { fresh_table (after (served ++ loads 1 ++ grown ++ updates ++ shrunk ++ updates_again)).sources.served
-        roots ≡
-        (a, 5) ∷ (m, 1) ∷ [] }
+    ensures before { page_of (after shrinking) 1 ≡ Some ((a, 5) ∷ (b, 4) ∷ (m, 1) ∷ []) }
+    ensures replies { replies roots (after shrinking) (request 1 ask ∷ request 1 ask ∷ []) ≡
+        to_client (msg.Prune (b ∷ [])) ∷ to_client msg.Idle ∷ [] }
+    ensures page { page_of (after (shrinking ++ request 1 ask ∷ [])) 1 ≡ Some ((a, 5) ∷ (m, 1) ∷ []) }
+    ensures fresh { fresh_table (after shrinking).sources.served roots ≡ (a, 5) ∷ (m, 1) ∷ [] }
 {}
 
 /// A module that is saved after it was fetched, and before the load is applied, is updated afterwards.
@@ -96,10 +91,8 @@ pub fn sources_are_good()
 
 /// A source that was refused isn't served: the one before it is.
 pub fn refused_source_is_not_served()
-    ensures current { of_source (at (after (served ++ broken a second_text some_fault 3)).sources.current a) ≡
-        Some (3, second_text) }
-    ensures served { of_serving (at (after (served ++ broken a second_text some_fault 3)).sources.served a) ≡
-        Some (2, first_text) }
+    ensures current { of_source (at (after breaking).sources.current a) ≡ Some (3, second_text) }
+    ensures served { of_serving (at (after breaking).sources.served a) ≡ Some (2, first_text) }
 {}
 
 /// Two modules that their importer accepts change one after the other, and neither change wants a
@@ -114,8 +107,7 @@ pub fn two_changes_are_a_batch()
 /// reloads the page of which it is the root. A client that speaks format 1 isn't told of the batch.
 pub fn own_roots_decide()
     ensures page { page_of (after (served ++ loads 1 ++ loads_a 2)) 2 ≡ Some ((a, 2) ∷ []) }
-    ensures replies { replies roots (after (served ++ loads 1 ++ loads_a 2 ++ saved a second_text (plain [] []) 3))
-        (request 1 ask ∷ request 2 ask ∷ []) ≡
+    ensures replies { replies roots (after two_pages_changed) (request 1 ask ∷ request 2 ask ∷ []) ≡
         to_client (msg.Update (a ∷ []) (told_of_a 3 ∷ []) 1 (a ∷ [])) ∷
         to_client (msg.FullReload Root (a ∷ []) 1 (a ∷ [])) ∷ [] }
     ensures refused { replies roots (after []) (connect (m ∷ m ∷ []) ∷ []) ≡ refused BadRoots ∷ [] }

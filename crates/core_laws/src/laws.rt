@@ -32,12 +32,12 @@ ghost use Rattle.core_laws.specs.Batch.{Turn, AreCalm, names_changed};
 ghost use Rattle.core_laws.specs.Isolated.{AreNumbered, concerns, without_others, replies_without_others};
 
 /// Each event keeps the facts, from any core that has them, and so does every list of events. Of the
-/// sources: each is of a counted edit, and is served where its result was good. Of each connected client: a loaded page holds every root and every import of
-/// its modules, and one that isn't loaded is empty; each module has the analysis that its version was
-/// served with; a forced module accepts itself; a load is of a page that isn't loaded, a reload or an
-/// update of a loaded one of which nothing is dropped; an update replaces all that a change passes on
-/// to; and where nothing was served or removed since a plan began, all that it fetched is what is
-/// served, and all that it keeps.
+/// sources: each is of a counted edit, and is served where its result was good. Of each connected client:
+/// a loaded page holds every root and every import of its modules, and one that isn't loaded is empty;
+/// each module has the analysis that its version was served with; a forced module accepts itself; a load
+/// is of a page that isn't loaded, a reload or an update of a loaded one of which nothing is dropped; an
+/// update replaces all that a change passes on to; and where nothing was served or removed since a plan
+/// began, all that it fetched is what is served, and all that it keeps.
 pub fn facts_are_kept()
     ensures step { (roots : List Name) (by : Name → ℕ → Option Analysis) (core : Core) (event : Event) →
         CoreFacts by core → CoreFacts (given_by core by event) (step roots core event).0 }
