@@ -1,18 +1,18 @@
 -- An Applied is answered Done exactly where nothing is left to fetch and the table told is the new view's.
-use Rattle.std.proofs.Common.{◌≡◌, ◌↔◌, ◌⊎◌, inl, inr, ℕ, Bool, true, false, List, [], ◌∷◌, ◌++◌, refl, ap, sym, ◌∙◌}
-use Rattle.std.specs.Prelude.{◌==◌, ◌||◌, not, filter, Option, Some, None, is_some}
+use Rattle.std.proofs.Common.{◌≡◌, ◌↔◌, ℕ, Bool, true, false, List, [], ◌∷◌, ◌++◌, refl, ap, sym, ◌∙◌}
+use Rattle.std.specs.Prelude.{◌==◌, ◌||◌, not, Option, Some, None, is_some}
 use Rattle.std.proofs.Math.Path.{subst}
 use Rattle.std.proofs.lemmas.Bool.{false≢true, eqb-true, eq-eqb}
 use Rattle.update_msgs.specs.declared.message.ServerMsg.{ServerMsg}
 use Rattle.update_msgs.specs.declared.message.ServerMsg.TheVariants as msg
 use Rattle.core_model.specs.Names.{Name, has, at, names_of, sorted}
-use Rattle.core_model.specs.View.{View, table_of}
+use Rattle.core_model.specs.View.{table_of}
 use Rattle.core_model.specs.Page.{Plan, unfetched_of, new_view}
 use Rattle.core_model.specs.Client.{Client}
 use Rattle.core_model.specs.Asking.{number_or_zero}
-use Rattle.core_model.specs.Requests.{applied_as, Reply, edited, settled, to_client, refused, gone, AppliedRow, unfetched, mismatch, done, version_at, differing, row_differing, row_unfetched, applied_row, applied_reply, applied_in, heard}
+use Rattle.core_model.specs.Requests.{applied_as, Reply, edited, settled, to_client, refused, gone, AppliedRow, unfetched, mismatch, done, version_at, differing, row_differing, row_unfetched, applied_row, applied_reply, applied_in}
 use Rattle.core_model.specs.Core.{Core, request, client_at, requested, step}
-use Rattle.core_model.proofs.Naming.{not_false, no_names, filtered_from, sorted_has, has_append, or_left, or_right}
+use Rattle.core_model.proofs.Naming.{not_false, no_names, filtered_from, sorted_has, has_append}
 use Rattle.core_model.proofs.Tables.{named}
 use Rattle.core_laws.specs.Answering.{IsApplied}
 use Rattle.core_laws.proofs.Looking.{none_pass}

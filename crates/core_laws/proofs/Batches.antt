@@ -10,7 +10,7 @@ use Rattle.core_model.specs.Paths.{Leads, IsPath, Reaches}
 use Rattle.core_model.specs.View.{View, Entry, is_in, imports_of, accepted_of, accepts_itself, is_declining, imports, accepts, self_accepts, declines, dropped_of}
 use Rattle.core_model.specs.Spread.{passes, ends_badly, IsReloadWanted, replaced_of}
 use Rattle.core_model.specs.Page.{kept_or_staged, entry_at, plan_imports, met_of, new_entry}
-use Rattle.core_model.proofs.Naming.{has_is, same_true, true_same, cases_bool, both_true, or_cases, or_left, or_right, has_append, false_from, head_has, has_cases, tail_has}
+use Rattle.core_model.proofs.Naming.{has_is, true_same, both_true, or_cases, or_left, has_append, false_from, head_has, has_cases, tail_has}
 use Rattle.core_model.proofs.Reaching.{reaches_within, reaches_on, reaches_start}
 use Rattle.core_model.proofs.Tables.{named}
 use Rattle.core_model.proofs.Views.{importer_named}

@@ -5,7 +5,7 @@ use Rattle.std.proofs.Math.Path.{subst}
 use Rattle.std.proofs.lemmas.Bool.{false≢true}
 use Rattle.hmr_types.specs.declared.analysis.Analysis.{Analysis}
 use Rattle.core_model.specs.Names.{Name, at}
-use Rattle.core_model.specs.Sources.{Sources, Change, edit, result, EditAnswer, job, same, removed, refused, edit_answer, after_edit, ResultAnswer, serve, refuse, late, result_answer, after_result, changed_by, sources_after, Text}
+use Rattle.core_model.specs.Sources.{Sources, Change, edit, result, EditAnswer, job, same, removed, refused, edit_answer, after_edit, ResultAnswer, serve, refuse, late, result_answer, after_result, changed_by, Text}
 use Rattle.core_model.specs.View.{View, Entry}
 use Rattle.core_model.specs.Page.{Plan}
 use Rattle.core_model.specs.Client.{Client, new_client, told_of_edit, told_of_result}

@@ -24,7 +24,7 @@ use Rattle.core_laws.proofs.Looking.{rising_same}
 use Rattle.core_laws.proofs.Times.{unchanged_served}
 use Rattle.core_laws.proofs.Requesting.{undropped_reached}
 
-names_kept : (view : View) → names_of (table_of view) ≡ names_of view
+pub names_kept : (view : View) → names_of (table_of view) ≡ names_of view
 names_kept [] = refl
 names_kept (row ∷ rows) = ap (λ names. row.0 ∷ names) (names_kept rows)
 

@@ -1,6 +1,6 @@
 -- An Ask is answered Idle exactly where there is nothing to do, or the client is held.
 use Rattle.std.proofs.Common.{◌≡◌, ◌↔◌, ◌⊎◌, inl, inr, ℕ, Bool, true, false, List, [], ◌∷◌, ◌++◌, refl, ap, sym, ◌∙◌, arith, Contains}
-use Rattle.std.specs.Prelude.{◌&&◌, ◌||◌, not, Option, Some, None, is_some, IfSome, IfNone, option_and_then}
+use Rattle.std.specs.Prelude.{◌&&◌, not, Option, Some, None, is_some, IfSome, IfNone, option_and_then}
 use Prim.{⊥}
 use Rattle.std.proofs.Math.Path.{subst}
 use Rattle.std.proofs.lemmas.Bool.{false≢true}
@@ -10,21 +10,20 @@ use Rattle.update_msgs.specs.declared.message.ServerMsg.TheVariants as msg
 use Rattle.core_model.specs.Names.{Name, has, at, names_of, sorted, first_of}
 use Rattle.core_model.specs.Paths.{Reaches}
 use Rattle.core_model.specs.Sources.{Sources}
-use Rattle.core_model.specs.View.{View, Entry, is_in, imports, accepts, accepts_itself, self_accepts, declines, dropped_of}
-use Rattle.core_model.specs.Spread.{passes, ends_badly, IsReason, reason_of, IsReloadWanted, IsReplaced, replaced_of, AreIn, IsPair, pairs_of}
+use Rattle.core_model.specs.View.{View, Entry, imports, accepts, accepts_itself, self_accepts, declines, dropped_of}
+use Rattle.core_model.specs.Spread.{passes, IsReason, reason_of, IsReloadWanted, IsReplaced, replaced_of, AreIn, IsPair, pairs_of}
 use Rattle.core_model.specs.Page.{Plan}
 use Rattle.core_model.specs.Client.{Client, is_held, changed, dropped, reason, replaced, pairs, with_name, first_notice}
 use Rattle.core_model.specs.Asking.{AskRow, out_of_turn, tell, load, idle, prune, reload, update, row_replaced, row_reason, row_held, row_dropped, row_loaded, row_notice, row_plan, ask_row, asked}
 use Rattle.core_model.specs.Requests.{ask, Reply, edited, settled, to_client, refused, gone, ask_reply, heard}
 use Rattle.core_model.specs.Core.{Core, request, client_at, requested, step}
 use Rattle.core_model.proofs.Naming.{has_is, no_names, and_both, has_append, or_right}
-use Rattle.core_model.proofs.Reaching.{reaches_within, reaches_on, reaches_start, reaches_back, long_back, ReachedBy}
+use Rattle.core_model.proofs.Reaching.{reaches_within, reaches_start, reaches_back, long_back, ReachedBy}
 use Rattle.core_model.proofs.Sending.{no_notice}
 use Rattle.core_model.proofs.Spreading.{reason_is, passed_from, replaced_are}
 use Rattle.core_model.proofs.Pairing.{pairs_are}
 use Rattle.core_model.proofs.Tables.{named}
 use Rattle.core_model.proofs.Listing.{first_in}
-use Rattle.core_laws.specs.Fresh.{IsUpToDate}
 use Rattle.core_laws.specs.Answering.{IsWaiting, IsAtRest, IsIdle}
 use Rattle.core_laws.proofs.Requesting.{undropped_reached}
 use Rattle.core_laws.proofs.Times.{changed_in}

@@ -1,6 +1,6 @@
 -- Each event keeps the ranges of each client's record, and of the numbers of clients.
-use Rattle.std.proofs.Common.{◌≡◌, ℕ, ◌+◌, ◌≤◌, Bool, true, false, List, [], ◌∷◌, refl, ap, sym, ◌∙◌, arith}
-use Rattle.std.specs.Prelude.{◌==◌, ◌||◌, not, nat_le, nat_lt, length, filter, Option, Some, None, is_some, IfSome, option_map, if◌then◌else◌}
+use Rattle.std.proofs.Common.{◌≡◌, ℕ, ◌+◌, ◌≤◌, Bool, true, false, List, [], refl, ap, sym, ◌∙◌, arith}
+use Rattle.std.specs.Prelude.{◌==◌, ◌||◌, nat_le, nat_lt, length, Option, Some, None, is_some, IfSome, option_map, if◌then◌else◌}
 use Rattle.std.proofs.Math.Path.{subst}
 use Rattle.std.proofs.lemmas.Bool.{false≢true, eqb-true, leb-false, ltb-true}
 use Rattle.hmr_types.specs.declared.limits.TheConstants.{CLIENTS, LARGEST_NUMBER, LARGEST_CLIENT}
@@ -8,18 +8,18 @@ use Rattle.hmr_types.specs.declared.words.PlanKind.{PlanKind}
 use Rattle.hmr_types.specs.declared.words.PlanKind.TheVariants.{Load, Reload, Update}
 use Rattle.update_msgs.specs.Writable.{IsBetween, IsVersion}
 use Rattle.core_model.specs.Names.{Name, has, at, without_all}
-use Rattle.core_model.specs.Sources.{Text, Sources, Source, Serving, Verdict, outstanding, good, bad, Change, edit, result, EditAnswer, job, same, removed, refused, edit_answer, ResultAnswer, serve, refuse, late, result_answer, is_awaited, changed_by}
+use Rattle.core_model.specs.Sources.{Text, Sources, Source, Serving, Verdict, outstanding, good, bad, Change, edit, result, EditAnswer, job, same, removed, refused, edit_answer, ResultAnswer, serve, refuse, late, result_answer, is_awaited}
 use Rattle.core_model.specs.View.{View, Entry}
-use Rattle.core_model.specs.Page.{Plan, kept_or_staged, entry_at, met_of, unmet_entry, new_entry, new_view}
+use Rattle.core_model.specs.Page.{Plan, kept_or_staged, met_of, unmet_entry, new_entry, new_view}
 use Rattle.core_model.specs.Client.{Client, new_client, next_batch, told_of_edit, told_of_result}
 use Rattle.core_model.specs.Asking.{AskRow, out_of_turn, tell, load, idle, prune, reload, update, ask_row, asked}
-use Rattle.core_model.specs.Requests.{Request, ask, fetch, applied_as, aborted, invalidate, text, row_served, row_verdict, fetched, AppliedRow, unfetched, mismatch, done, applied_row, after_applied, is_at_version, invalidated, fetched_in, applied_in, aborted_in, invalidated_in, heard}
+use Rattle.core_model.specs.Requests.{Request, ask, fetch, applied_as, aborted, invalidate, row_served, row_verdict, fetched, AppliedRow, unfetched, mismatch, done, applied_row, after_applied, is_at_version, invalidated, fetched_in, applied_in, aborted_in, invalidated_in, heard}
 use Rattle.core_model.specs.Roots.{are_bad, roots_or}
 use Rattle.core_model.specs.Formed.{IsPlaced, IsFormedChange, IsFormed}
 use Rattle.core_model.specs.Core.{Core, Event, change, connect, request, disconnect, client_at, told_of, after_change, is_full, if_room, connected, requested, disconnected, step}
 use Rattle.core_model.proofs.Clients.{at_without, at_with, at_each}
 use Rattle.core_model.proofs.Planning.{at_new}
-use Rattle.core_laws.specs.Ranges.{SourcesFit, SourceFits, ServingFits, ViewFits, ClientFits, CoreFits}
+use Rattle.core_laws.specs.Ranges.{SourcesFit, ServingFits, ViewFits, ClientFits, CoreFits}
 use Rattle.core_laws.proofs.Looking.{at_without_all}
 use Rattle.core_laws.proofs.Numbers.{map_there}
 use Rattle.core_laws.proofs.Ranges.{some_if, row_fits, left_fits, Settling, settling, awaited_fits, change_fits}

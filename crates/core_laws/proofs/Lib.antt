@@ -20,3 +20,4 @@ pub mod Ranges
 pub mod Keeping
 pub mod Messaging
 pub mod Truth
+pub mod Tables

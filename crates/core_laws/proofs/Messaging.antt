@@ -1,5 +1,5 @@
 -- Each message that the core answers can be written.
-use Rattle.std.proofs.Common.{◌≡◌, ℕ, ◌+◌, ◌≤◌, Bool, true, false, List, [], ◌∷◌, ◌++◌, map, refl, ap, sym, ◌∙◌, arith}
+use Rattle.std.proofs.Common.{◌≡◌, ℕ, ◌+◌, ◌≤◌, Bool, true, false, List, [], ◌∷◌, ◌++◌, refl, ap, sym, ◌∙◌, arith}
 use Rattle.std.specs.Prelude.{◌&&◌, nat_lt, length, All, Option, Some, None, is_some, IfSome, option_and_then, if◌then◌else◌}
 use Rattle.std.specs.List.{list_all, AllByRecursion}
 use Rattle.std.proofs.Math.Path.{subst}
@@ -9,13 +9,11 @@ use Rattle.std.specs.Ordering.{nat_cmp, is_lt}
 use Rattle.std.specs.Cmp.Lexicographic.{slice_cmp}
 use Rattle.hmr_types.specs.declared.limits.TheConstants.{LARGEST_NUMBER, LARGEST_CLIENT}
 use Rattle.hmr_types.specs.declared.analysis.TextFault.{TextFault}
-use Rattle.hmr_types.specs.declared.words.PlanKind.TheVariants.{Load, Reload, Update}
 use Rattle.hmr_types.specs.Table.{is_version, is_table, rises}
 use Rattle.update_msgs.specs.declared.message.JsUpdate.{JsUpdate}
 use Rattle.update_msgs.specs.Names.{rise}
 use Rattle.update_msgs.specs.Writable.{IsBetween, IsVersion, IsPlace, IsRefusal}
 use Rattle.update_msgs.specs.Writable as writable
-use Rattle.core_model.specs.declared.refusal.Refusal.{Refusal}
 use Rattle.core_model.specs.declared.refusal.Refusal.TheVariants.{UnknownClient, TooManyClients, OutOfTurn, Mismatch, Unfetched, Ignored, BadRoots}
 use Rattle.core_model.specs.Names.{Name, same_name, at, names_of, sorted, first_of, rising}
 use Rattle.core_model.specs.Paths.{IsPath}
@@ -24,9 +22,9 @@ use Rattle.core_model.specs.FreshLoad.{version_in}
 use Rattle.core_model.specs.View.{View, Entry, table_of}
 use Rattle.core_model.specs.Spread.{IsReason}
 use Rattle.core_model.specs.Page.{Plan, unfetched_of, new_view}
-use Rattle.core_model.specs.Client.{Client, is_held, changed, dropped, reason, replaced, pairs, triggered, next_batch, with_name, first_notice}
-use Rattle.core_model.specs.Asking.{AskRow, out_of_turn, tell, load, idle, prune, reload, update, row_replaced, row_reason, row_held, row_dropped, row_loaded, row_notice, row_plan, ask_row, asked, number_or_zero, js_update}
-use Rattle.core_model.specs.Requests.{Request, ask, fetch, applied_as, aborted, invalidate, refused, ask_reply, FetchRow, row_served, row_source, row_verdict, fetch_row, fetch_reply, version_at, differing, row_differing, row_unfetched, applied_row, applied_reply, is_at_version, invalidate_reply, fetched_in, applied_in, aborted_in, invalidated_in, heard}
+use Rattle.core_model.specs.Client.{Client, is_held, changed, dropped, reason, replaced, pairs, next_batch, with_name, first_notice}
+use Rattle.core_model.specs.Asking.{AskRow, update, row_replaced, row_reason, row_held, row_dropped, row_loaded, row_notice, row_plan, ask_row, asked, number_or_zero, js_update}
+use Rattle.core_model.specs.Requests.{Request, ask, fetch, applied_as, aborted, invalidate, refused, ask_reply, row_served, row_source, row_verdict, fetch_reply, version_at, differing, row_differing, row_unfetched, applied_reply, is_at_version, invalidate_reply, fetched_in, applied_in, aborted_in, invalidated_in, heard}
 use Rattle.core_model.specs.Roots.{are_bad, roots_or}
 use Rattle.core_model.specs.Formed.{IsPlaced, IsFormedRequest, IsFormed}
 use Rattle.core_model.specs.Core.{Core, Event, change, connect, request, disconnect, client_at, is_full, if_room, connected, requested, disconnected, step, new_core, core_after}

@@ -1,18 +1,18 @@
 -- Each event keeps the ranges, and its reply can be written.
-use Rattle.std.proofs.Common.{◌≡◌, ℕ, ◌+◌, ◌-◌, ◌≤◌, ◌<◌, Bool, true, false, List, [], ◌∷◌, length, refl, ap, sym, ◌∙◌, arith}
+use Rattle.std.proofs.Common.{◌≡◌, ℕ, ◌+◌, ◌-◌, ◌≤◌, Bool, true, false, List, length, refl, sym, arith}
 use Rattle.std.specs.Prelude.{◌==◌, ◌&&◌, not, nat_le, nat_lt, Option, Some, None, is_some, IfSome, if◌then◌else◌, ⊤}
 use Rattle.std.proofs.Math.Path.{subst}
 use Rattle.std.proofs.lemmas.Bool.{false≢true, eqb-true, leb-false, ltb-false}
 use Rattle.hmr_types.specs.declared.limits.TheConstants.{TEXT_BYTES, SOURCE_NAMES, SOURCE_BYTES, LARGEST_NUMBER}
 use Rattle.hmr_types.specs.declared.analysis.Outcome.{Outcome}
 use Rattle.hmr_types.specs.declared.analysis.Outcome.TheVariants.{Good, Bad}
-use Rattle.update_msgs.specs.Writable.{IsBetween, IsVersion}
+use Rattle.update_msgs.specs.Writable.{IsVersion}
 use Rattle.core_model.specs.Names.{Name, same_name, at, without, with_row}
-use Rattle.core_model.specs.Sources.{Text, Change, edit, result, Verdict, outstanding, good, bad, Source, Serving, Sources, EditAnswer, job, same, removed, refused, has_text, text_length, total_of, numbered, answer_for, edit_answer, text_or_none, after_edit, ResultAnswer, serve, refuse, late, is_outstanding, is_awaited, answer_of, result_answer, after_result, changed_by}
+use Rattle.core_model.specs.Sources.{Text, Change, edit, result, outstanding, good, bad, Source, Sources, EditAnswer, job, same, removed, refused, has_text, text_length, total_of, numbered, answer_for, edit_answer, text_or_none, after_edit, ResultAnswer, serve, refuse, late, is_outstanding, is_awaited, answer_of, result_answer, after_result, changed_by}
 use Rattle.core_model.specs.Formed.{IsPlaced, IsFormedOutcome, IsFormedChange}
 use Rattle.core_model.proofs.Naming.{same_true, both_true}
 use Rattle.core_model.proofs.Tables.{at_without, at_with_row}
-use Rattle.core_laws.specs.Ranges.{VerdictFits, SourceFits, ServingFits, SourcesFit}
+use Rattle.core_laws.specs.Ranges.{SourceFits, ServingFits, SourcesFit}
 
 -- Rows looked up.
 

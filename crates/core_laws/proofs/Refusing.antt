@@ -5,14 +5,14 @@ use Rattle.std.proofs.lemmas.Bool.{false≢true, eqb-true}
 use Rattle.std.proofs.lemmas.Option.{same_Some}
 use Rattle.hmr_types.specs.declared.analysis.Outcome.{Outcome}
 use Rattle.core_model.specs.Names.{Name}
-use Rattle.core_model.specs.Sources.{Text, Sources, Change, edit, result, EditAnswer, job, same, removed, refused, edit_answer, after_edit, ResultAnswer, serve, refuse, late, result_answer, after_result}
+use Rattle.core_model.specs.Sources.{Text, Sources, Change, edit, result, EditAnswer, job, same, removed, refused, edit_answer, after_edit, ResultAnswer, late, result_answer, after_result}
 use Rattle.core_model.specs.Page.{Plan}
 use Rattle.core_model.specs.Client.{Client, told_of_edit, told_of_result}
-use Rattle.core_model.specs.Asking.{AskRow, out_of_turn, tell, load, idle, prune, reload, update, ask_row, asked}
+use Rattle.core_model.specs.Asking.{AskRow, out_of_turn, tell, load, idle, prune, reload, update, ask_row}
 use Rattle.core_model.specs.Requests as reply
 use Rattle.core_model.specs.Requests.{Request, ask, fetch, applied_as, aborted, invalidate, Reply, edited, settled, answer_ask, FetchRow, text, not_yet, broken, missing, fetch_row, fetched, fetch_reply, AppliedRow, unfetched, mismatch, done, applied_row, after_applied, applied_reply, is_at_version, invalidated, invalidate_reply, fetched_in, applied_in, aborted_in, invalidated_in, heard}
 use Rattle.core_model.specs.Roots.{are_bad, roots_or}
-use Rattle.core_model.specs.Core.{Core, Event, change, connect, request, disconnect, client_at, with_client, each_client, told_of, is_full, if_room, connected, requested, disconnected, step}
+use Rattle.core_model.specs.Core.{Core, Event, change, connect, request, disconnect, client_at, with_client, each_client, is_full, if_room, connected, requested, disconnected, step}
 use Rattle.core_laws.specs.Refusing.{is_refused_edit, is_refusal}
 
 -- A request.

@@ -13,13 +13,12 @@ use Rattle.core_model.specs.Names.{Name, same_name, at}
 use Rattle.core_model.specs.Sources.{Text, Change, edit, result, ResultAnswer, serve, refuse, late, is_awaited, answer_of, result_answer, sources_after}
 use Rattle.core_model.specs.View.{View, Entry}
 use Rattle.core_model.specs.Page.{Plan}
-use Rattle.core_model.specs.Client.{Client}
-use Rattle.core_model.specs.Core.{Core, Event, change, connect, request, disconnect, client_at, core_after, changes_of}
+use Rattle.core_model.specs.Core.{Event, change, connect, request, disconnect, client_at, core_after, changes_of}
 use Rattle.core_model.specs.Transcript.{IsTrueEvent}
 use Rattle.core_model.proofs.Naming.{same_true, both_true}
-use Rattle.core_laws.specs.Given.{given_too, given, entry_of, IsGiven, AreGiven}
+use Rattle.core_laws.specs.Given.{given_too, given, entry_of, IsGiven}
 use Rattle.core_laws.specs.Written.{written}
-use Rattle.core_laws.specs.Facts.{PlanIs, ClientFacts}
+use Rattle.core_laws.specs.Facts.{PlanIs}
 use Rattle.core_laws.specs.Truth.{IsTrueChange, IsOfText, IsTrueEntry}
 use Rattle.core_laws.proofs.Writing.{IsOf, answer_is, text_facts, written_stays}
 use Rattle.core_laws.proofs.Events.{client_facts, served_given}

@@ -1,5 +1,5 @@
 -- When an Ask is answered Idle, and an Applied is answered Done.
-use Rattle.std.specs.Prelude.{◌≡◌, ◌⊎◌, ℕ, true, List, [], Option, Some, None}
+use Rattle.std.specs.Prelude.{◌≡◌, ◌⊎◌, ℕ, true, List, [], Some, None}
 use Rattle.core_model.specs.Names.{Name}
 use Rattle.core_model.specs.Sources.{Sources}
 use Rattle.core_model.specs.View.{table_of}
@@ -31,3 +31,10 @@ pub record IsApplied (c : Client) (table : List (Name × ℕ)) : Type 0 where
   pub under_way : c.page.plan ≡ Some plan
   pub whole : unfetched_of c.roots plan c.page.view ≡ []
   pub told : (n : Name) → version_at table n ≡ version_at (table_of (new_view c.roots plan c.page.view)) n
+
+-- a plan is under way, nothing is left to fetch for it, and the table told is the new view's
+pub record IsAppliedAs (c : Client) (table : List (Name × ℕ)) : Type 0 where
+  pub plan : Plan
+  pub under_way : c.page.plan ≡ Some plan
+  pub whole : unfetched_of c.roots plan c.page.view ≡ []
+  pub told : table ≡ table_of (new_view c.roots plan c.page.view)

@@ -104,3 +104,21 @@ of_b = record { name = b; staged = (b, entry 5 of_leaf) ∷ [] }
 
 abbrev pub two_turns : List Turn
 two_turns = of_a ∷ of_b ∷ []
+
+-- A second client has a page of its own root.
+
+-- the client of this number loads a page of a alone
+abbrev pub loads_a : ℕ → List Event
+loads_a i = connect (a ∷ []) ∷ request i (fetch a) ∷ request i (applied_as ((a, 2) ∷ [])) ∷ []
+
+-- a is saved after both pages are loaded
+abbrev pub two_pages_changed : List Event
+two_pages_changed = served ++ loads 1 ++ loads_a 2 ++ saved a second_text (plain [] []) 3
+
+-- the first client's page grows by b, and a then does without it
+abbrev pub shrinking : List Event
+shrinking = served ++ loads 1 ++ grown ++ updates ++ shrunk ++ updates_again
+
+-- a is saved with a text that can't be read
+abbrev pub breaking : List Event
+breaking = served ++ broken a second_text some_fault 3

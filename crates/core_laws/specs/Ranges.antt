@@ -1,11 +1,11 @@
 -- The ranges of what a core keeps: versions, batches and client numbers, the sizes of texts, and the
 -- places of faults.
-use Rattle.std.specs.Prelude.{◌≡◌, ℕ, ◌≤◌, true, length, Option, is_some, IfSome, ⊤}
+use Rattle.std.specs.Prelude.{◌≡◌, ℕ, ◌≤◌, true, length, is_some, IfSome, ⊤}
 use Rattle.hmr_types.specs.declared.limits.TheConstants.{TEXT_BYTES, LARGEST_NUMBER, LARGEST_CLIENT}
 use Rattle.update_msgs.specs.Writable.{IsBetween, IsVersion, IsWritable}
 use Rattle.core_model.specs.Names.{Name, at}
 use Rattle.core_model.specs.Sources.{Source, Serving, Sources, Verdict, outstanding, good, bad}
-use Rattle.core_model.specs.View.{View, Entry}
+use Rattle.core_model.specs.View.{View}
 use Rattle.core_model.specs.Client.{Client}
 use Rattle.core_model.specs.Exchange.{message_of}
 use Rattle.core_model.specs.Formed.{IsPlaced}

@@ -1,6 +1,6 @@
 -- Which replies say that nothing was done.
 use Rattle.std.specs.Prelude.{Bool, true, false}
-use Rattle.core_model.specs.Sources.{EditAnswer, job, same, removed, refused, ResultAnswer, serve, refuse, late}
+use Rattle.core_model.specs.Sources.{EditAnswer, job, same, removed, refused}
 use Rattle.core_model.specs.Requests as reply
 use Rattle.core_model.specs.Requests.{Reply, edited, settled, to_client, gone}
 
