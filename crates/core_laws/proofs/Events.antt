@@ -1,5 +1,5 @@
 -- Each event keeps the facts of the sources and of each connected client.
-use Rattle.std.proofs.Common.{◌≡◌, ◌⊎◌, inl, inr, ℕ, ◌+◌, ◌≤◌, ◌<◌, Bool, true, false, List, [], ◌∷◌, refl, sym, ◌∙◌, arith}
+use Rattle.std.proofs.Common.{◌≡◌, ◌⊎◌, inl, inr, ℕ, ◌+◌, ◌≤◌, ◌<◌, Bool, true, false, List, [], ◌∷◌, refl, ap, sym, ◌∙◌, arith}
 use Rattle.std.specs.Prelude.{◌==◌, Option, Some, None, IfSome, option_map, if◌then◌else◌}
 use Rattle.std.proofs.Math.Path.{subst}
 use Rattle.std.proofs.lemmas.Bool.{false≢true}
@@ -10,12 +10,14 @@ use Rattle.core_model.specs.View.{View, Entry}
 use Rattle.core_model.specs.Page.{Plan}
 use Rattle.core_model.specs.Client.{Client, new_client, told_of_edit, told_of_result}
 use Rattle.core_model.specs.Requests.{Request, heard}
-use Rattle.core_model.specs.Core.{Core, Event, change, connect, request, disconnect, client_at, told_of, is_full, connected, requested, disconnected, core_after, changes_of}
+use Rattle.core_model.specs.Roots.{are_bad, roots_or}
+use Rattle.core_model.specs.Core.{Core, Event, change, connect, request, disconnect, client_at, told_of, after_change, is_full, if_room, connected, requested, disconnected, step, core_after, changes_of}
 use Rattle.core_model.proofs.Clients.{at_without, at_with, at_each}
-use Rattle.core_model.proofs.Replaying.{sources_are}
-use Rattle.core_laws.specs.Given.{given, entry_of, IsGiven}
-use Rattle.core_laws.specs.Facts.{PlanIs, PlanIsServed, IsAtMost, ClientFacts}
-use Rattle.core_laws.proofs.Givens.{sources_facts, given_stays}
+use Rattle.core_model.proofs.Replaying.{sources_are, connected_sources, requested_sources, disconnected_sources}
+use Rattle.core_laws.specs.Given.{given_too, given, entry_of, IsGiven}
+use Rattle.core_laws.specs.Facts.{PlanIs, PlanIsServed, IsAtMost, SourcesFacts, ClientFacts}
+use Rattle.core_laws.specs.Kept.{given_after, given_by, CoreFacts}
+use Rattle.core_laws.proofs.Givens.{sources_facts, sources_on, given_on_change}
 use Rattle.core_laws.proofs.Requesting.{with_notices, heard_keeps}
 
 -- what is served is the same, or the number of servings and removals rose
@@ -61,40 +63,40 @@ later_current s t c (inl e) l f k = subst (PlanIsServed c.page.plan c.page.view)
 later_current s t c (inr g) l f k = absurd (omega (arith, g, l, k))
 
 -- a record that isn't touched, when what is served may have changed
-pub later_keeps : (roots : List Name) (f g : Name → ℕ → Option Analysis) (s t : Sources) (c : Client) → Grows f g → IsLater s t → ClientFacts roots f s c → ClientFacts roots g t c
-later_keeps roots f g s t c more later facts = record {
+pub later_keeps : (f g : Name → ℕ → Option Analysis) (s t : Sources) (c : Client) → Grows f g → IsLater s t → ClientFacts f s c → ClientFacts g t c
+later_keeps f g s t c more later facts = record {
   closed = facts.closed;
   empty = facts.empty;
   rises = facts.rises;
   viewed = λ n. given_more f g more n (at c.page.view n) (facts.viewed n);
   accepting = facts.accepting;
-  planned = plan_more f g more c.page.plan roots c.page.loaded c.page.view c.page.forced facts.planned;
+  planned = plan_more f g more c.page.plan c.roots c.page.loaded c.page.view c.page.forced facts.planned;
   begun = omega (arith, facts.begun, later_low s t later);
   held = most_later c.held_at s.served_no t.served_no (later_low s t later) facts.held;
   current = later_current s t c later facts.begun facts.current;
 }
 
-module _ (roots : List Name) (by : Name → ℕ → Option Analysis) (t : Sources) (all_given : (n : Name) → IsGiven (by n) (entry_of (at t.served n))) (c : Client) (facts : ClientFacts roots by t c) where
-  edit_told : (answer : EditAnswer) (n : Name) → ClientFacts roots by t (told_of_edit answer n c)
+module _ (by : Name → ℕ → Option Analysis) (t : Sources) (all_given : (n : Name) → IsGiven (by n) (entry_of (at t.served n))) (c : Client) (facts : ClientFacts by t c) where
+  edit_told : (answer : EditAnswer) (n : Name) → ClientFacts by t (told_of_edit answer n c)
   edit_told (job v) n = facts
   edit_told same n = facts
-  edit_told (removed v) n = with_notices roots by t all_given c facts _
+  edit_told (removed v) n = with_notices by t all_given c facts _
   edit_told (refused w) n = facts
 
-  result_told : (answer : ResultAnswer) (n : Name) → ClientFacts roots by t (told_of_result answer n c)
-  result_told (serve a) n = with_notices roots by t all_given c facts _
-  result_told (refuse f) n = with_notices roots by t all_given c facts _
+  result_told : (answer : ResultAnswer) (n : Name) → ClientFacts by t (told_of_result answer n c)
+  result_told (serve a) n = with_notices by t all_given c facts _
+  result_told (refuse f) n = with_notices by t all_given c facts _
   result_told late n = facts
 
-  told_keeps : (s : Sources) (ch : Change) → ClientFacts roots by t (told_of s ch c)
+  told_keeps : (s : Sources) (ch : Change) → ClientFacts by t (told_of s ch c)
   told_keeps s (edit n x) = edit_told (edit_answer s n x) n
   told_keeps s (result n x o v) = result_told (result_answer s n x o v) n
 
-change_keeps : (roots : List Name) (past : List Change) (ch : Change) (c : Client) (s : Sources) → s ≡ sources_after past → ClientFacts roots (given past) s c → ClientFacts roots (given (ch ∷ past)) (changed_by s ch) (told_of s ch c)
-change_keeps roots past ch c s e facts = told_keeps roots (given (ch ∷ past)) (changed_by s ch) (λ n. subst (λ x. IsGiven (given (ch ∷ past) n) (entry_of (at (changed_by x ch).served n))) (sym e) ((sources_facts (ch ∷ past)).served n)) c
-    (later_keeps roots (given past) (given (ch ∷ past)) s (changed_by s ch) c (given_stays past ch) (changed_later s ch) facts) s ch
+change_keeps : (by : Name → ℕ → Option Analysis) (s : Sources) (ch : Change) (c : Client) → SourcesFacts by s → ClientFacts by s c → ClientFacts (given_after s by ch) (changed_by s ch) (told_of s ch c)
+change_keeps by s ch c sources facts = told_keeps (given_after s by ch) (changed_by s ch) (sources_on by s ch sources).served c
+    (later_keeps by (given_after s by ch) s (changed_by s ch) c (given_on_change by s ch sources) (changed_later s ch) facts) s ch
 
-pub new_facts : (roots : List Name) (by : Name → ℕ → Option Analysis) (s : Sources) → ClientFacts roots by s (new_client s.served_no)
+pub new_facts : (roots : List Name) (by : Name → ℕ → Option Analysis) (s : Sources) → ClientFacts by s (new_client roots s.served_no)
 new_facts roots by s = record { closed = λ h. absurd (false≢true h); empty = λ h. refl; rises = refl; viewed = λ n. tt; accepting = λ n h. absurd (false≢true h); planned = (refl, λ n. tt); begun = omega arith; held = tt; current = λ e. (λ n. tt, tt) }
 
 -- Each client.
@@ -107,31 +109,63 @@ some_map : {X : Type 0} (P Q : X → Type 0) (f : X → X) (o : Option X) → ((
 some_map P Q f None g p = tt
 some_map P Q f (Some x) g p = g x p
 
-abbrev AllClients : List Name → (Name → ℕ → Option Analysis) → Core → Type 0
-AllClients roots by core = (j : ℕ) → IfSome (client_at core.clients j) (ClientFacts roots by core.sources)
+abbrev AllClients : (Name → ℕ → Option Analysis) → Core → Type 0
+AllClients by core = (j : ℕ) → IfSome (client_at core.clients j) (ClientFacts by core.sources)
 
-connect_keeps : (full : Bool) (roots : List Name) (by : Name → ℕ → Option Analysis) (core : Core) → AllClients roots by core → AllClients roots by (connected full roots core).0
-connect_keeps true roots by core f j = f j
-connect_keeps false roots by core f j = subst (λ o. IfSome o (ClientFacts roots by core.sources)) (sym (at_with (core.given + 1) (new_client core.sources.served_no) core.clients j))
-    (some_if (ClientFacts roots by core.sources) (core.given + 1 == j) _ _ (new_facts roots by core.sources) (f j))
+room_keeps : (full : Bool) (names : List Name) (by : Name → ℕ → Option Analysis) (core : Core) → AllClients by core → AllClients by (if_room full names core).0
+room_keeps true names by core f j = f j
+room_keeps false names by core f j = subst (λ o. IfSome o (ClientFacts by core.sources)) (sym (at_with (core.given + 1) (new_client names core.sources.served_no) core.clients j))
+    (some_if (ClientFacts by core.sources) (core.given + 1 == j) _ _ (new_facts names by core.sources) (f j))
 
-request_keeps : (o : Option Client) (roots : List Name) (by : Name → ℕ → Option Analysis) (i : ℕ) (core : Core) (r : Request) → ((n : Name) → IsGiven (by n) (entry_of (at core.sources.served n))) → IfSome o (ClientFacts roots by core.sources) → AllClients roots by core → AllClients roots by (requested o roots i core r).0
-request_keeps None roots by i core r g h f j = f j
-request_keeps (Some c) roots by i core r g h f j = subst (λ o. IfSome o (ClientFacts roots by core.sources)) (sym (at_with i (heard roots i core.sources c r).0 core.clients j))
-    (some_if (ClientFacts roots by core.sources) (i == j) _ _ (heard_keeps roots by core.sources g c h i r) (f j))
+connect_keeps : (bad : Bool) (names : List Name) (by : Name → ℕ → Option Analysis) (core : Core) → AllClients by core → AllClients by (connected bad names core).0
+connect_keeps true names by core f j = f j
+connect_keeps false names by core f j = room_keeps (is_full core) names by core f j
 
-disconnect_keeps : (o : Option Client) (roots : List Name) (by : Name → ℕ → Option Analysis) (i : ℕ) (core : Core) → AllClients roots by core → AllClients roots by (disconnected o i core).0
-disconnect_keeps None roots by i core f j = f j
-disconnect_keeps (Some c) roots by i core f j = subst (λ o. IfSome o (ClientFacts roots by core.sources)) (sym (at_without i core.clients j)) (some_if (ClientFacts roots by core.sources) (i == j) None _ tt (f j))
+request_keeps : (o : Option Client) (by : Name → ℕ → Option Analysis) (i : ℕ) (core : Core) (r : Request) → ((n : Name) → IsGiven (by n) (entry_of (at core.sources.served n))) → IfSome o (ClientFacts by core.sources) → AllClients by core → AllClients by (requested o i core r).0
+request_keeps None by i core r g h f j = f j
+request_keeps (Some c) by i core r g h f j = subst (λ o. IfSome o (ClientFacts by core.sources)) (sym (at_with i (heard i core.sources c r).0 core.clients j))
+    (some_if (ClientFacts by core.sources) (i == j) _ _ (heard_keeps by core.sources g c h i r) (f j))
+
+disconnect_keeps : (o : Option Client) (by : Name → ℕ → Option Analysis) (i : ℕ) (core : Core) → AllClients by core → AllClients by (disconnected o i core).0
+disconnect_keeps None by i core f j = f j
+disconnect_keeps (Some c) by i core f j = subst (λ o. IfSome o (ClientFacts by core.sources)) (sym (at_without i core.clients j)) (some_if (ClientFacts by core.sources) (i == j) None _ tt (f j))
+
+change_all : (by : Name → ℕ → Option Analysis) (core : Core) (ch : Change) → CoreFacts by core → AllClients (given_after core.sources by ch) (after_change core ch)
+change_all by core ch f j = subst (λ o. IfSome o (ClientFacts (given_after core.sources by ch) (changed_by core.sources ch))) (sym (at_each (told_of core.sources ch) core.clients j))
+    (some_map (ClientFacts by core.sources) (ClientFacts (given_after core.sources by ch) (changed_by core.sources ch)) (told_of core.sources ch) (client_at core.clients j) (λ c. change_keeps by core.sources ch c f.sources) (f.clients j))
+
+-- each event keeps the facts
+pub facts_on : (roots : List Name) (by : Name → ℕ → Option Analysis) (core : Core) (event : Event) → CoreFacts by core → CoreFacts (given_by core by event) (step roots core event).0
+facts_on roots by core (change ch) f = record { sources = sources_on by core.sources ch f.sources; clients = change_all by core ch f }
+facts_on roots by core (connect names) f = record {
+  sources = subst (SourcesFacts by) (sym (connected_sources (are_bad names) (roots_or names roots) core)) f.sources;
+  clients = connect_keeps (are_bad names) (roots_or names roots) by core f.clients;
+}
+facts_on roots by core (request i r) f = record {
+  sources = subst (SourcesFacts by) (sym (requested_sources (client_at core.clients i) i core r)) f.sources;
+  clients = request_keeps (client_at core.clients i) by i core r f.sources.served (f.clients i) f.clients;
+}
+facts_on roots by core (disconnect i) f = record {
+  sources = subst (SourcesFacts by) (sym (disconnected_sources (client_at core.clients i) i core)) f.sources;
+  clients = disconnect_keeps (client_at core.clients i) by i core f.clients;
+}
+
+-- what is known after the events is what is known after their edits and results
+given_is : (roots : List Name) (past : List Event) (ch : Change) → given_after (core_after roots past).sources (given (changes_of past)) ch ≡ given (ch ∷ changes_of past)
+given_is roots past (edit n t) = refl
+given_is roots past (result n t o v) = ap (λ s. given_too (result_answer s n t o v) n v (given (changes_of past))) (sources_are roots past)
+
+-- every list of events keeps the facts of the core
+pub core_facts : (roots : List Name) (past : List Event) → CoreFacts (given (changes_of past)) (core_after roots past)
+core_facts roots [] = record { sources = sources_facts []; clients = λ j. tt }
+core_facts roots (change ch ∷ past) = subst (λ by. CoreFacts by (core_after roots (change ch ∷ past))) (given_is roots past ch) (facts_on roots (given (changes_of past)) (core_after roots past) (change ch) (core_facts roots past))
+core_facts roots (connect names ∷ past) = facts_on roots (given (changes_of past)) (core_after roots past) (connect names) (core_facts roots past)
+core_facts roots (request i r ∷ past) = facts_on roots (given (changes_of past)) (core_after roots past) (request i r) (core_facts roots past)
+core_facts roots (disconnect i ∷ past) = facts_on roots (given (changes_of past)) (core_after roots past) (disconnect i) (core_facts roots past)
 
 pub served_given : (roots : List Name) (past : List Event) (n : Name) → IsGiven (given (changes_of past) n) (entry_of (at (core_after roots past).sources.served n))
-served_given roots past n = subst (λ s. IsGiven (given (changes_of past) n) (entry_of (at s.served n))) (sym (sources_are roots past)) ((sources_facts (changes_of past)).served n)
+served_given roots past = (core_facts roots past).sources.served
 
 -- every list of events keeps the facts of each client
-pub client_facts : (roots : List Name) (past : List Event) (j : ℕ) → IfSome (client_at (core_after roots past).clients j) (ClientFacts roots (given (changes_of past)) (core_after roots past).sources)
-client_facts roots [] j = tt
-client_facts roots (change ch ∷ past) j = subst (λ o. IfSome o (ClientFacts roots (given (ch ∷ changes_of past)) (changed_by (core_after roots past).sources ch))) (sym (at_each (told_of (core_after roots past).sources ch) (core_after roots past).clients j))
-    (some_map (ClientFacts roots (given (changes_of past)) (core_after roots past).sources) (ClientFacts roots (given (ch ∷ changes_of past)) (changed_by (core_after roots past).sources ch)) (told_of (core_after roots past).sources ch) (client_at (core_after roots past).clients j) (λ c. change_keeps roots (changes_of past) ch c (core_after roots past).sources (sources_are roots past)) (client_facts roots past j))
-client_facts roots (connect ∷ past) j = connect_keeps (is_full (core_after roots past)) roots (given (changes_of past)) (core_after roots past) (client_facts roots past) j
-client_facts roots (request i r ∷ past) j = request_keeps (client_at (core_after roots past).clients i) roots (given (changes_of past)) i (core_after roots past) r (served_given roots past) (client_facts roots past i) (client_facts roots past) j
-client_facts roots (disconnect i ∷ past) j = disconnect_keeps (client_at (core_after roots past).clients i) roots (given (changes_of past)) i (core_after roots past) (client_facts roots past) j
+pub client_facts : (roots : List Name) (past : List Event) (j : ℕ) → IfSome (client_at (core_after roots past).clients j) (ClientFacts (given (changes_of past)) (core_after roots past).sources)
+client_facts roots past = (core_facts roots past).clients

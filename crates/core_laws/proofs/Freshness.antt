@@ -70,7 +70,7 @@ version_if : (r : Bool) (s : Option Serving) → version_of (if r then entry_of 
 version_if true s = sym (served_version s)
 version_if false s = refl
 
-module _ (roots : List Name) (by : Name → ℕ → Option Analysis) (s : Sources) (c : Client) (all_given : (n : Name) → IsGiven (by n) (entry_of (at s.served n))) (facts : ClientFacts roots by s c) (up : IsUpToDate roots s c) where
+module _ (by : Name → ℕ → Option Analysis) (s : Sources) (c : Client) (all_given : (n : Name) → IsGiven (by n) (entry_of (at s.served n))) (facts : ClientFacts by s c) (up : IsUpToDate s c) where
   unchanged_at : (n : Name) → has (changed_of s.served c.page.view) n ≡ false
   unchanged_at n = ap (λ l. has l n) up.unchanged
 
@@ -81,30 +81,30 @@ module _ (roots : List Name) (by : Name → ℕ → Option Analysis) (s : Source
   same_imports n h m = served_imports (at s.served n) m ∙ ap (λ o. has (imports_of o) m) (same_at n h)
 
   -- the view has all that is reached
-  view_has : (n : Name) → Reaches (fresh.imports s.served) roots n → is_in c.page.view n ≡ true
-  view_has = reaches_within (fresh.imports s.served) roots (λ n. is_in c.page.view n ≡ true) (facts.closed up.loaded).begun
+  view_has : (n : Name) → Reaches (fresh.imports s.served) c.roots n → is_in c.page.view n ≡ true
+  view_has = reaches_within (fresh.imports s.served) c.roots (λ n. is_in c.page.view n ≡ true) (facts.closed up.loaded).begun
       (λ n m h e. (facts.closed up.loaded).on n m (sym (same_imports n h m) ∙ e))
 
   -- all of the view is reached
-  fresh_has : (n : Name) → is_in c.page.view n ≡ true → Reaches (fresh.imports s.served) roots n
-  fresh_has n h = reaches_within (imports c.page.view) roots (Reaches (fresh.imports s.served) roots) (reaches_start (fresh.imports s.served) roots)
-      (λ k m r e. reaches_on (fresh.imports s.served) roots k m r (same_imports k (named c.page.view k ∙ importer_named c.page.view k m e) m ∙ e))
-      n (undropped_reached c.page.view roots n h (ap (λ l. has l n) up.whole))
+  fresh_has : (n : Name) → is_in c.page.view n ≡ true → Reaches (fresh.imports s.served) c.roots n
+  fresh_has n h = reaches_within (imports c.page.view) c.roots (Reaches (fresh.imports s.served) c.roots) (reaches_start (fresh.imports s.served) c.roots)
+      (λ k m r e. reaches_on (fresh.imports s.served) c.roots k m r (same_imports k (named c.page.view k ∙ importer_named c.page.view k m e) m ∙ e))
+      n (undropped_reached c.page.view c.roots n h (ap (λ l. has l n) up.whole))
 
-  entry_at : (n : Name) → at c.page.view n ≡ (if has (reached_by s.served roots) n then entry_of (at s.served n) else None)
-  entry_at n = entry_go (at c.page.view n) (entry_of (at s.served n)) (has (reached_by s.served roots) n)
-      (λ h. (reached_is s.served roots n).1 (fresh_has n h)) (same_at n) (λ h. view_has n ((reached_is s.served roots n).0 h))
+  entry_at : (n : Name) → at c.page.view n ≡ (if has (reached_by s.served c.roots) n then entry_of (at s.served n) else None)
+  entry_at n = entry_go (at c.page.view n) (entry_of (at s.served n)) (has (reached_by s.served c.roots) n)
+      (λ h. (reached_is s.served c.roots n).1 (fresh_has n h)) (same_at n) (λ h. view_has n ((reached_is s.served c.roots n).0 h))
 
-  there_at : (n : Name) → has (reached_by s.served roots) n ≡ true → is_some (at s.served n) ≡ true
+  there_at : (n : Name) → has (reached_by s.served c.roots) n ≡ true → is_some (at s.served n) ≡ true
   there_at n h =
-      let i : is_in c.page.view n ≡ true = view_has n ((reached_is s.served roots n).0 h) in
+      let i : is_in c.page.view n ≡ true = view_has n ((reached_is s.served c.roots n).0 h) in
       served_there (at s.served n) ∙ ap is_some (same_at n i) ∙ i
 
-  pub is_fresh : IsFreshLoad roots s c
+  pub is_fresh : IsFreshLoad s c
   is_fresh = record {
-    table = rising_same (table_of c.page.view) (fresh_table s.served roots) (ap rising (names_kept c.page.view) ∙ facts.rises)
-        (collect_rises (λ n. version_in (at s.served n)) (reached_by s.served roots) (sorted_rises (reached_of (fresh.imports s.served) (fresh.imported_of s.served) roots)))
-        (λ n. at_table c.page.view n ∙ ap version_of (entry_at n) ∙ version_if (has (reached_by s.served roots) n) (at s.served n) ∙ sym (at_fresh s.served roots n));
+    table = rising_same (table_of c.page.view) (fresh_table s.served c.roots) (ap rising (names_kept c.page.view) ∙ facts.rises)
+        (collect_rises (λ n. version_in (at s.served n)) (reached_by s.served c.roots) (sorted_rises (reached_of (fresh.imports s.served) (fresh.imported_of s.served) c.roots)))
+        (λ n. at_table c.page.view n ∙ ap version_of (entry_at n) ∙ version_if (has (reached_by s.served c.roots) n) (at s.served n) ∙ sym (at_fresh s.served c.roots n));
     entries = entry_at;
-    nothing_missing = filter_none (λ n. not (is_some (at s.served n))) (reached_by s.served roots) (λ n h. ap not (there_at n h));
+    nothing_missing = filter_none (λ n. not (is_some (at s.served n))) (reached_by s.served c.roots) (λ n h. ap not (there_at n h));
   }

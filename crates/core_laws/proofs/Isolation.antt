@@ -9,8 +9,10 @@ use Rattle.hmr_types.specs.declared.limits.TheConstants.{CLIENTS, LARGEST_CLIENT
 use Rattle.core_model.specs.Names.{Name}
 use Rattle.core_model.specs.Sources.{Change, edit, result, changed_by, edit_answer, result_answer}
 use Rattle.core_model.specs.Client.{Client, new_client}
-use Rattle.core_model.specs.Requests.{Request, Reply, edited, settled, heard}
-use Rattle.core_model.specs.Core.{Core, Event, change, connect, request, disconnect, client_at, told_of, after_change, answer_change, is_full, connected, requested, disconnected, step, core_after, replay, replies}
+use Rattle.core_model.specs.Requests.{Request, Reply, edited, settled, to_client, heard}
+use Rattle.core_model.specs.Roots.{are_bad, roots_or}
+use Rattle.update_msgs.specs.declared.message.ServerMsg.TheVariants as msg
+use Rattle.core_model.specs.Core.{Core, Event, change, connect, request, disconnect, client_at, told_of, after_change, answer_change, is_full, if_room, connected, requested, disconnected, step, core_after, replay, replies}
 use Rattle.core_model.proofs.Clients.{at_without, at_with, at_each}
 use Rattle.core_laws.specs.Isolated.{concerns, without_others, replies_without_others, AreNumbered}
 use Rattle.core_laws.proofs.Numbers.{length_with, length_new, length_without, map_there, step_numbered, numbered, next_absent}
@@ -21,9 +23,9 @@ else_same : {X : Type 0} (b : Bool) (x o : Option X) → b ≡ false → (if b t
 else_same true x o e = absurd (false≢true (sym e))
 else_same false x o e = refl
 
-request_elsewhere : (o : Option Client) (roots : List Name) (i j : ℕ) (core : Core) (r : Request) → (i == j) ≡ false → client_at (requested o roots i core r).0.clients j ≡ client_at core.clients j
-request_elsewhere None roots i j core r e = refl
-request_elsewhere (Some c) roots i j core r e = at_with i (heard roots i core.sources c r).0 core.clients j ∙ else_same (i == j) (Some (heard roots i core.sources c r).0) (client_at core.clients j) e
+request_elsewhere : (o : Option Client) (i j : ℕ) (core : Core) (r : Request) → (i == j) ≡ false → client_at (requested o i core r).0.clients j ≡ client_at core.clients j
+request_elsewhere None i j core r e = refl
+request_elsewhere (Some c) i j core r e = at_with i (heard i core.sources c r).0 core.clients j ∙ else_same (i == j) (Some (heard i core.sources c r).0) (client_at core.clients j) e
 
 disconnect_elsewhere : (o : Option Client) (i j : ℕ) (core : Core) → (i == j) ≡ false → client_at (disconnected o i core).0.clients j ≡ client_at core.clients j
 disconnect_elsewhere None i j core e = refl
@@ -31,7 +33,7 @@ disconnect_elsewhere (Some c) i j core e = at_without i core.clients j ∙ else_
 
 -- a request leaves the records of other clients
 pub other_request : (roots : List Name) (core : Core) (i j : ℕ) (r : Request) → (i == j) ≡ false → client_at (step roots core (request i r)).0.clients j ≡ client_at core.clients j
-other_request roots core i j r e = request_elsewhere (client_at core.clients i) roots i j core r e
+other_request roots core i j r e = request_elsewhere (client_at core.clients i) i j core r e
 
 -- and so does a client that goes
 pub other_leaves : (roots : List Name) (core : Core) (i j : ℕ) → (i == j) ≡ false → client_at (step roots core (disconnect i)).0.clients j ≡ client_at core.clients j
@@ -41,13 +43,17 @@ not_next : (core : Core) → AreNumbered core → (j : ℕ) → is_some (client_
 not_next core n j h false e = refl
 not_next core n j h true e = absurd (false≢true (sym (next_absent core n) ∙ ap (λ k. is_some (client_at core.clients k)) (eqb-true (core.given + 1) j e) ∙ h))
 
-connect_elsewhere : (full : Bool) (roots : List Name) (core : Core) → AreNumbered core → (j : ℕ) → is_some (client_at core.clients j) ≡ true → client_at (connected full roots core).0.clients j ≡ client_at core.clients j
-connect_elsewhere true roots core n j h = refl
-connect_elsewhere false roots core n j h = at_with (core.given + 1) (new_client core.sources.served_no) core.clients j ∙ else_same (core.given + 1 == j) (Some (new_client core.sources.served_no)) (client_at core.clients j) (not_next core n j h (core.given + 1 == j) refl)
+room_elsewhere : (full : Bool) (names : List Name) (core : Core) → AreNumbered core → (j : ℕ) → is_some (client_at core.clients j) ≡ true → client_at (if_room full names core).0.clients j ≡ client_at core.clients j
+room_elsewhere true names core n j h = refl
+room_elsewhere false names core n j h = at_with (core.given + 1) (new_client names core.sources.served_no) core.clients j ∙ else_same (core.given + 1 == j) (Some (new_client names core.sources.served_no)) (client_at core.clients j) (not_next core n j h (core.given + 1 == j) refl)
+
+connect_elsewhere : (bad : Bool) (names : List Name) (core : Core) → AreNumbered core → (j : ℕ) → is_some (client_at core.clients j) ≡ true → client_at (connected bad names core).0.clients j ≡ client_at core.clients j
+connect_elsewhere true names core n j h = refl
+connect_elsewhere false names core n j h = room_elsewhere (is_full core) names core n j h
 
 -- and so does one that comes
-pub other_comes : (roots : List Name) (past : List Event) (j : ℕ) → is_some (client_at (core_after roots past).clients j) ≡ true → client_at (core_after roots (connect ∷ past)).clients j ≡ client_at (core_after roots past).clients j
-other_comes roots past j h = connect_elsewhere (is_full (core_after roots past)) roots (core_after roots past) (numbered roots past) j h
+pub other_comes : (roots : List Name) (past : List Event) (names : List Name) (j : ℕ) → is_some (client_at (core_after roots past).clients j) ≡ true → client_at (core_after roots (connect names ∷ past)).clients j ≡ client_at (core_after roots past).clients j
+other_comes roots past names j h = connect_elsewhere (are_bad names) (roots_or names roots) (core_after roots past) (numbered roots past) j h
 
 -- Two cores that agree but for other clients' records.
 
@@ -74,13 +80,17 @@ module _ (roots : List Name) (d : ℕ) (g h : Core) (a : Agree d g h) where
   change_answered (edit n t) = ap (λ s. edited (edit_answer s n t)) a.sources
   change_answered (result n t o v) = ap (λ s. settled (result_answer s n t o v)) a.sources
 
-  connect_answered : (full : Bool) → (connected full roots g).1 ≡ (connected full roots h).1
-  connect_answered true = refl
-  connect_answered false = ap (λ k. (connected false roots (record { sources = h.sources; clients = h.clients; given = k })).1) a.given
+  room_answered : (full : Bool) (names : List Name) → (if_room full names g).1 ≡ (if_room full names h).1
+  room_answered true names = refl
+  room_answered false names = ap (λ k. to_client (msg.Connected (k + 1) names)) a.given
 
-  request_answered : (o : Option Client) (r : Request) → (requested o roots d g r).1 ≡ (requested o roots d h r).1
+  connect_answered : (bad : Bool) (names : List Name) → (connected bad names g).1 ≡ (connected bad names h).1
+  connect_answered true names = refl
+  connect_answered false names = room_answered (is_full g) names ∙ ap (λ b. (if_room b names h).1) (full_same d g h a)
+
+  request_answered : (o : Option Client) (r : Request) → (requested o d g r).1 ≡ (requested o d h r).1
   request_answered None r = refl
-  request_answered (Some c) r = ap (λ s. (heard roots d s c r).1) a.sources
+  request_answered (Some c) r = ap (λ s. (heard d s c r).1) a.sources
 
   disconnect_answered : (o q : Option Client) (i : ℕ) → is_some o ≡ is_some q → (disconnected o i g).1 ≡ (disconnected q i h).1
   disconnect_answered None None i e = refl
@@ -89,11 +99,11 @@ module _ (roots : List Name) (d : ℕ) (g h : Core) (a : Agree d g h) where
   disconnect_answered (Some c) (Some k) i e = refl
 
   own_answered : (i : ℕ) (r : Request) → i ≡ d → (step roots g (request i r)).1 ≡ (step roots h (request i r)).1
-  own_answered i r e = ap (λ k. (step roots g (request k r)).1) e ∙ request_answered (client_at g.clients d) r ∙ ap (λ o. (requested o roots d h r).1) a.own ∙ ap (λ k. (step roots h (request k r)).1) (sym e)
+  own_answered i r e = ap (λ k. (step roots g (request k r)).1) e ∙ request_answered (client_at g.clients d) r ∙ ap (λ o. (requested o d h r).1) a.own ∙ ap (λ k. (step roots h (request k r)).1) (sym e)
 
   same_reply : (event : Event) → concerns d event ≡ true → (step roots g event).1 ≡ (step roots h event).1
   same_reply (change ch) t = change_answered ch
-  same_reply connect t = connect_answered (is_full g) ∙ ap (λ b. (connected b roots h).1) (full_same d g h a)
+  same_reply (connect names) t = connect_answered (are_bad names) (roots_or names roots)
   same_reply (request i r) t = own_answered i r (eqb-true i d t)
   same_reply (disconnect i) t = disconnect_answered (client_at g.clients i) (client_at h.clients i) i (a.there i)
 
@@ -107,58 +117,62 @@ module _ (roots : List Name) (d : ℕ) (g h : Core) (a : Agree d g h) where
   }
 
   module _ (ng : AreNumbered g) where
-    other_step : (i : ℕ) (r : Request) → (i == d) ≡ false → (o : Option Client) → client_at g.clients i ≡ o → Agree d (requested o roots i g r).0 h
+    other_step : (i : ℕ) (r : Request) → (i == d) ≡ false → (o : Option Client) → client_at g.clients i ≡ o → Agree d (requested o i g r).0 h
     other_step i r e None f = a
     other_step i r e (Some c) f = record {
       sources = a.sources;
       given = a.given;
-      own = request_elsewhere (Some c) roots i d g r e ∙ a.own;
+      own = request_elsewhere (Some c) i d g r e ∙ a.own;
       there = λ j. ap is_some (at_with i new g.clients j) ∙ there_still j (i == j) (eqb-true i j) ∙ a.there j;
-      many = length_with i new g.clients (ng.once i) (ap is_some f) ∙ a.many;
+      many = length_with i new g.clients (ap is_some f) ∙ a.many;
     }
       where
         new : Client
-        new = (heard roots i g.sources c r).0
+        new = (heard i g.sources c r).0
 
         there_still : (j : ℕ) (b : Bool) → (b ≡ true → i ≡ j) → is_some (if b then Some new else client_at g.clients j) ≡ is_some (client_at g.clients j)
         there_still j true q = sym (ap (λ k. is_some (client_at g.clients k)) (sym (q refl)) ∙ ap is_some f)
         there_still j false q = refl
 
     module _ (nh : AreNumbered h) where
-      both_connect : (full : Bool) → Agree d (connected full roots g).0 (connected full roots h).0
-      both_connect true = a
-      both_connect false = record {
+      both_admitted : (full : Bool) (names : List Name) → Agree d (if_room full names g).0 (if_room full names h).0
+      both_admitted true names = a
+      both_admitted false names = record {
         sources = a.sources;
         given = ap (λ k. k + 1) a.given;
-        own = at_with (g.given + 1) (new_client g.sources.served_no) g.clients d
-            ∙ ap (λ k. if k + 1 == d then Some (new_client g.sources.served_no) else client_at g.clients d) a.given
-            ∙ ap (λ s. if h.given + 1 == d then Some (new_client s.served_no) else client_at g.clients d) a.sources
-            ∙ ap (λ o. if h.given + 1 == d then Some (new_client h.sources.served_no) else o) a.own
-            ∙ sym (at_with (h.given + 1) (new_client h.sources.served_no) h.clients d);
-        there = λ i. ap is_some (at_with (g.given + 1) (new_client g.sources.served_no) g.clients i)
-            ∙ ap (λ k. is_some (if k + 1 == i then Some (new_client g.sources.served_no) else client_at g.clients i)) a.given
-            ∙ there_if (h.given + 1 == i) (new_client g.sources.served_no) (new_client h.sources.served_no) (client_at g.clients i) (client_at h.clients i) (a.there i)
-            ∙ sym (ap is_some (at_with (h.given + 1) (new_client h.sources.served_no) h.clients i));
-        many = length_new (g.given + 1) (new_client g.sources.served_no) g.clients (next_absent g ng) ∙ ap suc a.many ∙ sym (length_new (h.given + 1) (new_client h.sources.served_no) h.clients (next_absent h nh));
+        own = at_with (g.given + 1) (new_client names g.sources.served_no) g.clients d
+            ∙ ap (λ k. if k + 1 == d then Some (new_client names g.sources.served_no) else client_at g.clients d) a.given
+            ∙ ap (λ s. if h.given + 1 == d then Some (new_client names s.served_no) else client_at g.clients d) a.sources
+            ∙ ap (λ o. if h.given + 1 == d then Some (new_client names h.sources.served_no) else o) a.own
+            ∙ sym (at_with (h.given + 1) (new_client names h.sources.served_no) h.clients d);
+        there = λ i. ap is_some (at_with (g.given + 1) (new_client names g.sources.served_no) g.clients i)
+            ∙ ap (λ k. is_some (if k + 1 == i then Some (new_client names g.sources.served_no) else client_at g.clients i)) a.given
+            ∙ there_if (h.given + 1 == i) (new_client names g.sources.served_no) (new_client names h.sources.served_no) (client_at g.clients i) (client_at h.clients i) (a.there i)
+            ∙ sym (ap is_some (at_with (h.given + 1) (new_client names h.sources.served_no) h.clients i));
+        many = length_new (g.given + 1) (new_client names g.sources.served_no) g.clients (next_absent g ng) ∙ ap suc a.many ∙ sym (length_new (h.given + 1) (new_client names h.sources.served_no) h.clients (next_absent h nh));
       }
 
-      both_request : (r : Request) (o : Option Client) → client_at g.clients d ≡ o → client_at h.clients d ≡ o → Agree d (requested o roots d g r).0 (requested o roots d h r).0
+      both_connect : (bad : Bool) (names : List Name) → Agree d (connected bad names g).0 (connected bad names h).0
+      both_connect true names = a
+      both_connect false names = subst (λ b. Agree d (if_room (is_full g) names g).0 (if_room b names h).0) (full_same d g h a) (both_admitted (is_full g) names)
+
+      both_request : (r : Request) (o : Option Client) → client_at g.clients d ≡ o → client_at h.clients d ≡ o → Agree d (requested o d g r).0 (requested o d h r).0
       both_request r None e f = a
       both_request r (Some c) e f = record {
         sources = a.sources;
         given = a.given;
-        own = at_with d (heard roots d g.sources c r).0 g.clients d
-            ∙ ap (λ s. if d == d then Some (heard roots d s c r).0 else client_at g.clients d) a.sources
-            ∙ ap (λ o. if d == d then Some (heard roots d h.sources c r).0 else o) a.own
-            ∙ sym (at_with d (heard roots d h.sources c r).0 h.clients d);
-        there = λ i. ap is_some (at_with d (heard roots d g.sources c r).0 g.clients i)
-            ∙ there_if (d == i) (heard roots d g.sources c r).0 (heard roots d h.sources c r).0 (client_at g.clients i) (client_at h.clients i) (a.there i)
-            ∙ sym (ap is_some (at_with d (heard roots d h.sources c r).0 h.clients i));
-        many = length_with d (heard roots d g.sources c r).0 g.clients (ng.once d) (ap is_some e) ∙ a.many ∙ sym (length_with d (heard roots d h.sources c r).0 h.clients (nh.once d) (ap is_some f));
+        own = at_with d (heard d g.sources c r).0 g.clients d
+            ∙ ap (λ s. if d == d then Some (heard d s c r).0 else client_at g.clients d) a.sources
+            ∙ ap (λ o. if d == d then Some (heard d h.sources c r).0 else o) a.own
+            ∙ sym (at_with d (heard d h.sources c r).0 h.clients d);
+        there = λ i. ap is_some (at_with d (heard d g.sources c r).0 g.clients i)
+            ∙ there_if (d == i) (heard d g.sources c r).0 (heard d h.sources c r).0 (client_at g.clients i) (client_at h.clients i) (a.there i)
+            ∙ sym (ap is_some (at_with d (heard d h.sources c r).0 h.clients i));
+        many = length_with d (heard d g.sources c r).0 g.clients (ap is_some e) ∙ a.many ∙ sym (length_with d (heard d h.sources c r).0 h.clients (ap is_some f));
       }
 
       own_request : (r : Request) → Agree d (step roots g (request d r)).0 (step roots h (request d r)).0
-      own_request r = subst (λ o. Agree d (requested (client_at g.clients d) roots d g r).0 (requested o roots d h r).0) a.own (both_request r (client_at g.clients d) refl (sym a.own))
+      own_request r = subst (λ o. Agree d (requested (client_at g.clients d) d g r).0 (requested o d h r).0) a.own (both_request r (client_at g.clients d) refl (sym a.own))
 
       both_leave : (i : ℕ) (o q : Option Client) → client_at g.clients i ≡ o → client_at h.clients i ≡ q → is_some o ≡ is_some q → Agree d (disconnected o i g).0 (disconnected q i h).0
       both_leave i None None e f t = a
@@ -174,13 +188,13 @@ module _ (roots : List Name) (d : ℕ) (g h : Core) (a : Agree d g h) where
 
       both_step : (event : Event) → concerns d event ≡ true → Agree d (step roots g event).0 (step roots h event).0
       both_step (change ch) t = both_change ch
-      both_step connect t = subst (λ b. Agree d (connected (is_full g) roots g).0 (connected b roots h).0) (full_same d g h a) (both_connect (is_full g))
+      both_step (connect names) t = both_connect (are_bad names) (roots_or names roots)
       both_step (request i r) t = subst (λ k. Agree d (step roots g (request k r)).0 (step roots h (request k r)).0) (sym (eqb-true i d t)) (own_request r)
       both_step (disconnect i) t = both_leave i (client_at g.clients i) (client_at h.clients i) refl refl (a.there i)
 
     one_step : (event : Event) → concerns d event ≡ false → Agree d (step roots g event).0 h
     one_step (change ch) t = absurd (false≢true (sym t))
-    one_step connect t = absurd (false≢true (sym t))
+    one_step (connect names) t = absurd (false≢true (sym t))
     one_step (request i r) t = other_step i r t (client_at g.clients i) refl
     one_step (disconnect i) t = absurd (false≢true (sym t))
 

@@ -1,12 +1,15 @@
 -- Client numbers: each stands once among the records, and was given.
-use Rattle.std.proofs.Common.{◌≡◌, ℕ, zero, suc, ◌+◌, ◌≤◌, Bool, true, false, List, [], ◌∷◌, length, refl, ap, sym, ◌∙◌, arith}
+use Rattle.std.proofs.Common.{◌≡◌, ℕ, zero, suc, ◌+◌, ◌≤◌, Bool, true, false, List, [], ◌∷◌, ◌++◌, length, refl, ap, sym, ◌∙◌, arith}
 use Rattle.std.specs.Prelude.{filter, cond, not, ◌==◌, Option, Some, None, is_some, option_map, if◌then◌else◌}
 use Rattle.std.proofs.lemmas.Bool.{false≢true, eqb-true, eq-eqb}
 use Rattle.std.proofs.lemmas.List.Filters.{length-filter_both}
+use Rattle.std.proofs.lemmas.List.{length-append}
+use Rattle.std.proofs.lemmas.List.Elements.{filter-append}
 use Rattle.core_model.specs.Names.{Name}
 use Rattle.core_model.specs.Client.{Client, new_client}
 use Rattle.core_model.specs.Requests.{Request, heard}
-use Rattle.core_model.specs.Core.{Core, Event, change, connect, request, disconnect, client_at, without_client, with_client, each_client, told_of, is_full, connected, requested, disconnected, step, core_after}
+use Rattle.core_model.specs.Roots.{are_bad, roots_or}
+use Rattle.core_model.specs.Core.{Core, Event, change, connect, request, disconnect, client_at, without_client, with_client, each_client, told_of, is_full, if_room, connected, requested, disconnected, step, core_after}
 use Rattle.core_model.proofs.Clients.{at_without, at_with, at_each}
 use Rattle.core_laws.specs.Isolated.{records_of, AreNumbered}
 
@@ -65,12 +68,43 @@ module _ {X : Type 0} where
   pub none_without : (i : ℕ) (rows : List (ℕ × X)) → records_of i (without_client i rows) ≡ 0
   none_without i rows = absent_never i (without_client i rows) (ap is_some (at_without i rows i) ∙ none_left (i == i) (client_at rows i) (eq-eqb i i refl))
 
-  with_step : (i j : ℕ) (x : X) (b : Bool) (found : List (ℕ × X)) → (b ≡ true → length found ≡ 0) → length found ≤ 1 → length (cond b ((i, x) ∷ found) found) ≤ 1
-  with_step i j x true found e l = omega (arith, e refl)
-  with_step i j x false found e l = l
+  head_counts : (b : Bool) (x y : ℕ × X) (found more : List (ℕ × X)) → length found ≡ length more → length (cond b (x ∷ found) found) ≡ length (cond b (y ∷ more) more)
+  head_counts true x y found more e = ap suc e
+  head_counts false x y found more e = e
+
+  placed : (same : Bool) (i j : ℕ) (x : X) (row : ℕ × X) (rows rest : List (ℕ × X)) → (row.0 == i) ≡ same → (same ≡ false → records_of j rest ≡ records_of j rows) → records_of j (if same then (i, x) ∷ rows else row ∷ rest) ≡ records_of j (row ∷ rows)
+  placed true i j x row rows rest e h = ap (λ k. records_of j ((k, x) ∷ rows)) (sym (eqb-true row.0 i e)) ∙ head_counts (row.0 == j) (row.0, x) row _ _ refl
+  placed false i j x row rows rest e h = head_counts (row.0 == j) row row _ _ (h refl)
+
+  there_later : (b : Bool) (x : X) (o : Option X) → b ≡ false → is_some (if b then Some x else o) ≡ is_some o
+  there_later true x o e = absurd (false≢true (sym e))
+  there_later false x o e = refl
+
+  -- with a record in place of the number's own there are as many under each number
+  pub records_with : (i j : ℕ) (x : X) (rows : List (ℕ × X)) → is_some (client_at rows i) ≡ true → records_of j (with_client i x rows) ≡ records_of j rows
+  records_with i j x [] h = absurd (false≢true h)
+  records_with i j x (row ∷ rows) h = placed (row.0 == i) i j x row rows (with_client i x rows) refl (λ e. records_with i j x rows (sym (there_later (row.0 == i) row.1 (client_at rows i) e) ∙ h))
+
+  appended : (same : Bool) (i : ℕ) (x : X) (row : ℕ × X) (rows : List (ℕ × X)) → (row.0 == i) ≡ same → is_some (if same then Some row.1 else client_at rows i) ≡ false → (is_some (client_at rows i) ≡ false → with_client i x rows ≡ rows ++ (i, x) ∷ []) → (if same then (i, x) ∷ rows else row ∷ with_client i x rows) ≡ row ∷ (rows ++ (i, x) ∷ [])
+  appended true i x row rows e h f = absurd (false≢true (sym h))
+  appended false i x row rows e h f = ap (λ rest. row ∷ rest) (f h)
+
+  -- a new number comes last
+  pub with_new : (i : ℕ) (x : X) (rows : List (ℕ × X)) → is_some (client_at rows i) ≡ false → with_client i x rows ≡ rows ++ (i, x) ∷ []
+  with_new i x [] h = refl
+  with_new i x (row ∷ rows) h = appended (row.0 == i) i x row rows refl h (with_new i x rows)
+
+  last_counts : (i j : ℕ) (x : X) (found : List (ℕ × X)) (b : Bool) → (i == j) ≡ b → (i ≡ j → length found ≡ 0) → length found ≤ 1 → length (found ++ cond b ((i, x) ∷ []) []) ≤ 1
+  last_counts i j x found true e f l = omega (arith, length-append found ((i, x) ∷ []), f (eqb-true i j e))
+  last_counts i j x found false e f l = omega (arith, length-append found [], l)
+
+  once_by : (i : ℕ) (x : X) (rows : List (ℕ × X)) → ((j : ℕ) → records_of j rows ≤ 1) → (b : Bool) → is_some (client_at rows i) ≡ b → (j : ℕ) → records_of j (with_client i x rows) ≤ 1
+  once_by i x rows once true h j = omega (arith, records_with i j x rows h, once j)
+  once_by i x rows once false h j = ap_le (sym (ap (records_of j) (with_new i x rows h) ∙ ap length (filter-append (λ row. row.0 == j) rows ((i, x) ∷ []))))
+      (last_counts i j x (filter (λ row. row.0 == j) rows) (i == j) refl (λ e. ap (λ k. records_of k rows) (sym e) ∙ absent_never i rows h) (once j))
 
   pub once_with : (i : ℕ) (x : X) (rows : List (ℕ × X)) → ((j : ℕ) → records_of j rows ≤ 1) → (j : ℕ) → records_of j (with_client i x rows) ≤ 1
-  once_with i x rows once j = with_step i j x (i == j) (filter (λ row. row.0 == j) (without_client i rows)) (λ e. ap (λ k. records_of k (without_client i rows)) (sym (eqb-true i j e)) ∙ none_without i rows) (omega (arith, records_without i j rows, once j))
+  once_with i x rows once = once_by i x rows once (is_some (client_at rows i)) refl
 
   each_step : (f : X → X) (row : ℕ × X) (b : Bool) (found more : List (ℕ × X)) → length found ≡ length more → length (cond b ((row.0, f row.1) ∷ found) found) ≡ length (cond b (row ∷ more) more)
   each_step f row true found more e = ap suc e
@@ -80,13 +114,18 @@ module _ {X : Type 0} where
   records_each f j [] = refl
   records_each f j (row ∷ rows) = each_step f row (row.0 == j) _ _ (records_each f j rows)
 
+  length_placed : (same : Bool) (i : ℕ) (x : X) (row : ℕ × X) (rows rest : List (ℕ × X)) → (same ≡ false → length rest ≡ length rows) → length (if same then (i, x) ∷ rows else row ∷ rest) ≡ suc (length rows)
+  length_placed true i x row rows rest h = refl
+  length_placed false i x row rows rest h = ap suc (h refl)
+
   -- with a record in place of the number's own there are as many
-  pub length_with : (i : ℕ) (x : X) (rows : List (ℕ × X)) → records_of i rows ≤ 1 → is_some (client_at rows i) ≡ true → length (with_client i x rows) ≡ length rows
-  length_with i x rows l h = omega (arith, there_once i rows l h, records_and_others i rows)
+  pub length_with : (i : ℕ) (x : X) (rows : List (ℕ × X)) → is_some (client_at rows i) ≡ true → length (with_client i x rows) ≡ length rows
+  length_with i x [] h = absurd (false≢true h)
+  length_with i x (row ∷ rows) h = length_placed (row.0 == i) i x row rows (with_client i x rows) (λ e. length_with i x rows (sym (there_later (row.0 == i) row.1 (client_at rows i) e) ∙ h))
 
   -- with a record under a new number there is one more
   pub length_new : (i : ℕ) (x : X) (rows : List (ℕ × X)) → is_some (client_at rows i) ≡ false → length (with_client i x rows) ≡ suc (length rows)
-  length_new i x rows h = omega (arith, absent_never i rows h, records_and_others i rows)
+  length_new i x rows h = ap length (with_new i x rows h) ∙ omega (arith, length-append rows ((i, x) ∷ []))
 
   -- without a record there is one fewer
   pub length_without : (i : ℕ) (rows : List (ℕ × X)) → records_of i rows ≤ 1 → is_some (client_at rows i) ≡ true → suc (length (without_client i rows)) ≡ length rows
@@ -106,18 +145,22 @@ pub map_there : {X : Type 0} (f : X → X) (o : Option X) → is_some (option_ma
 map_there f None = refl
 map_there f (Some x) = refl
 
-connect_numbered : (full : Bool) (roots : List Name) (core : Core) → AreNumbered core → AreNumbered (connected full roots core).0
-connect_numbered true roots core n = n
-connect_numbered false roots core n = record {
-  once = once_with (core.given + 1) (new_client core.sources.served_no) core.clients n.once;
-  given = λ j h. low_if (core.given + 1) (core.given + 1) j (core.given + 1 == j) (new_client core.sources.served_no) (client_at core.clients j) refl (omega arith) (λ t. omega (arith, n.given j t)) (sym (ap is_some (at_with (core.given + 1) (new_client core.sources.served_no) core.clients j)) ∙ h);
+room_numbered : (full : Bool) (names : List Name) (core : Core) → AreNumbered core → AreNumbered (if_room full names core).0
+room_numbered true names core n = n
+room_numbered false names core n = record {
+  once = once_with (core.given + 1) (new_client names core.sources.served_no) core.clients n.once;
+  given = λ j h. low_if (core.given + 1) (core.given + 1) j (core.given + 1 == j) (new_client names core.sources.served_no) (client_at core.clients j) refl (omega arith) (λ t. omega (arith, n.given j t)) (sym (ap is_some (at_with (core.given + 1) (new_client names core.sources.served_no) core.clients j)) ∙ h);
 }
 
-request_numbered : (o : Option Client) (roots : List Name) (i : ℕ) (core : Core) (r : Request) → client_at core.clients i ≡ o → AreNumbered core → AreNumbered (requested o roots i core r).0
-request_numbered None roots i core r e n = n
-request_numbered (Some c) roots i core r e n = record {
-  once = once_with i (heard roots i core.sources c r).0 core.clients n.once;
-  given = λ j h. low_if core.given i j (i == j) (heard roots i core.sources c r).0 (client_at core.clients j) refl (n.given i (ap is_some e)) (n.given j) (sym (ap is_some (at_with i (heard roots i core.sources c r).0 core.clients j)) ∙ h);
+connect_numbered : (bad : Bool) (names : List Name) (core : Core) → AreNumbered core → AreNumbered (connected bad names core).0
+connect_numbered true names core n = n
+connect_numbered false names core n = room_numbered (is_full core) names core n
+
+request_numbered : (o : Option Client) (i : ℕ) (core : Core) (r : Request) → client_at core.clients i ≡ o → AreNumbered core → AreNumbered (requested o i core r).0
+request_numbered None i core r e n = n
+request_numbered (Some c) i core r e n = record {
+  once = once_with i (heard i core.sources c r).0 core.clients n.once;
+  given = λ j h. low_if core.given i j (i == j) (heard i core.sources c r).0 (client_at core.clients j) refl (n.given i (ap is_some e)) (n.given j) (sym (ap is_some (at_with i (heard i core.sources c r).0 core.clients j)) ∙ h);
 }
 
 disconnect_numbered : (o : Option Client) (i : ℕ) (core : Core) → AreNumbered core → AreNumbered (disconnected o i core).0
@@ -132,8 +175,8 @@ step_numbered roots core (change ch) n = record {
   once = λ j. omega (arith, records_each (told_of core.sources ch) j core.clients, n.once j);
   given = λ j h. n.given j (sym (ap is_some (at_each (told_of core.sources ch) core.clients j) ∙ map_there (told_of core.sources ch) (client_at core.clients j)) ∙ h);
 }
-step_numbered roots core connect n = connect_numbered (is_full core) roots core n
-step_numbered roots core (request i r) n = request_numbered (client_at core.clients i) roots i core r refl n
+step_numbered roots core (connect names) n = connect_numbered (are_bad names) (roots_or names roots) core n
+step_numbered roots core (request i r) n = request_numbered (client_at core.clients i) i core r refl n
 step_numbered roots core (disconnect i) n = disconnect_numbered (client_at core.clients i) i core n
 
 pub numbered : (roots : List Name) (past : List Event) → AreNumbered (core_after roots past)

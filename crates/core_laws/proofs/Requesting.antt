@@ -131,18 +131,18 @@ module _ (roots : List Name) (p : Plan) (view : View) (all : unfetched_of roots 
 
 -- The requests.
 
-module _ (roots : List Name) (by : Name → ℕ → Option Analysis) (s : Sources) (all_given : (n : Name) → IsGiven (by n) (entry_of (at s.served n))) (c : Client) (f : ClientFacts roots by s c) where
-  pub with_notices : (notices : List (Name × TextFault)) → ClientFacts roots by s (record c { notices = notices })
+module _ (by : Name → ℕ → Option Analysis) (s : Sources) (all_given : (n : Name) → IsGiven (by n) (entry_of (at s.served n))) (c : Client) (f : ClientFacts by s c) where
+  pub with_notices : (notices : List (Name × TextFault)) → ClientFacts by s (record c { notices = notices })
   with_notices notices = record { closed = f.closed; empty = f.empty; rises = f.rises; viewed = f.viewed; accepting = f.accepting; planned = f.planned; begun = f.begun; held = f.held; current = f.current }
 
-  prune_keeps : (ds : List Name) → Right roots s c (prune ds) → ClientFacts roots by s (asked (prune ds) s c)
+  prune_keeps : (ds : List Name) → Right s c (prune ds) → ClientFacts by s (asked (prune ds) s c)
   prune_keeps ds r = record {
-    closed = λ l. pruned_closed roots c.page.view ds r.2 (f.closed l);
+    closed = λ l. pruned_closed c.roots c.page.view ds r.2 (f.closed l);
     empty = λ l. absurd (false≢true (sym l ∙ r.1));
     rises = kept_rises (λ row. not (has ds row.0)) c.page.view f.rises;
     viewed = λ n. subst (IsGiven (by n)) (sym (at_without_all ds c.page.view n)) (given_if (by n) (has ds n) None (at c.page.view n) tt (f.viewed n));
     accepting = λ n h. still n (filtered_from (λ k. not (has ds k)) c.page.forced n h);
-    planned = subst (λ q. PlanIs q roots by c.page.loaded (without_all ds c.page.view) (filter (λ k. not (has ds k)) c.page.forced)) (sym r.0) tt;
+    planned = subst (λ q. PlanIs q c.roots by c.page.loaded (without_all ds c.page.view) (filter (λ k. not (has ds k)) c.page.forced)) (sym r.0) tt;
     begun = f.begun;
     held = f.held;
     current = λ e. subst (λ q. PlanIsServed q (without_all ds c.page.view) s.served) (sym r.0) tt;
@@ -151,7 +151,7 @@ module _ (roots : List Name) (by : Name → ℕ → Option Analysis) (s : Source
       still : (n : Name) → (not (has ds n) ≡ true) × (has c.page.forced n ≡ true) → self_accepts (without_all ds c.page.view) n ≡ true
       still n h = ap accepts_itself (at_without_all ds c.page.view n ∙ ap (λ b. if b then None else at c.page.view n) (not_true (has ds n) h.0)) ∙ f.accepting n h.1
 
-  ask_keeps : (row : AskRow) → Right roots s c row → ClientFacts roots by s (asked row s c)
+  ask_keeps : (row : AskRow) → Right s c row → ClientFacts by s (asked row s c)
   ask_keeps out_of_turn r = f
   ask_keeps (tell n fault) r = with_notices _
   ask_keeps load r = record { closed = f.closed; empty = f.empty; rises = f.rises; viewed = f.viewed; accepting = f.accepting; planned = (r.1, λ n. tt); begun = omega arith; held = f.held; current = λ e. (λ n. tt, tt) }
@@ -165,7 +165,7 @@ module _ (roots : List Name) (by : Name → ℕ → Option Analysis) (s : Source
     viewed = f.viewed;
     accepting = f.accepting;
     planned = (
-      subst (IsUpdate roots c.page.loaded c.page.view c.page.forced) r.1 (record {
+      subst (IsUpdate c.roots c.page.loaded c.page.view c.page.forced) r.1 (record {
         page = record { is_loaded = r.0.loaded; whole = r.0.whole };
         inside = replaced_in c.page.view (changed s c) c.page.forced (changed_in s.served c.page.view);
         spread = replaced_spread c.page.view (changed s c) c.page.forced;
@@ -181,7 +181,7 @@ module _ (roots : List Name) (by : Name → ℕ → Option Analysis) (s : Source
   staged_served true o v e g h = g refl
   staged_served false o v e g h = h
 
-  text_keeps : (n : Name) (p : Plan) (v : Serving) → at s.served n ≡ Some v → PlanIs (Some p) roots by c.page.loaded c.page.view c.page.forced → (c.plan_at ≡ s.served_no → PlanIsServed (Some p) c.page.view s.served) → ClientFacts roots by s (fetched (text v) p n c)
+  text_keeps : (n : Name) (p : Plan) (v : Serving) → at s.served n ≡ Some v → PlanIs (Some p) c.roots by c.page.loaded c.page.view c.page.forced → (c.plan_at ≡ s.served_no → PlanIsServed (Some p) c.page.view s.served) → ClientFacts by s (fetched (text v) p n c)
   text_keeps n p v e planned current = record {
     closed = f.closed;
     empty = f.empty;
@@ -201,26 +201,26 @@ module _ (roots : List Name) (by : Name → ℕ → Option Analysis) (s : Source
       given_at m (inl t) = subst (λ b. IsGiven (by m) (if b then Some entry else at p.staged m)) (sym t) (subst (λ k. IsGiven (by k) (Some entry)) (same_true n m t) (subst (λ o. IsGiven (by n) (entry_of o)) e (all_given n)))
       given_at m (inr t) = subst (λ b. IsGiven (by m) (if b then Some entry else at p.staged m)) (sym t) (planned.1 m)
 
-  fetched_keeps : (n : Name) (p : Plan) → c.page.plan ≡ Some p → (o : Option Serving) → at s.served n ≡ o → (src : Option Source) → ClientFacts roots by s (fetched (row_served o src) p n c)
-  fetched_keeps n p q (Some v) e src = text_keeps n p v e (subst (λ k. PlanIs k roots by c.page.loaded c.page.view c.page.forced) q f.planned) (λ t. subst (λ k. PlanIsServed k c.page.view s.served) q (f.current t))
+  fetched_keeps : (n : Name) (p : Plan) → c.page.plan ≡ Some p → (o : Option Serving) → at s.served n ≡ o → (src : Option Source) → ClientFacts by s (fetched (row_served o src) p n c)
+  fetched_keeps n p q (Some v) e src = text_keeps n p v e (subst (λ k. PlanIs k c.roots by c.page.loaded c.page.view c.page.forced) q f.planned) (λ t. subst (λ k. PlanIsServed k c.page.view s.served) q (f.current t))
   fetched_keeps n p q None e None = f
   fetched_keeps n p q None e (Some src) = by_verdict src.verdict
     where
-      by_verdict : (verdict : Verdict) → ClientFacts roots by s (fetched (row_verdict verdict) p n c)
+      by_verdict : (verdict : Verdict) → ClientFacts by s (fetched (row_verdict verdict) p n c)
       by_verdict outstanding = f
       by_verdict good = f
       by_verdict (bad fault) = f
 
-  fetch_keeps : (n : Name) (plan : Option Plan) → c.page.plan ≡ plan → ClientFacts roots by s (fetched_in plan s n c).0
+  fetch_keeps : (n : Name) (plan : Option Plan) → c.page.plan ≡ plan → ClientFacts by s (fetched_in plan s n c).0
   fetch_keeps n None e = f
   fetch_keeps n (Some p) e = fetched_keeps n p e (at s.served n) refl (at s.current n)
 
-  done_keeps : (p : Plan) → PlanIs (Some p) roots by c.page.loaded c.page.view c.page.forced → unfetched_of roots p c.page.view ≡ [] → ClientFacts roots by s (after_applied done roots p c)
+  done_keeps : (p : Plan) → PlanIs (Some p) c.roots by c.page.loaded c.page.view c.page.forced → unfetched_of c.roots p c.page.view ≡ [] → ClientFacts by s (after_applied done p c)
   done_keeps p planned e = record {
-    closed = λ l. new_closed roots p c.page.view e c.page.loaded c.page.forced planned.0 f.closed;
+    closed = λ l. new_closed c.roots p c.page.view e c.page.loaded c.page.forced planned.0 f.closed;
     empty = λ l. absurd (false≢true (sym l));
-    rises = collect_rises (λ n. new_entry (has (met_of roots p c.page.view) n) p c.page.view n) (sorted (met_of roots p c.page.view ++ names_of c.page.view)) (sorted_rises (met_of roots p c.page.view ++ names_of c.page.view));
-    viewed = λ n. subst (IsGiven (by n)) (sym (at_new roots p c.page.view n)) (new_given by (has (met_of roots p c.page.view) n) p c.page.view n f.viewed planned.1);
+    rises = collect_rises (λ n. new_entry (has (met_of c.roots p c.page.view) n) p c.page.view n) (sorted (met_of c.roots p c.page.view ++ names_of c.page.view)) (sorted_rises (met_of c.roots p c.page.view ++ names_of c.page.view));
+    viewed = λ n. subst (IsGiven (by n)) (sym (at_new c.roots p c.page.view n)) (new_given by (has (met_of c.roots p c.page.view) n) p c.page.view n f.viewed planned.1);
     accepting = λ n h. absurd (false≢true h);
     planned = tt;
     begun = f.begun;
@@ -228,16 +228,16 @@ module _ (roots : List Name) (by : Name → ℕ → Option Analysis) (s : Source
     current = λ e. tt;
   }
 
-  applied_keeps : (p : Plan) (table : List (Name × ℕ)) → PlanIs (Some p) roots by c.page.loaded c.page.view c.page.forced → (us : List Name) → unfetched_of roots p c.page.view ≡ us → (ds : List Name) (told kept : List (Name × ℕ)) → ClientFacts roots by s (after_applied (row_unfetched us (row_differing ds told kept)) roots p c)
+  applied_keeps : (p : Plan) (table : List (Name × ℕ)) → PlanIs (Some p) c.roots by c.page.loaded c.page.view c.page.forced → (us : List Name) → unfetched_of c.roots p c.page.view ≡ us → (ds : List Name) (told kept : List (Name × ℕ)) → ClientFacts by s (after_applied (row_unfetched us (row_differing ds told kept)) p c)
   applied_keeps p table planned (n ∷ ns) e ds told kept = f
   applied_keeps p table planned [] e [] told kept = done_keeps p planned e
   applied_keeps p table planned [] e (d ∷ ds) told kept = f
 
-  apply_keeps : (table : List (Name × ℕ)) (plan : Option Plan) → c.page.plan ≡ plan → ClientFacts roots by s (applied_in plan roots table c).0
+  apply_keeps : (table : List (Name × ℕ)) (plan : Option Plan) → c.page.plan ≡ plan → ClientFacts by s (applied_in plan table c).0
   apply_keeps table None e = f
-  apply_keeps table (Some p) e = applied_keeps p table (subst (λ k. PlanIs k roots by c.page.loaded c.page.view c.page.forced) e f.planned) (unfetched_of roots p c.page.view) refl _ _ _
+  apply_keeps table (Some p) e = applied_keeps p table (subst (λ k. PlanIs k c.roots by c.page.loaded c.page.view c.page.forced) e f.planned) (unfetched_of c.roots p c.page.view) refl _ _ _
 
-  abort_keeps : (plan : Option Plan) → ClientFacts roots by s (aborted_in plan c).0
+  abort_keeps : (plan : Option Plan) → ClientFacts by s (aborted_in plan c).0
   abort_keeps None = f
   abort_keeps (Some p) = record { closed = f.closed; empty = f.empty; rises = f.rises; viewed = f.viewed; accepting = f.accepting; planned = tt; begun = f.begun; held = f.begun; current = λ e. tt }
 
@@ -245,7 +245,7 @@ module _ (roots : List Name) (by : Name → ℕ → Option Analysis) (s : Source
   accepting_there None v h = h
   accepting_there (Some e) v h = (both_true (e.version == v) _ h).1
 
-  forced_keeps : (n : Name) (v : ℕ) → c.page.plan ≡ None → (b : Bool) → is_at_version (at c.page.view n) v ≡ b → ClientFacts roots by s (invalidated b n c)
+  forced_keeps : (n : Name) (v : ℕ) → c.page.plan ≡ None → (b : Bool) → is_at_version (at c.page.view n) v ≡ b → ClientFacts by s (invalidated b n c)
   forced_keeps n v none false e = f
   forced_keeps n v none true e = record {
     closed = f.closed;
@@ -253,7 +253,7 @@ module _ (roots : List Name) (by : Name → ℕ → Option Analysis) (s : Source
     rises = f.rises;
     viewed = f.viewed;
     accepting = λ m h. by_name m (or_cases (same_name n m) (has c.page.forced m) (sym (put_has n c.page.forced m) ∙ h));
-    planned = subst (λ q. PlanIs q roots by c.page.loaded c.page.view (put_name n c.page.forced)) (sym none) tt;
+    planned = subst (λ q. PlanIs q c.roots by c.page.loaded c.page.view (put_name n c.page.forced)) (sym none) tt;
     begun = f.begun;
     held = tt;
     current = f.current;
@@ -263,13 +263,13 @@ module _ (roots : List Name) (by : Name → ℕ → Option Analysis) (s : Source
       by_name m (inl t) = ap (self_accepts c.page.view) (sym (same_true n m t)) ∙ accepting_there (at c.page.view n) v e
       by_name m (inr t) = f.accepting m t
 
-  invalidate_keeps : (n : Name) (v : ℕ) (plan : Option Plan) → c.page.plan ≡ plan → ClientFacts roots by s (invalidated_in plan n v c).0
+  invalidate_keeps : (n : Name) (v : ℕ) (plan : Option Plan) → c.page.plan ≡ plan → ClientFacts by s (invalidated_in plan n v c).0
   invalidate_keeps n v None e = forced_keeps n v e (is_at_version (at c.page.view n) v) refl
   invalidate_keeps n v (Some p) e = f
 
   -- each request keeps the facts
-  pub heard_keeps : (i : ℕ) (r : Request) → ClientFacts roots by s (heard roots i s c r).0
-  heard_keeps i ask = ask_keeps (ask_row roots s c) (right_row roots s c)
+  pub heard_keeps : (i : ℕ) (r : Request) → ClientFacts by s (heard i s c r).0
+  heard_keeps i ask = ask_keeps (ask_row s c) (right_row s c)
   heard_keeps i (fetch n) = fetch_keeps n c.page.plan refl
   heard_keeps i (applied_as table) = apply_keeps table c.page.plan refl
   heard_keeps i aborted = abort_keeps c.page.plan

@@ -9,28 +9,28 @@ use Rattle.core_model.specs.Client.{Client, is_held, dropped, reason, replaced, 
 use Rattle.core_model.specs.Asking.{AskRow, out_of_turn, tell, load, idle, prune, reload, update, row_replaced, row_reason, row_held, row_dropped, row_loaded, row_notice, row_plan, ask_row}
 
 -- a loaded page without a plan, of which nothing is dropped
-pub record IsReady (roots : List Name) (c : Client) : Type 0 where
+pub record IsReady (c : Client) : Type 0 where
   pub none : c.page.plan ≡ None
   pub loaded : c.page.loaded ≡ true
-  pub whole : dropped roots c ≡ []
+  pub whole : dropped c ≡ []
 
-module _ (roots : List Name) (s : Sources) (c : Client) where
+module _ (s : Sources) (c : Client) where
   -- what holds where the row is met
   abbrev pub Right : AskRow → Type 0
   Right out_of_turn = ⊤
   Right (tell n fault) = c.page.plan ≡ None
   Right load = (c.page.plan ≡ None) × (c.page.loaded ≡ false)
   Right idle = c.page.plan ≡ None
-  Right (prune ds) = (c.page.plan ≡ None) × (c.page.loaded ≡ true) × (dropped roots c ≡ ds)
-  Right (reload path) = IsReady roots c × (reason roots s c ≡ Some path)
-  Right (update ns ps) = IsReady roots c × (replaced s c ≡ ns) × (pairs s c ≡ ps)
+  Right (prune ds) = (c.page.plan ≡ None) × (c.page.loaded ≡ true) × (dropped c ≡ ds)
+  Right (reload path) = IsReady c × (reason s c ≡ Some path)
+  Right (update ns ps) = IsReady c × (replaced s c ≡ ns) × (pairs s c ≡ ps)
 
-  right_replaced : IsReady roots c → (ns : List Name) (ps : List (Name × Name)) → replaced s c ≡ ns → pairs s c ≡ ps → Right (row_replaced ns ps)
+  right_replaced : IsReady c → (ns : List Name) (ps : List (Name × Name)) → replaced s c ≡ ns → pairs s c ≡ ps → Right (row_replaced ns ps)
   right_replaced r [] [] e f = r.none
   right_replaced r [] (p ∷ ps) e f = (r, e, f)
   right_replaced r (n ∷ ns) ps e f = (r, e, f)
 
-  right_reason : IsReady roots c → (o : Option (List Name)) → reason roots s c ≡ o → (row : AskRow) → Right row → Right (row_reason o row)
+  right_reason : IsReady c → (o : Option (List Name)) → reason s c ≡ o → (row : AskRow) → Right row → Right (row_reason o row)
   right_reason r None e row k = k
   right_reason r (Some path) e row k = (r, e)
 
@@ -38,7 +38,7 @@ module _ (roots : List Name) (s : Sources) (c : Client) where
   right_held p true row k = p
   right_held p false row k = k
 
-  right_dropped : c.page.plan ≡ None → c.page.loaded ≡ true → (ds : List Name) → dropped roots c ≡ ds → (row : AskRow) → (IsReady roots c → Right row) → Right (row_dropped ds row)
+  right_dropped : c.page.plan ≡ None → c.page.loaded ≡ true → (ds : List Name) → dropped c ≡ ds → (row : AskRow) → (IsReady c → Right row) → Right (row_dropped ds row)
   right_dropped p l [] e row k = k (record { none = p; loaded = l; whole = e })
   right_dropped p l (d ∷ ds) e row k = (p, l, e)
 
@@ -56,8 +56,8 @@ module _ (roots : List Name) (s : Sources) (c : Client) where
   right_plan (Some p) e row k = tt
 
   -- it holds of the row that an Ask meets
-  pub right_row : Right (ask_row roots s c)
+  pub right_row : Right (ask_row s c)
   right_row = right_plan c.page.plan refl _ (λ p.
       right_notice p (first_notice c) _ (right_loaded p c.page.loaded (is_held s c) refl _ (λ l.
-      right_dropped p l (dropped roots c) refl _ (λ r.
-      right_held p (is_held s c) _ (right_reason r (reason roots s c) refl _ (right_replaced r (replaced s c) (pairs s c) refl refl))))))
+      right_dropped p l (dropped c) refl _ (λ r.
+      right_held p (is_held s c) _ (right_reason r (reason s c) refl _ (right_replaced r (replaced s c) (pairs s c) refl refl))))))

@@ -42,7 +42,7 @@ served = saved m first_text (plain (a ∷ []) (a ∷ [])) 1 ++ saved a first_tex
 
 -- the client of this number loads the page
 abbrev pub loads : ℕ → List Event
-loads i = connect ∷ request i (fetch m) ∷ request i (fetch a) ∷ request i (applied_as ((a, 2) ∷ (m, 1) ∷ [])) ∷ []
+loads i = connect [] ∷ request i (fetch m) ∷ request i (fetch a) ∷ request i (applied_as ((a, 2) ∷ (m, 1) ∷ [])) ∷ []
 
 -- a is saved with an import of b, which is new
 abbrev pub grown : List Event
@@ -66,7 +66,7 @@ served_leaf = saved m first_text (plain (a ∷ []) []) 1 ++ saved a first_text (
 
 -- a is saved while the first client loads the page, which has then fetched both modules
 abbrev pub loads_meanwhile : List Event
-loads_meanwhile = connect ∷ request 1 (fetch m) ∷ request 1 (fetch a) ∷ saved a second_text (plain [] []) 3 ++ request 1 (applied_as ((a, 2) ∷ (m, 1) ∷ [])) ∷ []
+loads_meanwhile = connect [] ∷ request 1 (fetch m) ∷ request 1 (fetch a) ∷ saved a second_text (plain [] []) 3 ++ request 1 (applied_as ((a, 2) ∷ (m, 1) ∷ [])) ∷ []
 
 -- m is to be told that a has this version
 abbrev pub told_of_a : ℕ → JsUpdate

@@ -66,19 +66,20 @@ IsAtMost None k = ⊤
 IsAtMost (Some j) k = j ≤ k
 
 -- What holds of a client's record: by gives the analysis that each version of a name was served with.
-pub record ClientFacts (roots : List Name) (by : Name → ℕ → Option Analysis) (s : Sources) (c : Client) : Type 0 where
-  pub closed : c.page.loaded ≡ true → IsClosed roots c.page.view  -- a loaded page holds its roots and their imports
+pub record ClientFacts (by : Name → ℕ → Option Analysis) (s : Sources) (c : Client) : Type 0 where
+  pub closed : c.page.loaded ≡ true → IsClosed c.roots c.page.view  -- a loaded page holds its roots and their imports
   pub empty : c.page.loaded ≡ false → c.page.view ≡ []  -- a page that isn't loaded has no modules
   pub rises : rising (names_of c.page.view) ≡ true  -- the modules stand once each, by name
   pub viewed : AreGiven by c.page.view  -- each has the analysis that its version was served with
   pub accepting : (n : Name) → has c.page.forced n ≡ true → self_accepts c.page.view n ≡ true  -- a forced module is there and accepts itself
-  pub planned : PlanIs c.page.plan roots by c.page.loaded c.page.view c.page.forced  -- the plan fits the page
+  pub planned : PlanIs c.page.plan c.roots by c.page.loaded c.page.view c.page.forced  -- the plan fits the page
   pub begun : c.plan_at ≤ s.served_no  -- the plan began in the past
   pub held : IsAtMost c.held_at s.served_no  -- and so did the one that was given up
   pub current : c.plan_at ≡ s.served_no → PlanIsServed c.page.plan c.page.view s.served  -- where nothing was served or removed since, the plan is of what is served
 
--- the page is loaded or not, and has its modules and forced names, as before
+-- the page has its roots, is loaded or not, and has its modules and forced names, as before
 pub record SamePage (old new : Client) : Type 0 where
+  pub roots : new.roots ≡ old.roots
   pub loaded : new.page.loaded ≡ old.page.loaded
   pub view : new.page.view ≡ old.page.view
   pub forced : new.page.forced ≡ old.page.forced

@@ -7,7 +7,7 @@ use Rattle.core_model.specs.Core.{Core, Event, change, connect, request, disconn
 -- an edit, a result, a client that comes or goes, or a request of this client
 abbrev pub concerns : ℕ → Event → Bool
 concerns d (change ch) = true
-concerns d connect = true
+concerns d (connect names) = true
 concerns d (request i r) = i == d
 concerns d (disconnect i) = true
 

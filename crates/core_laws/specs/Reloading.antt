@@ -1,5 +1,5 @@
 -- When a full reload is the answer to an Ask.
-use Rattle.std.specs.Prelude.{◌≡◌, true, false, List, [], None}
+use Rattle.std.specs.Prelude.{◌≡◌, ℕ, true, false, List, [], None}
 use Rattle.hmr_types.specs.declared.words.ReloadCause.{ReloadCause}
 use Rattle.update_msgs.specs.declared.message.ServerMsg.TheVariants as msg
 use Rattle.core_model.specs.Names.{Name}
@@ -12,14 +12,16 @@ use Rattle.core_model.specs.Requests.{Reply, to_client}
 pub record IsFullReload (reply : Reply) : Type 0 where
   pub cause : ReloadCause
   pub path : List Name
-  pub is : reply ≡ to_client (msg.FullReload cause path)
+  pub batch : ℕ
+  pub triggered : List Name
+  pub is : reply ≡ to_client (msg.FullReload cause path batch triggered)
 
 -- no plan is under way, no notice waits, the page is loaded, nothing is dropped, the client isn't held,
 -- and some unaccepted path ends badly
-pub record IsReloadDue (roots : List Name) (s : Sources) (c : Client) : Type 0 where
+pub record IsReloadDue (s : Sources) (c : Client) : Type 0 where
   pub idle : c.page.plan ≡ None
   pub told : c.notices ≡ []
   pub loaded : c.page.loaded ≡ true
-  pub whole : dropped roots c ≡ []
+  pub whole : dropped c ≡ []
   pub free : is_held s c ≡ false
-  pub wanted : IsReloadWanted c.page.view roots (changed s c) c.page.forced
+  pub wanted : IsReloadWanted c.page.view c.roots (changed s c) c.page.forced

@@ -16,7 +16,7 @@ ghost use Rattle.core_laws.specs.Examples.{roots, first_text, second_text, some_
 
 /// A page is loaded: it is the fresh load, and there is nothing to do.
 pub fn page_is_loaded()
-    ensures ready { IfSome (client_at (after (served ++ loads 1)).clients 1) (IsUpToDate roots (after (served ++ loads 1)).sources) }
+    ensures ready { IfSome (client_at (after (served ++ loads 1)).clients 1) (IsUpToDate (after (served ++ loads 1)).sources) }
     ensures page { page_of (after (served ++ loads 1)) 1 ≡ Some ((a, 2) ∷ (m, 1) ∷ []) }
     ensures fresh { fresh_table (after (served ++ loads 1)).sources.served roots ≡ (a, 2) ∷ (m, 1) ∷ [] }
     ensures missing { missing_of (after (served ++ loads 1)).sources.served roots ≡ [] }
@@ -26,7 +26,7 @@ pub fn page_is_loaded()
 /// A module changes and brings a new one with it; the page is updated to the fresh load.
 pub fn page_is_updated()
     ensures replies { replies roots (after (served ++ loads 1 ++ grown)) updates ≡
-        to_client (msg.Update (a ∷ []) (told_of_a 3 ∷ [])) ∷
+        to_client (msg.Update (a ∷ []) (told_of_a 3 ∷ []) 1 (a ∷ [])) ∷
         to_client (msg.Text a 3 second_text) ∷
         to_client (msg.Text b 4 first_text) ∷
         to_client msg.Done ∷ [] }
@@ -46,20 +46,20 @@ pub fn module_is_pruned()
 pub fn change_during_a_load_is_told_after_it()
     ensures page { page_of (after (served ++ loads_meanwhile)) 1 ≡ Some ((a, 2) ∷ (m, 1) ∷ []) }
     ensures fresh { fresh_table (after (served ++ loads_meanwhile)).sources.served roots ≡ (a, 3) ∷ (m, 1) ∷ [] }
-    ensures replies { replies roots (after (served ++ loads_meanwhile)) (request 1 ask ∷ []) ≡ to_client (msg.Update (a ∷ []) (told_of_a 3 ∷ [])) ∷ [] }
+    ensures replies { replies roots (after (served ++ loads_meanwhile)) (request 1 ask ∷ []) ≡ to_client (msg.Update (a ∷ []) (told_of_a 3 ∷ []) 1 (a ∷ [])) ∷ [] }
 {}
 
 /// A client that gave its load up is held until something is served.
 pub fn given_up_load_waits()
-    ensures held { replies roots (after []) (connect ∷ request 1 (fetch m) ∷ request 1 aborted ∷ request 1 ask ∷ []) ≡
+    ensures held { replies roots (after []) (connect [] ∷ request 1 (fetch m) ∷ request 1 aborted ∷ request 1 ask ∷ []) ≡
         to_client (msg.Connected 1 roots) ∷ to_client (msg.Missing m) ∷ to_client msg.Done ∷ to_client msg.Idle ∷ [] }
-    ensures free { replies roots (after (connect ∷ request 1 (fetch m) ∷ request 1 aborted ∷ saved m first_text (plain [] []) 1)) (request 1 ask ∷ []) ≡ to_client (msg.Connected 1 roots) ∷ [] }
+    ensures free { replies roots (after (connect [] ∷ request 1 (fetch m) ∷ request 1 aborted ∷ saved m first_text (plain [] []) 1)) (request 1 ask ∷ []) ≡ to_client (msg.Connected 1 roots) ∷ [] }
 {}
 
 /// One client invalidates a module: it is reloaded, and the other has nothing to do. Without its
 /// request the other's replies are the same.
 pub fn invalidation_is_of_one_client()
-    ensures replies { replies roots (after (served_leaf ++ loads 1 ++ loads 2 ++ request 2 (invalidate a 2) ∷ [])) (request 1 ask ∷ request 2 ask ∷ []) ≡ to_client msg.Idle ∷ to_client (msg.FullReload Root (a ∷ m ∷ [])) ∷ [] }
+    ensures replies { replies roots (after (served_leaf ++ loads 1 ++ loads 2 ++ request 2 (invalidate a 2) ∷ [])) (request 1 ask ∷ request 2 ask ∷ []) ≡ to_client msg.Idle ∷ to_client (msg.FullReload Root (a ∷ m ∷ []) 1 (a ∷ [])) ∷ [] }
     ensures left { without_others 1 (request 1 ask ∷ request 2 (invalidate a 2) ∷ request 1 ask ∷ []) ≡ request 1 ask ∷ request 1 ask ∷ [] }
     ensures same { replies_without_others 1 roots (after (served_leaf ++ loads 1 ++ loads 2)) (request 2 (invalidate a 2) ∷ request 1 ask ∷ request 2 ask ∷ []) ≡ to_client msg.Idle ∷ [] }
 {}

@@ -7,4 +7,4 @@ use Rattle.core_laws.proofs.laws.caught_up_is_fresh.Goals as goal
 
 pub returns : goal.returns
 returns c roots past i = IfSome_then (client_at (core_after roots past).clients i) (client_facts roots past i)
-    (λ client facts. is_fresh roots (given (changes_of past)) (core_after roots past).sources client (served_given roots past) facts)
+    (λ client facts. is_fresh (given (changes_of past)) (core_after roots past).sources client (served_given roots past) facts)

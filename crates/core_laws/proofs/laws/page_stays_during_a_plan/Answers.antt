@@ -3,7 +3,7 @@ use Rattle.core_laws.proofs.Staying.{plan_stays}
 use Rattle.core_laws.proofs.laws.page_stays_during_a_plan.Goals as goal
 
 pub returns-clause-request : goal.returns-clause-request
-returns-clause-request c roots i s client r p q e f = plan_stays roots i s client q r p e f
+returns-clause-request c i s client r p q e f = plan_stays i s client q r p e f
 
 pub returns-clause-change : goal.returns-clause-change
 returns-clause-change c = change_stays
