@@ -175,7 +175,8 @@ batch_same : (there : Bool) (r : Runtime) (line : Did) → line.0 ≡ r → (if 
 batch_same true r line e = refl
 batch_same false r line e = e
 
-after_batch : (batch : ℕ) (triggered : List Name) (r : Runtime) (next : Runtime → Did) (P : Runtime → Type 0) → P (next r).0 → P (and_then (write_batch batch triggered r) next).0
+-- what holds of a client that does what follows holds where the line of a batch is written before
+pub after_batch : (batch : ℕ) (triggered : List Name) (r : Runtime) (next : Runtime → Did) (P : Runtime → Type 0) → P (next r).0 → P (and_then (write_batch batch triggered r) next).0
 after_batch batch triggered r next P h = subst (λ t. P (next t).0) (sym (batch_same (batch == 0) r (write (line.Batch r.client batch (in_order triggered)) r) refl)) h
 
 -- what a runtime keeps of a message, with the page that it makes
