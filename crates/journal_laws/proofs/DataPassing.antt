@@ -27,7 +27,9 @@ use Rattle.client_model.specs.Applying.{live_of, births, end_old, replace_instan
 use Rattle.client_model.proofs.Takes.{Quiet}
 use Rattle.world_laws.proofs.Members.{MadeOf, map_from}
 use Rattle.world_laws.proofs.Frames.{Frame, frame, frames, none_counted, made_length, live_one, Distinct, number_low, names_in, cut_length, ended_by}
-use Rattle.world_laws.proofs.Ending.{ended_names, ends_prune}
+use Rattle.world_laws.proofs.Ending.{ended_names, ends_prune, same_hear}
+use Rattle.client_model.specs.Firing.{hear_all}
+use Rattle.hmr_types.specs.declared.value.Value.{Value}
 use Rattle.world_laws.proofs.Births.{birth_frame, new_frame, news, olds, frames_after, births_are, news_once, applied_frames, numbered_after, number_new}
 use Rattle.world_laws.proofs.Holding.{HoldsOf, LeadsTo, new_leads, is_ready, loads_none}
 use Rattle.journal_laws.specs.Data.{is_succeeded_by}
@@ -35,7 +37,7 @@ use Rattle.journal_laws.proofs.DataSplits.{inner_append, InFirst, InSecond, spli
 use Rattle.journal_laws.proofs.DataEach.{Each, Free, free_append, each_append, each_at, each_line}
 use Rattle.journal_laws.proofs.DataSparing.{some_of, spares_all, replacing}
 use Rattle.journal_laws.proofs.DataResting.{NoneLeft, live_listed, live_named}
-use Rattle.journal_laws.proofs.DataTelling.{IsCalm, EvaluatedAs, EndedAs, each_more, evaluated_more, ended_more, evaluated_calm, ended_calm, free_each, free_make, free_replaces, free_reload_all, free_prunes, free_tell_all, free_set_aside}
+use Rattle.journal_laws.proofs.DataTelling.{IsCalm, EvaluatedAs, EndedAs, each_more, evaluated_more, ended_more, evaluated_calm, ended_calm, free_each, free_make, free_replaces, free_reload_all, free_prunes, free_hear, free_tell_all, free_set_aside}
 use Rattle.journal_laws.proofs.DataHanding.{some_counted, one_each, LeftFor, replaces_left, replace_told, births_start}
 
 -- what it does passes on the bags so, and the numbers are those that it makes or that were there
@@ -69,6 +71,14 @@ prune_passes language names r =
     (omega (arith, length-map r.instances frame, length-map pruned.0.instances frame, cut_length (ended_by (has names) (frames r.instances)) (frames r.instances), ap (λ (fs : List Frame). length fs) (ends_prune language names r)))
     (each_append (EvaluatedAs (λ k n before. ⊥)) (bag_of r) pruned.1 [] (free_prunes (EvaluatedAs (λ k n before. ⊥)) (evaluated_calm (λ k n before. ⊥)) language is r (bag_of r)) tt)
     (each_append (EndedAs (λ k n bag. ⊥)) (bag_of r) pruned.1 [] (free_prunes (EndedAs (λ k n bag. ⊥)) (ended_calm (λ k n bag. ⊥)) language is r (bag_of r)) tt)
+
+pub hear_passes : (language : Language) (event : Name) (value : Value) (r : Runtime) → Passing r (hear_all language event value r)
+hear_passes language event value r =
+    let heard : Did = hear_all language event value r in
+    none_passes r heard
+    (omega (arith, length-map r.instances frame, length-map heard.0.instances frame, ap (λ (fs : List Frame). length fs) (same_hear language event value r)))
+    (free_hear (EvaluatedAs (λ k n before. ⊥)) (evaluated_calm (λ k n before. ⊥)) language event value r (bag_of r))
+    (free_hear (EndedAs (λ k n bag. ⊥)) (ended_calm (λ k n bag. ⊥)) language event value r (bag_of r))
 
 -- A plan.
 

@@ -4,6 +4,7 @@ pub mod Counts
 pub mod Data
 pub mod Values
 pub mod FreshValues
+pub mod OfClients
 pub mod FirstClient
 pub mod WorkedValues
 pub mod KeptCounter

@@ -3,7 +3,7 @@
 ghost use Rattle.std.specs.Prelude.{List};
 ghost use Rattle.core_model.specs.Names.{Name};
 ghost use Rattle.client_model.specs.Language.{Language};
-ghost use Rattle.journal_laws.specs.Runs.{OfEachClient};
+ghost use Rattle.journal_laws.specs.OfClients.{OfEachClient};
 ghost use Rattle.journal_laws.specs.Counts.{AreDisposedOnce, ArePrunedOnce};
 ghost use Rattle.journal_laws.specs.Data.{SuccessorsInherit, OthersInheritNothing};
 ghost use Rattle.journal_laws.specs.Ends.{AllEnd};
