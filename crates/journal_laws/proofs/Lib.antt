@@ -42,5 +42,6 @@ pub mod CountsSteps
 pub mod CountsTold
 pub mod CountsUsed
 pub mod CountsOnce
+pub mod GivingUp
 pub mod FreshWorld
 pub mod InWorld

@@ -2,6 +2,7 @@ pub mod Runs
 pub mod Ends
 pub mod Counts
 pub mod Data
+pub mod GivingUp
 pub mod Values
 pub mod FreshValues
 pub mod OfClients

@@ -1,6 +1,7 @@
 // What of a module's data reaches which instance.
 ghost use Rattle.client_model.specs.Language.{Language};
 ghost use Rattle.journal_laws.specs.Runs.{OfEachRun};
+ghost use Rattle.journal_laws.specs.GivingUp.{BagsGoAtPrunes, AllBagsGoAtReloads};
 ghost use Rattle.journal_laws.specs.Data.{EvaluationsStartRight, RunsStartRight, OthersInheritNothing, SuccessorsInherit, NoneIsLeft};
 
 /// Each evaluation of a module, and each run of a handler of it, starts with the bag that the last one
@@ -21,4 +22,11 @@ pub fn data_reaches_successors_only()
 /// A name without a live instance has no data.
 pub fn no_data_without_an_instance()
     ensures { (language : Language) → OfEachRun language NoneIsLeft }
+{}
+
+/// Data is given up in two cases alone: that of a name at its prune, directly before its instance ends; and
+/// that of all names where a reload is applied. So nothing is given up at a replacement.
+pub fn data_is_given_up_at_prunes_and_reloads()
+    ensures one { (language : Language) → OfEachRun language BagsGoAtPrunes }
+    ensures all { (language : Language) → OfEachRun language AllBagsGoAtReloads }
 {}
