@@ -101,22 +101,22 @@ five [] b c d e = refl
 five (x ∷ a) b c d e = ap (λ xs. x ∷ xs) (five a b c d e)
 
 module _ (language : Language) (p : Plan) (r : Runtime) (plan_is : r.page.plan ≡ Some p) (needed : next_needed p r ≡ None) (h : HoldsOf r) (empty : NoneLeft r) where
-  abbrev old_ended : Did
+  abbrev pub old_ended : Did
   old_ended = end_old p.kind language p r
 
-  abbrev new_born : Did
+  abbrev pub new_born : Did
   new_born = for_each (make language) (births (new_names p r) p r) old_ended.0
 
-  abbrev all_told : Did
+  abbrev pub all_told : Did
   all_told = tell_all p.kind language p r new_born.0
 
-  abbrev all_dropped : Did
+  abbrev pub all_dropped : Did
   all_dropped = drop_set_aside p r all_told.0
 
-  abbrev after_old : Journal
+  abbrev pub after_old : Journal
   after_old = ((new_born.1 ++ all_told.1) ++ all_dropped.1) ++ (finish p all_dropped.0).1
 
-  whole : (apply language p r).1 ≡ old_ended.1 ++ after_old
+  pub whole : (apply language p r).1 ≡ old_ended.1 ++ after_old
   whole = five old_ended.1 new_born.1 all_told.1 all_dropped.1 (finish p all_dropped.0).1
 
   -- what each replaced instance leaves, and each new one starts with
@@ -128,7 +128,7 @@ module _ (language : Language) (p : Plan) (r : Runtime) (plan_is : r.page.plan �
   old_free Q calm ends Reload = free_reload_all Q calm language r
   old_free Q calm ends Update = free_replaces Q calm language ends (number_after p r) (replaced_instances p r) r
 
-  rest_free : (Q : Happening → (Name → Bag) → Type 0) (calm : IsCalm Q) → Free Q calm.free new_born.1 → Free Q calm.free after_old
+  pub rest_free : (Q : Happening → (Name → Bag) → Type 0) (calm : IsCalm Q) → Free Q calm.free new_born.1 → Free Q calm.free after_old
   rest_free Q calm births =
       free_append Q calm.free ((new_born.1 ++ all_told.1) ++ all_dropped.1) (finish p all_dropped.0).1
       (free_append Q calm.free (new_born.1 ++ all_told.1) all_dropped.1

@@ -43,5 +43,6 @@ pub mod CountsTold
 pub mod CountsUsed
 pub mod CountsOnce
 pub mod GivingUp
+pub mod DataDisposing
 pub mod FreshWorld
 pub mod InWorld

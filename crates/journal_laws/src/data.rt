@@ -2,7 +2,7 @@
 ghost use Rattle.client_model.specs.Language.{Language};
 ghost use Rattle.journal_laws.specs.Runs.{OfEachRun};
 ghost use Rattle.journal_laws.specs.GivingUp.{BagsGoAtPrunes, AllBagsGoAtReloads};
-ghost use Rattle.journal_laws.specs.Data.{EvaluationsStartRight, RunsStartRight, OthersInheritNothing, SuccessorsInherit, NoneIsLeft};
+ghost use Rattle.journal_laws.specs.Data.{EvaluationsStartRight, RunsStartRight, OthersInheritNothing, SuccessorsInherit, DisposersHandOn, NoneIsLeft};
 
 /// Each evaluation of a module, and each run of a handler of it, starts with the bag that the last one
 /// before it left; with the empty one where there was none, or where the bag was given up since.
@@ -16,6 +16,7 @@ pub fn each_starts_with_what_was_left()
 /// and of each at a page load or a reload.
 pub fn data_reaches_successors_only()
     ensures successors { (language : Language) → OfEachRun language SuccessorsInherit }
+    ensures disposers { (language : Language) → OfEachRun language DisposersHandOn }
     ensures others { (language : Language) → OfEachRun language OthersInheritNothing }
 {}
 
