@@ -1,5 +1,5 @@
 -- Each event keeps the facts of the sources and of each connected client.
-use Rattle.std.proofs.Common.{◌≡◌, ◌⊎◌, inl, inr, ℕ, ◌+◌, ◌≤◌, ◌<◌, Bool, true, false, List, [], ◌∷◌, refl, sym, ◌∙◌, arith}
+use Rattle.std.proofs.Common.{◌≡◌, ◌⊎◌, inl, inr, ℕ, ◌+◌, ◌≤◌, ◌<◌, Bool, true, false, List, [], ◌∷◌, refl, ap, sym, ◌∙◌, arith}
 use Rattle.std.specs.Prelude.{◌==◌, Option, Some, None, IfSome, option_map, if◌then◌else◌}
 use Rattle.std.proofs.Math.Path.{subst}
 use Rattle.std.proofs.lemmas.Bool.{false≢true}
@@ -11,12 +11,13 @@ use Rattle.core_model.specs.Page.{Plan}
 use Rattle.core_model.specs.Client.{Client, new_client, told_of_edit, told_of_result}
 use Rattle.core_model.specs.Requests.{Request, heard}
 use Rattle.core_model.specs.Roots.{are_bad, roots_or}
-use Rattle.core_model.specs.Core.{Core, Event, change, connect, request, disconnect, client_at, told_of, is_full, if_room, connected, requested, disconnected, core_after, changes_of}
+use Rattle.core_model.specs.Core.{Core, Event, change, connect, request, disconnect, client_at, told_of, after_change, is_full, if_room, connected, requested, disconnected, step, core_after, changes_of}
 use Rattle.core_model.proofs.Clients.{at_without, at_with, at_each}
-use Rattle.core_model.proofs.Replaying.{sources_are}
-use Rattle.core_laws.specs.Given.{given, entry_of, IsGiven}
-use Rattle.core_laws.specs.Facts.{PlanIs, PlanIsServed, IsAtMost, ClientFacts}
-use Rattle.core_laws.proofs.Givens.{sources_facts, given_stays}
+use Rattle.core_model.proofs.Replaying.{sources_are, connected_sources, requested_sources, disconnected_sources}
+use Rattle.core_laws.specs.Given.{given_too, given, entry_of, IsGiven}
+use Rattle.core_laws.specs.Facts.{PlanIs, PlanIsServed, IsAtMost, SourcesFacts, ClientFacts}
+use Rattle.core_laws.specs.Kept.{given_after, given_by, CoreFacts}
+use Rattle.core_laws.proofs.Givens.{sources_facts, sources_on, given_on_change}
 use Rattle.core_laws.proofs.Requesting.{with_notices, heard_keeps}
 
 -- what is served is the same, or the number of servings and removals rose
@@ -91,9 +92,9 @@ module _ (by : Name → ℕ → Option Analysis) (t : Sources) (all_given : (n :
   told_keeps s (edit n x) = edit_told (edit_answer s n x) n
   told_keeps s (result n x o v) = result_told (result_answer s n x o v) n
 
-change_keeps : (past : List Change) (ch : Change) (c : Client) (s : Sources) → s ≡ sources_after past → ClientFacts (given past) s c → ClientFacts (given (ch ∷ past)) (changed_by s ch) (told_of s ch c)
-change_keeps past ch c s e facts = told_keeps (given (ch ∷ past)) (changed_by s ch) (λ n. subst (λ x. IsGiven (given (ch ∷ past) n) (entry_of (at (changed_by x ch).served n))) (sym e) ((sources_facts (ch ∷ past)).served n)) c
-    (later_keeps (given past) (given (ch ∷ past)) s (changed_by s ch) c (given_stays past ch) (changed_later s ch) facts) s ch
+change_keeps : (by : Name → ℕ → Option Analysis) (s : Sources) (ch : Change) (c : Client) → SourcesFacts by s → ClientFacts by s c → ClientFacts (given_after s by ch) (changed_by s ch) (told_of s ch c)
+change_keeps by s ch c sources facts = told_keeps (given_after s by ch) (changed_by s ch) (sources_on by s ch sources).served c
+    (later_keeps by (given_after s by ch) s (changed_by s ch) c (given_on_change by s ch sources) (changed_later s ch) facts) s ch
 
 pub new_facts : (roots : List Name) (by : Name → ℕ → Option Analysis) (s : Sources) → ClientFacts by s (new_client roots s.served_no)
 new_facts roots by s = record { closed = λ h. absurd (false≢true h); empty = λ h. refl; rises = refl; viewed = λ n. tt; accepting = λ n h. absurd (false≢true h); planned = (refl, λ n. tt); begun = omega arith; held = tt; current = λ e. (λ n. tt, tt) }
@@ -129,14 +130,42 @@ disconnect_keeps : (o : Option Client) (by : Name → ℕ → Option Analysis) (
 disconnect_keeps None by i core f j = f j
 disconnect_keeps (Some c) by i core f j = subst (λ o. IfSome o (ClientFacts by core.sources)) (sym (at_without i core.clients j)) (some_if (ClientFacts by core.sources) (i == j) None _ tt (f j))
 
+change_all : (by : Name → ℕ → Option Analysis) (core : Core) (ch : Change) → CoreFacts by core → AllClients (given_after core.sources by ch) (after_change core ch)
+change_all by core ch f j = subst (λ o. IfSome o (ClientFacts (given_after core.sources by ch) (changed_by core.sources ch))) (sym (at_each (told_of core.sources ch) core.clients j))
+    (some_map (ClientFacts by core.sources) (ClientFacts (given_after core.sources by ch) (changed_by core.sources ch)) (told_of core.sources ch) (client_at core.clients j) (λ c. change_keeps by core.sources ch c f.sources) (f.clients j))
+
+-- each event keeps the facts
+pub facts_on : (roots : List Name) (by : Name → ℕ → Option Analysis) (core : Core) (event : Event) → CoreFacts by core → CoreFacts (given_by core by event) (step roots core event).0
+facts_on roots by core (change ch) f = record { sources = sources_on by core.sources ch f.sources; clients = change_all by core ch f }
+facts_on roots by core (connect names) f = record {
+  sources = subst (SourcesFacts by) (sym (connected_sources (are_bad names) (roots_or names roots) core)) f.sources;
+  clients = connect_keeps (are_bad names) (roots_or names roots) by core f.clients;
+}
+facts_on roots by core (request i r) f = record {
+  sources = subst (SourcesFacts by) (sym (requested_sources (client_at core.clients i) i core r)) f.sources;
+  clients = request_keeps (client_at core.clients i) by i core r f.sources.served (f.clients i) f.clients;
+}
+facts_on roots by core (disconnect i) f = record {
+  sources = subst (SourcesFacts by) (sym (disconnected_sources (client_at core.clients i) i core)) f.sources;
+  clients = disconnect_keeps (client_at core.clients i) by i core f.clients;
+}
+
+-- what is known after the events is what is known after their edits and results
+given_is : (roots : List Name) (past : List Event) (ch : Change) → given_after (core_after roots past).sources (given (changes_of past)) ch ≡ given (ch ∷ changes_of past)
+given_is roots past (edit n t) = refl
+given_is roots past (result n t o v) = ap (λ s. given_too (result_answer s n t o v) n v (given (changes_of past))) (sources_are roots past)
+
+-- every list of events keeps the facts of the core
+pub core_facts : (roots : List Name) (past : List Event) → CoreFacts (given (changes_of past)) (core_after roots past)
+core_facts roots [] = record { sources = sources_facts []; clients = λ j. tt }
+core_facts roots (change ch ∷ past) = subst (λ by. CoreFacts by (core_after roots (change ch ∷ past))) (given_is roots past ch) (facts_on roots (given (changes_of past)) (core_after roots past) (change ch) (core_facts roots past))
+core_facts roots (connect names ∷ past) = facts_on roots (given (changes_of past)) (core_after roots past) (connect names) (core_facts roots past)
+core_facts roots (request i r ∷ past) = facts_on roots (given (changes_of past)) (core_after roots past) (request i r) (core_facts roots past)
+core_facts roots (disconnect i ∷ past) = facts_on roots (given (changes_of past)) (core_after roots past) (disconnect i) (core_facts roots past)
+
 pub served_given : (roots : List Name) (past : List Event) (n : Name) → IsGiven (given (changes_of past) n) (entry_of (at (core_after roots past).sources.served n))
-served_given roots past n = subst (λ s. IsGiven (given (changes_of past) n) (entry_of (at s.served n))) (sym (sources_are roots past)) ((sources_facts (changes_of past)).served n)
+served_given roots past = (core_facts roots past).sources.served
 
 -- every list of events keeps the facts of each client
 pub client_facts : (roots : List Name) (past : List Event) (j : ℕ) → IfSome (client_at (core_after roots past).clients j) (ClientFacts (given (changes_of past)) (core_after roots past).sources)
-client_facts roots [] j = tt
-client_facts roots (change ch ∷ past) j = subst (λ o. IfSome o (ClientFacts (given (ch ∷ changes_of past)) (changed_by (core_after roots past).sources ch))) (sym (at_each (told_of (core_after roots past).sources ch) (core_after roots past).clients j))
-    (some_map (ClientFacts (given (changes_of past)) (core_after roots past).sources) (ClientFacts (given (ch ∷ changes_of past)) (changed_by (core_after roots past).sources ch)) (told_of (core_after roots past).sources ch) (client_at (core_after roots past).clients j) (λ c. change_keeps (changes_of past) ch c (core_after roots past).sources (sources_are roots past)) (client_facts roots past j))
-client_facts roots (connect names ∷ past) j = connect_keeps (are_bad names) (roots_or names roots) (given (changes_of past)) (core_after roots past) (client_facts roots past) j
-client_facts roots (request i r ∷ past) j = request_keeps (client_at (core_after roots past).clients i) (given (changes_of past)) i (core_after roots past) r (served_given roots past) (client_facts roots past i) (client_facts roots past) j
-client_facts roots (disconnect i ∷ past) j = disconnect_keeps (client_at (core_after roots past).clients i) (given (changes_of past)) i (core_after roots past) (client_facts roots past) j
+client_facts roots past = (core_facts roots past).clients

@@ -8,11 +8,12 @@ use Rattle.hmr_types.specs.declared.analysis.Analysis.{Analysis}
 use Rattle.hmr_types.specs.declared.analysis.Outcome.{Outcome}
 use Rattle.hmr_types.specs.declared.analysis.Outcome.TheVariants.{Good, Bad}
 use Rattle.core_model.specs.Names.{Name, same_name, at, without, with_row}
-use Rattle.core_model.specs.Sources.{Text, Change, edit, result, Verdict, outstanding, good, bad, Source, Serving, Sources, EditAnswer, job, same, removed, refused, has_text, text_length, total_of, numbered, answer_for, edit_answer, text_or_none, after_edit, ResultAnswer, serve, refuse, late, is_outstanding, is_awaited, answer_of, result_answer, after_result, sources_after}
+use Rattle.core_model.specs.Sources.{Text, Change, edit, result, Verdict, outstanding, good, bad, Source, Serving, Sources, EditAnswer, job, same, removed, refused, has_text, text_length, total_of, numbered, answer_for, edit_answer, text_or_none, after_edit, ResultAnswer, serve, refuse, late, is_outstanding, is_awaited, answer_of, result_answer, after_result, changed_by, sources_after}
 use Rattle.core_model.specs.View.{Entry}
 use Rattle.core_model.proofs.Naming.{same_true, true_same, both_true}
 use Rattle.core_model.proofs.Tables.{at_without, at_with_row}
 use Rattle.core_laws.specs.Given.{given_too, given, entry_of, IsGiven}
+use Rattle.core_laws.specs.Kept.{given_after}
 use Rattle.core_laws.specs.Facts.{IsCounted, VerdictIs, SourceIs, SourcesFacts}
 
 -- What an edit answers.
@@ -165,15 +166,24 @@ module _ (by : Name → ℕ → Option Analysis) (s : Sources) (n : Name) (facts
       by_test true f (Bad fault) = f refl
       by_test false f o = tt
 
-pub sources_facts : (past : List Change) → SourcesFacts (given past) (sources_after past)
-sources_facts [] = record { counted = λ n. tt; fresh = λ n v l. refl; served = λ n. tt; settled = λ n. refl }
-sources_facts (edit n t ∷ past) = edit_keeps (given past) (sources_after past) n (sources_facts past) (edit_answer (sources_after past) n t) t (answer_numbered (at (sources_after past).current n) (sources_after past) t)
-sources_facts (result n t o v ∷ past) = result_keeps (given past) (sources_after past) n (sources_facts past) (result_answer (sources_after past) n t o v) t v (answer_awaited (given past) (sources_after past) n (sources_facts past) o t v)
+-- an edit or a result keeps the facts of the sources
+pub sources_on : (by : Name → ℕ → Option Analysis) (s : Sources) (ch : Change) → SourcesFacts by s → SourcesFacts (given_after s by ch) (changed_by s ch)
+sources_on by s (edit n t) facts = edit_keeps by s n facts (edit_answer s n t) t (answer_numbered (at s.current n) s t)
+sources_on by s (result n t o v) facts = result_keeps by s n facts (result_answer s n t o v) t v (answer_awaited by s n facts o t v)
 
 -- what was given stays given
+pub given_on_change : (by : Name → ℕ → Option Analysis) (s : Sources) (ch : Change) → SourcesFacts by s → (m : Name) (w : ℕ) (a : Analysis) → by m w ≡ Some a → given_after s by ch m w ≡ Some a
+given_on_change by s (edit n t) facts m w a h = h
+given_on_change by s (result n t o v) facts m w a h = grows by s n facts (result_answer s n t o v) v (answer_awaited by s n facts o t v) m w a h
+
+pub sources_facts : (past : List Change) → SourcesFacts (given past) (sources_after past)
+sources_facts [] = record { counted = λ n. tt; fresh = λ n v l. refl; served = λ n. tt; settled = λ n. refl }
+sources_facts (edit n t ∷ past) = sources_on (given past) (sources_after past) (edit n t) (sources_facts past)
+sources_facts (result n t o v ∷ past) = sources_on (given past) (sources_after past) (result n t o v) (sources_facts past)
+
 pub given_stays : (past : List Change) (ch : Change) (m : Name) (w : ℕ) (a : Analysis) → given past m w ≡ Some a → given (ch ∷ past) m w ≡ Some a
 given_stays past (edit n t) m w a h = h
-given_stays past (result n t o v) m w a h = grows (given past) (sources_after past) n (sources_facts past) (result_answer (sources_after past) n t o v) v (answer_awaited (given past) (sources_after past) n (sources_facts past) o t v) m w a h
+given_stays past (result n t o v) m w a h = given_on_change (given past) (sources_after past) (result n t o v) (sources_facts past) m w a h
 
 -- a result that is served is of a version that wasn't served before
 pub served_once : (past : List Change) (n : Name) (t : Text) (o : Outcome) (v : ℕ) (a : Analysis) → result_answer (sources_after past) n t o v ≡ serve a → given past n v ≡ None

@@ -13,3 +13,10 @@ pub mod Settling
 pub mod Batches
 pub mod Replying
 pub mod Trying
+pub mod Refusing
+pub mod Idling
+pub mod Applying
+pub mod Ranges
+pub mod Keeping
+pub mod Messaging
+pub mod Truth

@@ -6,17 +6,12 @@ use Rattle.std.proofs.lemmas.Bool.{false≢true, eqb-true, eq-eqb}
 use Rattle.hmr_types.specs.declared.analysis.Outcome.{Outcome}
 use Rattle.hmr_types.specs.declared.analysis.Outcome.TheVariants.{Good, Bad}
 use Rattle.core_model.specs.Names.{Name, same_name, at}
-use Rattle.core_model.specs.Sources.{Text, Change, edit, result, outstanding, good, bad, Source, Serving, Sources, EditAnswer, job, same, removed, refused, edit_answer, text_or_none, after_edit, ResultAnswer, serve, refuse, late, is_outstanding, is_awaited, answer_of, result_answer, after_result, sources_after}
+use Rattle.core_model.specs.Sources.{Text, Change, edit, result, outstanding, good, bad, Source, Serving, Sources, EditAnswer, job, same, removed, refused, edit_answer, text_or_none, after_edit, ResultAnswer, serve, refuse, late, is_outstanding, is_awaited, answer_of, result_answer, after_result, changed_by, sources_after}
 use Rattle.core_model.proofs.Naming.{same_true, true_same, both_true}
 use Rattle.core_model.proofs.Tables.{at_without, at_with_row}
+use Rattle.core_laws.specs.Kept.{written_after, TextFacts}
 use Rattle.core_laws.specs.Written.{written_too, written, IsWritten, IsServedWritten}
 use Rattle.core_laws.proofs.Givens.{Numbered, answer_numbered, by_name}
-
--- a number that isn't given yet has no text, and each source has its own
-pub record TextFacts (by : Name → ℕ → Option Text) (s : Sources) : Type 0 where
-  pub fresh : (n : Name) (v : ℕ) → s.counted < v → by n v ≡ None
-  pub current : (n : Name) → IsWritten (by n) (at s.current n)
-  pub served : (n : Name) → IsServedWritten (by n) (at s.served n)
 
 module _ (by : Name → ℕ → Option Text) (s : Sources) (n : Name) (facts : TextFacts by s) where
   -- what was written stays written
@@ -72,7 +67,7 @@ module _ (by : Name → ℕ → Option Text) (s : Sources) (n : Name) (facts : T
   edit_texts (refused word) t e = facts
 
   -- a result that isn't late is of what was written
-  abbrev IsOf : ResultAnswer → Text → ℕ → Type 0
+  abbrev pub IsOf : ResultAnswer → Text → ℕ → Type 0
   IsOf (serve a) t v = by n v ≡ Some t
   IsOf (refuse f) t v = by n v ≡ Some t
   IsOf late t v = ⊤
@@ -105,7 +100,7 @@ module _ (by : Name → ℕ → Option Text) (s : Sources) (n : Name) (facts : T
       let f = both_true (x.version == v) (same_name x.text t) (both_true ((x.version == v) && same_name x.text t) (is_outstanding x.verdict) h).0 in
       ap (by n) (sym (eqb-true x.version v f.0)) ∙ w ∙ ap Some (same_true x.text t f.1)
 
-  answer_is : (o : Outcome) (t : Text) (v : ℕ) → IsOf (result_answer s n t o v) t v
+  pub answer_is : (o : Outcome) (t : Text) (v : ℕ) → IsOf (result_answer s n t o v) t v
   answer_is o t v = by_test (is_awaited (at s.current n) t v) (awaited_is (at s.current n) t v (facts.current n)) o
     where
       by_test : (b : Bool) → (b ≡ true → by n v ≡ Some t) → (o : Outcome) → IsOf (if b then answer_of o else late) t v
@@ -113,10 +108,15 @@ module _ (by : Name → ℕ → Option Text) (s : Sources) (n : Name) (facts : T
       by_test true f (Bad fault) = f refl
       by_test false f o = tt
 
+-- an edit or a result keeps the texts
+pub texts_on : (by : Name → ℕ → Option Text) (s : Sources) (ch : Change) → TextFacts by s → TextFacts (written_after s by ch) (changed_by s ch)
+texts_on by s (edit n t) facts = edit_texts by s n facts (edit_answer s n t) t (answer_numbered (at s.current n) s t)
+texts_on by s (result n t o v) facts = result_texts by s n facts (result_answer s n t o v) t v (answer_is by s n facts o t v)
+
 pub text_facts : (past : List Change) → TextFacts (written past) (sources_after past)
 text_facts [] = record { fresh = λ n v l. refl; current = λ n. tt; served = λ n. tt }
-text_facts (edit n t ∷ past) = edit_texts (written past) (sources_after past) n (text_facts past) (edit_answer (sources_after past) n t) t (answer_numbered (at (sources_after past).current n) (sources_after past) t)
-text_facts (result n t o v ∷ past) = result_texts (written past) (sources_after past) n (text_facts past) (result_answer (sources_after past) n t o v) t v (answer_is (written past) (sources_after past) n (text_facts past) o t v)
+text_facts (edit n t ∷ past) = texts_on (written past) (sources_after past) (edit n t) (text_facts past)
+text_facts (result n t o v ∷ past) = texts_on (written past) (sources_after past) (result n t o v) (text_facts past)
 
 pub current_written : (past : List Change) (n : Name) → IsWritten (written past n) (at (sources_after past).current n)
 current_written past = (text_facts past).current

@@ -7,3 +7,8 @@ pub mod Settled
 pub mod Batch
 pub mod Examples
 pub mod Reloading
+pub mod Refusing
+pub mod Answering
+pub mod Ranges
+pub mod Kept
+pub mod Truth

@@ -1,29 +1,37 @@
 // Laws of the core, for every list of events.
-ghost use Rattle.std.specs.Prelude.{◌≡◌, ◌↔◌, ℕ, ◌==◌, true, false, List, [], ◌∷◌, Some, None, is_some, IfSome};
+ghost use Rattle.std.specs.Prelude.{◌≡◌, ◌↔◌, ℕ, ◌==◌, true, false, List, [], ◌∷◌, Option, Some, None, is_some, IfSome, All};
 ghost use Rattle.hmr_types.specs.declared.analysis.Analysis.{Analysis};
 ghost use Rattle.hmr_types.specs.declared.analysis.Outcome.{Outcome};
 ghost use Rattle.hmr_types.specs.declared.words.ReloadCause.{ReloadCause};
 ghost use Rattle.update_msgs.specs.declared.message.ServerMsg.TheVariants as msg;
 ghost use Rattle.core_model.specs.Sent.{IsReloadSent};
 ghost use Rattle.core_model.specs.Names.{Name, at};
-ghost use Rattle.core_model.specs.Sources.{Sources, Text, Change, serve, result_answer, sources_after};
+ghost use Rattle.core_model.specs.Sources.{Sources, Text, Change, edit, same, serve, late, result_answer, sources_after};
+ghost use Rattle.core_model.specs.Sources as sources;
 ghost use Rattle.core_model.specs.FreshLoad.{Served};
 ghost use Rattle.core_model.specs.Spread.{IsReloadWanted, reason_of, cause_of};
 ghost use Rattle.core_model.specs.View.{View, differs, declines};
 ghost use Rattle.core_model.specs.Page.{Plan};
 ghost use Rattle.core_model.specs.Client.{Client, triggered, next_batch};
-ghost use Rattle.core_model.specs.Requests.{Request, ask, heard, to_client};
-ghost use Rattle.core_model.specs.Core.{Core, Event, connect, request, disconnect, client_at, told_of, changes_of, step, core_after, replay, replies};
-ghost use Rattle.core_laws.specs.Given.{given};
+ghost use Rattle.core_model.specs.Requests.{Request, ask, applied_as, heard, edited, settled, to_client};
+ghost use Rattle.core_model.specs.Core.{Core, Event, change, connect, request, disconnect, client_at, told_of, changes_of, step, core_after, replay, replies};
+ghost use Rattle.core_model.specs.Formed.{IsFormed};
+ghost use Rattle.core_model.specs.Transcript.{IsTrueEvent};
+ghost use Rattle.core_laws.specs.Given.{given, entry_of};
+ghost use Rattle.core_laws.specs.Truth.{IsTrueChange, IsOfText, IsTrueEntry};
 ghost use Rattle.core_laws.specs.Written.{written, IsWritten, IsServedWritten};
 ghost use Rattle.core_laws.specs.Facts.{SourcesFacts, ClientFacts, IsClosed, IsServed, SamePage};
+ghost use Rattle.core_laws.specs.Kept.{CoreFacts, TextFacts, given_by, written_after};
 ghost use Rattle.core_laws.specs.Fresh.{IsUpToDate, IsFreshLoad};
 ghost use Rattle.core_laws.specs.Reloading.{IsFullReload, IsReloadDue};
+ghost use Rattle.core_laws.specs.Refusing.{is_refusal};
+ghost use Rattle.core_laws.specs.Answering.{IsIdle, IsApplied};
+ghost use Rattle.core_laws.specs.Ranges.{CoreFits, IsWritableReply};
 ghost use Rattle.core_laws.specs.Settled.{AllAreGood, of_source, of_serving};
 ghost use Rattle.core_laws.specs.Batch.{Turn, IsBatch, changed_by};
 ghost use Rattle.core_laws.specs.Isolated.{AreNumbered, concerns, without_others, replies_without_others};
 
-/// Every list of events keeps the facts. Of the sources: each is of a counted edit, and is served where
+/// Each event keeps the facts, from any core that has them, and so does every list of events. Of the sources: each is of a counted edit, and is served where
 /// its result was good. Of each connected client: a loaded page holds every root and every import of
 /// its modules, and one that isn't loaded is empty; each module has the analysis that its version was
 /// served with; a forced module accepts itself; a load is of a page that isn't loaded, a reload or an
@@ -31,8 +39,12 @@ ghost use Rattle.core_laws.specs.Isolated.{AreNumbered, concerns, without_others
 /// to; and where nothing was served or removed since a plan began, all that it fetched is what is
 /// served, and all that it keeps.
 pub fn facts_are_kept()
+    ensures step { (roots : List Name) (by : Name → ℕ → Option Analysis) (core : Core) (event : Event) →
+        CoreFacts by core → CoreFacts (given_by core by event) (step roots core event).0 }
     ensures sources { (past : List Change) → SourcesFacts (given past) (sources_after past) }
-    ensures clients { (roots : List Name) (past : List Event) (i : ℕ) → IfSome (client_at (core_after roots past).clients i) (ClientFacts (given (changes_of past)) (core_after roots past).sources) }
+    ensures clients { (roots : List Name) (past : List Event) (i : ℕ) →
+        IfSome (client_at (core_after roots past).clients i)
+        (ClientFacts (given (changes_of past)) (core_after roots past).sources) }
 {}
 
 /// A version of a module is served once at most, and the analysis that it was served with stays known.
@@ -44,6 +56,8 @@ pub fn version_is_served_once()
 /// The current source of a name, and what is served of it, each has the text of the edit of that name
 /// that was counted as its version; and the text of a version stays known.
 pub fn a_version_is_one_text()
+    ensures step { (by : Name → ℕ → Option Text) (s : Sources) (ch : Change) →
+        TextFacts by s → TextFacts (written_after s by ch) (sources.changed_by s ch) }
     ensures current { (past : List Change) (n : Name) → IsWritten (written past n) (at (sources_after past).current n) }
     ensures served { (past : List Change) (n : Name) → IsServedWritten (written past n) (at (sources_after past).served n) }
     ensures stays { (past : List Change) (ch : Change) (n : Name) (v : ℕ) (t : Text) → written past n v ≡ Some t → written (ch ∷ past) n v ≡ Some t }
@@ -81,7 +95,9 @@ pub fn full_reload_is_answered_exactly()
 
 /// Each connected client has one record, under a number that was given.
 pub fn clients_are_numbered()
-    ensures { (roots : List Name) (past : List Event) → AreNumbered (core_after roots past) }
+    ensures step { (roots : List Name) (core : Core) (event : Event) →
+        AreNumbered core → AreNumbered (step roots core event).0 }
+    ensures always { (roots : List Name) (past : List Event) → AreNumbered (core_after roots past) }
 {}
 
 /// A request of one client leaves the record of every other client as it was; and so does a client
@@ -116,4 +132,70 @@ pub fn good_sources_are_served()
 pub fn batch_wants_no_reload()
     ensures wanted { (roots : List Name) (served : Served) (view : View) (turns : List Turn) → IsClosed roots view → ((n : Name) → IsServed (at view n) (at served n)) → ((n : Name) → declines view n ≡ false) → IsBatch roots served view turns → IsReloadWanted view roots (changed_by turns) [] → ⊥ }
     ensures computed { (roots : List Name) (served : Served) (view : View) (turns : List Turn) → IsClosed roots view → ((n : Name) → IsServed (at view n) (at served n)) → ((n : Name) → declines view n ≡ false) → IsBatch roots served view turns → reason_of view roots (changed_by turns) [] ≡ None }
+{}
+
+/// A refused event changes nothing in the core, whatever was refused: an edit, a client that comes, a
+/// request, or a client that goes. Nor does an edit that brings the text that is there, or a late result.
+pub fn refused_event_changes_nothing()
+    ensures refused { (roots : List Name) (core : Core) (event : Event) →
+        is_refusal (step roots core event).1 ≡ true → (step roots core event).0 ≡ core }
+    ensures same { (roots : List Name) (core : Core) (n : Name) (t : Option Text) →
+        (step roots core (change (edit n t))).1 ≡ edited same → (step roots core (change (edit n t))).0 ≡ core }
+    ensures late { (roots : List Name) (core : Core) (n : Name) (t : Text) (o : Outcome) (v : ℕ) →
+        (step roots core (change (sources.result n t o v))).1 ≡ settled late →
+        (step roots core (change (sources.result n t o v))).0 ≡ core }
+{}
+
+/// After every list of events an Ask of a connected client is answered Idle exactly where no plan is
+/// under way and no notice waits, and the client is held with nothing to prune, or its page is up to date
+/// and none of its modules was invalidated.
+pub fn idle_is_answered_exactly()
+    ensures { (roots : List Name) (past : List Event) (i : ℕ) (c : Client) →
+        client_at (core_after roots past).clients i ≡ Some c →
+        ((step roots (core_after roots past) (request i ask)).1 ≡ to_client msg.Idle) ↔
+        IsIdle (core_after roots past).sources c }
+{}
+
+/// An Applied of a connected client is answered Done exactly where a plan is under way, nothing is left to
+/// fetch for it, and the table told has at each name the version of the view that the plan makes.
+pub fn done_is_answered_exactly()
+    ensures { (roots : List Name) (core : Core) (i : ℕ) (c : Client) (table : List (Name × ℕ)) →
+        client_at core.clients i ≡ Some c →
+        ((step roots core (request i (applied_as table))).1 ≡ to_client msg.Done) ↔ IsApplied c table }
+{}
+
+/// An event that is well formed keeps each number of the core in its range, from any core that has them
+/// there: versions lie in 1 to 2^53 - 1, client numbers in 1 to 4,294,967,295, batches up to 2^53 - 1, and
+/// texts have at most 131,072 bytes. The reply, where it is a message, can then be written in each format:
+/// so it is after every list of such events.
+pub fn messages_can_be_written()
+    ensures kept { (roots : List Name) (core : Core) (event : Event) →
+        CoreFits core → IsFormed event → CoreFits (step roots core event).0 }
+    ensures reply { (roots : List Name) (core : Core) (event : Event) →
+        CoreFits core → IsFormed event → IsWritableReply (step roots core event).1 }
+    ensures always { (roots : List Name) (past : List Event) →
+        All IsFormed past → CoreFits (core_after roots past) }
+    ensures written { (roots : List Name) (past : List Event) (event : Event) →
+        All IsFormed (event ∷ past) → IsWritableReply (step roots (core_after roots past) event).1 }
+{}
+
+/// Where each result is what transforming its text gives, the analysis that a version was served with is
+/// that of the text of the counted edit of that version; and so is that of each module that is served,
+/// that stands on a page, or that was fetched for the plan under way.
+pub fn true_results_are_of_the_texts()
+    ensures given { (transformed : Name → Text → Outcome) (past : List Change) →
+        All (IsTrueChange transformed) past → (n : Name) (v : ℕ) (a : Analysis) →
+        given past n v ≡ Some a → IsOfText transformed (written past) n v a }
+    ensures served { (transformed : Name → Text → Outcome) (roots : List Name) (past : List Event) →
+        All (IsTrueEvent transformed) past → (n : Name) →
+        IfSome (entry_of (at (core_after roots past).sources.served n))
+        (IsTrueEntry transformed (written (changes_of past)) n) }
+    ensures view { (transformed : Name → Text → Outcome) (roots : List Name) (past : List Event) →
+        All (IsTrueEvent transformed) past → (i : ℕ) (n : Name) →
+        IfSome (client_at (core_after roots past).clients i)
+        (λ c. IfSome (at c.page.view n) (IsTrueEntry transformed (written (changes_of past)) n)) }
+    ensures staged { (transformed : Name → Text → Outcome) (roots : List Name) (past : List Event) →
+        All (IsTrueEvent transformed) past → (i : ℕ) (n : Name) →
+        IfSome (client_at (core_after roots past).clients i) (λ c. IfSome c.page.plan
+        (λ p. IfSome (at p.staged n) (IsTrueEntry transformed (written (changes_of past)) n))) }
 {}

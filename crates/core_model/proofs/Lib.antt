@@ -11,3 +11,6 @@ pub mod Replaying
 pub mod Clients
 pub mod Sending
 pub mod Rising
+pub mod Listing
+pub mod Membering
+pub mod LookingBack

@@ -35,7 +35,7 @@ notice_by notices (Some n) e m h = named_fault n (at notices n) (named notices n
 some_notice : (row : Name × TextFault) (rows : List (Name × TextFault)) → is_some (option_and_then (λ n. with_name n (at (row ∷ rows) n)) (first_of (sorted (names_of (row ∷ rows))))) ≡ true
 some_notice row rows = notice_by (row ∷ rows) (first_of (sorted (names_of (row ∷ rows)))) refl row.0 (or_left (same_name row.0 row.0) _ (true_same row.0 row.0 refl))
 
-no_notice : (notices : List (Name × TextFault)) → option_and_then (λ n. with_name n (at notices n)) (first_of (sorted (names_of notices))) ≡ None → notices ≡ []
+pub no_notice : (notices : List (Name × TextFault)) → option_and_then (λ n. with_name n (at notices n)) (first_of (sorted (names_of notices))) ≡ None → notices ≡ []
 no_notice [] e = refl
 no_notice (row ∷ rows) e = absurd (false≢true (sym (ap is_some e) ∙ some_notice row rows))
 

@@ -12,7 +12,11 @@ pub mod Asking
 pub mod Requests
 pub mod Roots
 pub mod Core
+pub mod Formed
 pub mod Transcript
 pub mod Examples
 pub mod Exchange
 pub mod Sent
+pub mod Ordered
+pub mod Members
+pub mod LookBack

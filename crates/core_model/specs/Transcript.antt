@@ -6,6 +6,7 @@ use Rattle.core_model.specs.Names.{Name}
 use Rattle.core_model.specs.Roots.{AreRoots}
 use Rattle.core_model.specs.Sources.{Text, edit, result, text_or_none}
 use Rattle.core_model.specs.Requests.{Request, Reply, ask, fetch, applied_as, aborted, invalidate}
+use Rattle.core_model.specs.Formed.{IsFormed}
 use Rattle.core_model.specs.Core.{Event, change, connect, request, disconnect, step, replay}
 
 -- the most entries of a transcript
@@ -52,9 +53,10 @@ IsTrueEvent transformed (connect names) = ⊤
 IsTrueEvent transformed (request i r) = ⊤
 IsTrueEvent transformed (disconnect i) = ⊤
 
--- a transcript that a core with these roots can have
+-- a transcript that a core with these roots can have: its events are well formed, and its results true
 pub record IsLegal (transformed : Name → Text → Outcome) (roots : List Name) (entries : List Entry) : Type 0 where
   pub roots_are : AreRoots roots
+  pub formed : All IsFormed (events_of entries)
   pub results : All (IsTrueEvent transformed) (events_of entries)
   pub few : length entries ≤ most_entries
   pub small : transcript_bytes entries ≤ most_bytes

@@ -1,20 +1,23 @@
 // Laws of the definitions: what is computed is what the relations say.
-ghost use Rattle.std.specs.Prelude.{◌≡◌, ◌↔◌, Bool, true, List, [], ◌∷◌, ◌++◌, None, IfSome, IfNone, Contains, if◌then◌else◌};
+ghost use Rattle.std.specs.Prelude.{◌≡◌, ◌↔◌, ℕ, Bool, true, List, [], ◌∷◌, ◌++◌, None, IfSome, IfNone, Contains, if◌then◌else◌};
 ghost use Rattle.core_model.specs.Names.{Name, has, at, names_of, rising};
 ghost use Rattle.core_model.specs.Paths.{Reaches};
 ghost use Rattle.core_model.specs.Rounds.{IsOver, reached_of};
 ghost use Rattle.core_model.specs.View.{View, imports, IsDropped, dropped_of, table_of};
 ghost use Rattle.core_model.specs.Spread.{IsReason, reason_of, IsReloadWanted, IsReplaced, replaced_of, AreIn, IsPair, pairs_of};
-ghost use Rattle.core_model.specs.Page.{Plan, new_plan, plan_imports, met_of, new_entry, new_view};
+ghost use Rattle.core_model.specs.Page.{Plan, new_plan, plan_imports, met_of, unfetched_of, new_entry, new_view};
 ghost use Rattle.hmr_types.specs.Table.{rises};
 ghost use Rattle.core_model.specs.FreshLoad as fresh;
-ghost use Rattle.core_model.specs.FreshLoad.{Served, reached_by, version_in, fresh_table};
-ghost use Rattle.core_model.specs.Sources.{Sources, sources_after};
+ghost use Rattle.core_model.specs.FreshLoad.{Served, reached_by, version_in, fresh_table, missing_of, unlinked_of};
+ghost use Rattle.core_model.specs.Sources.{Sources, Text, Change, sources_after};
 ghost use Rattle.core_model.specs.Client.{Client};
 ghost use Rattle.core_model.specs.Asking.{ask_row, reload};
 ghost use Rattle.core_model.specs.Sent.{IsReloadSent};
 ghost use Rattle.core_model.specs.Core.{Event, step, core_after, replay, changes_of};
 ghost use Rattle.hmr_types.specs.declared.words.PlanKind.TheVariants.{Update};
+ghost use Rattle.core_model.specs.LookBack.{counted_edits, last_edit, last_good, source_edit};
+ghost use Rattle.core_model.specs.Ordered.{IsBelow, IsPairBelow, IsTripleBelow, Rises};
+ghost use Rattle.core_model.specs.Members.{IsLoaded, IsMissing, IsUnlinked, IsUnfetched};
 ghost use Rattle.core_model.specs.LeastPath.{IsLeastPath, least_path_of};
 
 /// As many rounds as there are names give exactly what some list of names reaches by edges.
@@ -80,8 +83,12 @@ pub fn empty_update_changes_nothing()
 /// A fresh load has exactly what imports of served sources reach from the roots, each at its served
 /// version.
 pub fn fresh_load_is_what_is_reached()
-    ensures reached { (served : Served) (roots : List Name) (m : Name) → (has (reached_by served roots) m ≡ true) ↔ Reaches (fresh.imports served) roots m }
-    ensures table { (served : Served) (roots : List Name) (n : Name) → at (fresh_table served roots) n ≡ (if has (reached_by served roots) n then version_in (at served n) else None) }
+    ensures reached { (served : Served) (roots : List Name) (m : Name) →
+        (has (reached_by served roots) m ≡ true) ↔ Reaches (fresh.imports served) roots m }
+    ensures members { (served : Served) (roots : List Name) (n : Name) (v : ℕ) →
+        Contains (fresh_table served roots) (n, v) ↔ IsLoaded served roots n v }
+    ensures table { (served : Served) (roots : List Name) (n : Name) → at (fresh_table served roots) n ≡
+        (if has (reached_by served roots) n then version_in (at served n) else None) }
 {}
 
 /// The replay of a list with one event more is the step of the replay.
@@ -109,4 +116,43 @@ pub fn lists_of_names_rise()
     ensures dropped { (view : View) (roots : List Name) → rising (dropped_of view roots) ≡ true }
     ensures replaced { (view : View) (changed forced : List Name) → rising (replaced_of view changed forced) ≡ true }
     ensures fresh { (served : Served) (roots : List Name) → rising (names_of (fresh_table served roots)) ≡ true }
+{}
+
+/// The computed missing names are those that imports reach and that aren't served, rising by bytes.
+pub fn missing_is_computed()
+    ensures members { (served : Served) (roots : List Name) (n : Name) →
+        Contains (missing_of served roots) n ↔ IsMissing served roots n }
+    ensures order { (served : Served) (roots : List Name) → Rises IsBelow (missing_of served roots) }
+{}
+
+/// The computed unlinked imports are those of reached modules from served ones that don't export them,
+/// rising by importer, then by dependency, then by what is imported.
+pub fn unlinked_is_computed()
+    ensures members { (links : Name → Text → List (Name × Name)) (served : Served) (roots : List Name) →
+        (n m x : Name) → Contains (unlinked_of links served roots) (n, m, x) ↔ IsUnlinked links served roots n m x }
+    ensures order { (links : Name → Text → List (Name × Name)) (served : Served) (roots : List Name) →
+        Rises IsTripleBelow (unlinked_of links served roots) }
+{}
+
+/// The computed names that a plan has to fetch are those that its walk meets and that have no entry,
+/// rising by bytes.
+pub fn unfetched_is_computed()
+    ensures members { (roots : List Name) (p : Plan) (view : View) (n : Name) →
+        Contains (unfetched_of roots p view) n ↔ IsUnfetched roots p view n }
+    ensures order { (roots : List Name) (p : Plan) (view : View) → Rises IsBelow (unfetched_of roots p view) }
+{}
+
+/// The computed pairs rise by boundary, and then by the module that it is told of.
+pub fn pairs_rise()
+    ensures { (view : View) (replaced forced : List Name) → Rises IsPairBelow (pairs_of view replaced forced) }
+{}
+
+/// The sources have what a look back at the edits and results gives: how many edits were counted; of each
+/// name the last counted edit, as its current source; and the last good result with no removal after it,
+/// as what is served.
+pub fn sources_look_back()
+    ensures counted { (past : List Change) → (sources_after past).counted ≡ counted_edits past }
+    ensures current { (past : List Change) (n : Name) →
+        source_edit (at (sources_after past).current n) ≡ last_edit past n }
+    ensures served { (past : List Change) (n : Name) → at (sources_after past).served n ≡ last_good past n }
 {}

@@ -23,11 +23,11 @@ pub none_is : {X : Type 0} → (o : Option X) → is_none o ≡ true → o ≡ N
 none_is None h = refl
 none_is (Some x) h = absurd (false≢true h)
 
-tested : (roots : List Name) (s : Sources) (c : Client) (r : Runtime) → is_caught_up roots s c r ≡ true → IsCaughtUp roots s c r
-tested roots s c r h =
+tested : (s : Sources) (c : Client) (r : Runtime) → is_caught_up s c r ≡ true → IsCaughtUp s c r
+tested s c r h =
     let l = both_true _ (is_empty r.unsent) h in
     let k = both_true _ (is_empty c.notices) l.0 in
-    let j = both_true _ (is_empty (dropped roots c)) k.0 in
+    let j = both_true _ (is_empty (dropped c)) k.0 in
     let i = both_true _ (is_empty c.page.forced) j.0 in
     let g = both_true _ (is_empty (changed s c)) i.0 in
     let f = both_true c.page.loaded (is_none c.page.plan) g.0 in
@@ -36,27 +36,27 @@ tested roots s c r h =
       idle = none_is c.page.plan f.1;
       unchanged = empty_is (changed s c) g.1;
       unforced = empty_is c.page.forced i.1;
-      whole = empty_is (dropped roots c) j.1;
+      whole = empty_is (dropped c) j.1;
       told = empty_is c.notices k.1;
       sent = empty_is r.unsent l.1;
     }
 
-meets : (roots : List Name) (s : Sources) (c : Client) (r : Runtime) → IsCaughtUp roots s c r → is_caught_up roots s c r ≡ true
-meets roots s c r h =
+meets : (s : Sources) (c : Client) (r : Runtime) → IsCaughtUp s c r → is_caught_up s c r ≡ true
+meets s c r h =
     and_both _ (is_empty r.unsent)
     (and_both _ (is_empty c.notices)
-    (and_both _ (is_empty (dropped roots c))
+    (and_both _ (is_empty (dropped c))
     (and_both _ (is_empty c.page.forced)
     (and_both _ (is_empty (changed s c))
     (and_both c.page.loaded (is_none c.page.plan) h.loaded (ap is_none h.idle))
     (is_then_empty (changed s c) h.unchanged))
     (is_then_empty c.page.forced h.unforced))
-    (is_then_empty (dropped roots c) h.whole))
+    (is_then_empty (dropped c) h.whole))
     (is_then_empty c.notices h.told))
     (is_then_empty r.unsent h.sent)
 
-pub test_is : (roots : List Name) (s : Sources) (c : Client) (r : Runtime) → (is_caught_up roots s c r ≡ true) ↔ IsCaughtUp roots s c r
-test_is roots s c r = (tested roots s c r, meets roots s c r)
+pub test_is : (s : Sources) (c : Client) (r : Runtime) → (is_caught_up s c r ≡ true) ↔ IsCaughtUp s c r
+test_is s c r = (tested s c r, meets s c r)
 
 -- The debt.
 
@@ -82,10 +82,10 @@ fewer p (x ∷ xs) =
     let h = one_more (p x) x (filter p xs) (length xs) (fewer p xs) in
     omega (arith, h)
 
-between_bound : (roots : List Name) (s : Sources) (c : Client) (r : Runtime) → debt_between roots s c r ≤ largest_debt s c r
-between_bound roots s c r =
-    let first : (if is_empty (dropped roots c) then 0 else 1) ≤ 1 = at_most_one (is_empty (dropped roots c)) in
-    let second : (if c.page.loaded && is_empty r.unsent && wants_nothing roots s c then 0 else plan_turns s) ≤ length s.served + 4 = at_most_if (c.page.loaded && is_empty r.unsent && wants_nothing roots s c) (plan_turns s) (length s.served + 4) (omega arith) in
+between_bound : (s : Sources) (c : Client) (r : Runtime) → debt_between s c r ≤ largest_debt s c r
+between_bound s c r =
+    let first : (if is_empty (dropped c) then 0 else 1) ≤ 1 = at_most_one (is_empty (dropped c)) in
+    let second : (if c.page.loaded && is_empty r.unsent && wants_nothing s c then 0 else plan_turns s) ≤ length s.served + 4 = at_most_if (c.page.loaded && is_empty r.unsent && wants_nothing s c) (plan_turns s) (length s.served + 4) (omega arith) in
     omega (arith, first, second)
 
 within_bound : (p : Plan) (s : Sources) (c : Client) (r : Runtime) → debt_within p s c r ≤ largest_debt s c r
@@ -96,12 +96,12 @@ within_bound p s c r =
     let second : (if c.plan_at == s.served_no then 0 else plan_turns s) ≤ length s.served + 4 = at_most_if (c.plan_at == s.served_no) (plan_turns s) (length s.served + 4) (omega arith) in
     omega (arith, first, second)
 
-debt_by_bound : (plan : Option Plan) (roots : List Name) (s : Sources) (c : Client) (r : Runtime) → debt_by plan roots s c r ≤ largest_debt s c r
-debt_by_bound None roots s c r = between_bound roots s c r
-debt_by_bound (Some p) roots s c r = within_bound p s c r
+debt_by_bound : (plan : Option Plan) (s : Sources) (c : Client) (r : Runtime) → debt_by plan s c r ≤ largest_debt s c r
+debt_by_bound None s c r = between_bound s c r
+debt_by_bound (Some p) s c r = within_bound p s c r
 
-pub debt_bound : (roots : List Name) (s : Sources) (c : Client) (r : Runtime) → debt roots s c r ≤ largest_debt s c r
-debt_bound roots s c r = debt_by_bound c.page.plan roots s c r
+pub debt_bound : (s : Sources) (c : Client) (r : Runtime) → debt s c r ≤ largest_debt s c r
+debt_bound s c r = debt_by_bound c.page.plan s c r
 
 -- No debt is left exactly where the client is caught up.
 
@@ -125,12 +125,12 @@ true_from_more : (b : Bool) (k : ℕ) → ◌≡◌ {A = ℕ} (if b then 0 else 
 true_from_more true k h = refl
 true_from_more false k h = absurd (omega (arith, h))
 
-paid_between : (roots : List Name) (s : Sources) (c : Client) (r : Runtime) → c.page.plan ≡ None → debt_between roots s c r ≡ 0 → IsCaughtUp roots s c r
-paid_between roots s c r none h =
+paid_between : (s : Sources) (c : Client) (r : Runtime) → c.page.plan ≡ None → debt_between s c r ≡ 0 → IsCaughtUp s c r
+paid_between s c r none h =
     let told : length r.unsent + length c.notices ≡ 0 = omega (arith, h) in
-    let whole : dropped roots c ≡ [] = empty_is (dropped roots c) (true_from_one (is_empty (dropped roots c)) (omega (arith, h))) in
-    let quiet : (c.page.loaded && is_empty r.unsent && wants_nothing roots s c) ≡ true = true_from_more (c.page.loaded && is_empty r.unsent && wants_nothing roots s c) (length s.served) (omega (arith, h)) in
-    let parts = both_true _ (wants_nothing roots s c) quiet in
+    let whole : dropped c ≡ [] = empty_is (dropped c) (true_from_one (is_empty (dropped c)) (omega (arith, h))) in
+    let quiet : (c.page.loaded && is_empty r.unsent && wants_nothing s c) ≡ true = true_from_more (c.page.loaded && is_empty r.unsent && wants_nothing s c) (length s.served) (omega (arith, h)) in
+    let parts = both_true _ (wants_nothing s c) quiet in
     let nothing = both_nil (changed s c) c.page.forced (none_listed (changed s c ++ c.page.forced) (subst (λ names. list_all (has names) (changed s c ++ c.page.forced) ≡ true) whole parts.1)) in
     record {
       loaded = (both_true c.page.loaded (is_empty r.unsent) parts.0).0;
@@ -142,9 +142,9 @@ paid_between roots s c r none h =
       sent = nil_from r.unsent (omega (arith, told));
     }
 
-paid_by : (plan : Option Plan) (roots : List Name) (s : Sources) (c : Client) (r : Runtime) → c.page.plan ≡ plan → debt_by plan roots s c r ≡ 0 → IsCaughtUp roots s c r
-paid_by None roots s c r e h = paid_between roots s c r e h
-paid_by (Some p) roots s c r e h = absurd (omega (arith, h))
+paid_by : (plan : Option Plan) (s : Sources) (c : Client) (r : Runtime) → c.page.plan ≡ plan → debt_by plan s c r ≡ 0 → IsCaughtUp s c r
+paid_by None s c r e h = paid_between s c r e h
+paid_by (Some p) s c r e h = absurd (omega (arith, h))
 
 none_more : (b : Bool) → b ≡ true → ◌≡◌ {A = ℕ} (if b then 0 else 1) 0
 none_more true h = refl
@@ -154,14 +154,14 @@ spared : (b : Bool) (k : ℕ) → b ≡ true → ◌≡◌ {A = ℕ} (if b then 
 spared true k h = refl
 spared false k h = absurd (false≢true h)
 
-paid : (roots : List Name) (s : Sources) (c : Client) (r : Runtime) → IsCaughtUp roots s c r → debt roots s c r ≡ 0
-paid roots s c r h = subst (λ plan. debt_by plan roots s c r ≡ 0) (sym h.idle)
+paid : (s : Sources) (c : Client) (r : Runtime) → IsCaughtUp s c r → debt s c r ≡ 0
+paid s c r h = subst (λ plan. debt_by plan s c r ≡ 0) (sym h.idle)
     (let unsent : length r.unsent ≡ 0 = ap length h.sent in
     let notices : length c.notices ≡ 0 = ap length h.told in
-    let whole : ◌≡◌ {A = ℕ} (if is_empty (dropped roots c) then 0 else 1) 0 = none_more (is_empty (dropped roots c)) (is_then_empty (dropped roots c) h.whole) in
-    let wants : wants_nothing roots s c ≡ true = ap (λ names. list_all (has (dropped roots c)) (names ++ c.page.forced)) h.unchanged ∙ ap (list_all (has (dropped roots c))) h.unforced in
-    let quiet : ◌≡◌ {A = ℕ} (if c.page.loaded && is_empty r.unsent && wants_nothing roots s c then 0 else plan_turns s) 0 = spared (c.page.loaded && is_empty r.unsent && wants_nothing roots s c) (plan_turns s) (and_both _ (wants_nothing roots s c) (and_both c.page.loaded (is_empty r.unsent) h.loaded (is_then_empty r.unsent h.sent)) wants) in
+    let whole : ◌≡◌ {A = ℕ} (if is_empty (dropped c) then 0 else 1) 0 = none_more (is_empty (dropped c)) (is_then_empty (dropped c) h.whole) in
+    let wants : wants_nothing s c ≡ true = ap (λ names. list_all (has (dropped c)) (names ++ c.page.forced)) h.unchanged ∙ ap (list_all (has (dropped c))) h.unforced in
+    let quiet : ◌≡◌ {A = ℕ} (if c.page.loaded && is_empty r.unsent && wants_nothing s c then 0 else plan_turns s) 0 = spared (c.page.loaded && is_empty r.unsent && wants_nothing s c) (plan_turns s) (and_both _ (wants_nothing s c) (and_both c.page.loaded (is_empty r.unsent) h.loaded (is_then_empty r.unsent h.sent)) wants) in
     omega (arith, unsent, notices, whole, quiet))
 
-pub paid_is : (roots : List Name) (s : Sources) (c : Client) (r : Runtime) → (debt roots s c r ≡ 0) ↔ IsCaughtUp roots s c r
-paid_is roots s c r = (paid_by c.page.plan roots s c r refl, paid roots s c r)
+pub paid_is : (s : Sources) (c : Client) (r : Runtime) → (debt s c r ≡ 0) ↔ IsCaughtUp s c r
+paid_is s c r = (paid_by c.page.plan s c r refl, paid s c r)

@@ -1,6 +1,6 @@
 -- What a client does with handlers leaves its frames; what ends instances cuts them.
 use Rattle.std.proofs.Common.{◌≡◌, ℕ, suc, ◌+◌, length, Bool, true, false, List, [], ◌∷◌, refl, ap, sym, ◌∙◌}
-use Rattle.std.specs.Prelude.{filter, cond, ◌&&◌, ◌||◌, ◌==◌, Option, Some, None, if◌then◌else◌}
+use Rattle.std.specs.Prelude.{filter, reverse, cond, ◌&&◌, ◌||◌, ◌==◌, Option, Some, None, if◌then◌else◌}
 use Rattle.std.specs.List.{list_any}
 use Rattle.core_model.proofs.Naming.{both_true}
 use Rattle.hmr_types.specs.declared.words.PlanKind.{PlanKind}
@@ -16,10 +16,12 @@ use Rattle.core_model.proofs.Clients.{either_way}
 use Rattle.client_model.specs.Language.{Language, Slots, Ran}
 use Rattle.client_model.specs.Instance.{Instance, Handler, numbered, with_change, places_of, live_at, is_live, is_live_fate, is_held, disposes, prunes}
 use Rattle.client_model.specs.Runtime.{Runtime, Did, for_each, write, bag_of}
+use Rattle.hmr_types.specs.declared.value.Value.{Value}
+use Rattle.client_model.specs.Firing.{hear_all}
 use Rattle.client_model.specs.Running.{scope_of, run_deed, no_arguments, did_run, run_handler, run_of, run_each, drop_each, end_instance, give_up_bag, after_run}
 use Rattle.client_model.specs.Applying.{is_left_behind, fate_by, reload_instance, live_of, replace_instance, end_old, tell_boundary, tell_all, drop_set_aside, prune_instance}
 use Rattle.client_model.specs.Linking.{new_names, number_after, number_in, place_of}
-use Rattle.client_model.proofs.Acts.{IsHandled, handled_tell, handled_tell_all, handled_set_aside, handled_lines}
+use Rattle.client_model.proofs.Acts.{IsHandled, handled_tell, handled_tell_all, handled_set_aside, handled_hear, handled_lines}
 use Rattle.world_laws.proofs.Frames.{Frame, frame, frames, dead, cut, cut_twice, cut_none, ended_by}
 
 pub framed : (f : Instance → Instance) → ((i : Instance) → frame (f i) ≡ frame i) → (k : ℕ) (is : List Instance) → frames (with_change k f is) ≡ frames is
@@ -77,6 +79,9 @@ same_set_aside language p before r = handled_set_aside language Same (same_handl
 
 pub same_lines : {X : Type 0} (language : Language) (l : X → Runtime → OutLine) (xs : List X) (r : Runtime) → Same r (for_each (λ x s. write (l x s) s) xs r)
 same_lines language l xs r = handled_lines language Same (same_handled language) l xs r
+
+pub same_hear : (language : Language) (event : Name) (value : Value) (r : Runtime) → Same r (hear_all language event value r)
+same_hear language event value r = handled_hear language Same (same_handled language) event value (reverse (live_of (λ n. true) r)) r
 
 -- What ends an instance.
 

@@ -1,5 +1,5 @@
 -- Each name that an instance's text imports over a link is exported at the link's other end, for every
--- list of messages: a plan is applied only where that holds of its new instances, and what it keeps has
+-- past of a client: a plan is applied only where that holds of its new instances, and what it keeps has
 -- the exports of its page's module.
 use Rattle.std.proofs.Common.{◌≡◌, ◌⊎◌, inl, inr, ℕ, Bool, true, false, List, [], ◌∷◌, refl, ap, sym, ◌∙◌, Contains}
 use Rattle.std.specs.Prelude.{not, ◌&&◌, filter, map, Option, Some, None, is_some, if◌then◌else◌}
@@ -22,17 +22,17 @@ use Rattle.core_model.proofs.Planning.{met_is}
 use Rattle.core_model.proofs.Reaching.{reaches_on}
 use Rattle.client_model.specs.Language.{Language, Binding}
 use Rattle.client_model.specs.Instance.{Instance, live_at}
-use Rattle.client_model.specs.Runtime.{Runtime, Cause, unlinked}
+use Rattle.client_model.specs.Runtime.{Runtime, Opening, Cause, unlinked}
 use Rattle.client_model.specs.Linking.{is_kept_kind, next_needed, new_names, number_after, number_in, links_after, link_to, exports_of, is_unlinked, bindings_of, unlinked_in, link_cause}
-use Rattle.client_model.specs.Taking.{take, runtime_after}
+use Rattle.client_model.specs.Past.{Incoming, message, event, Past, met, runtime_after}
 use Rattle.world_laws.specs.Instances.{IsExporting, AreExported}
 use Rattle.world_laws.proofs.Members.{in_cases, none_in, filter_in, map_in, MadeOf, map_from, flat_in}
 use Rattle.world_laws.proofs.Frames.{Frame, frame, frames, dead, is_of, cut, ended_by, made_on, live_one, found_in, old_in, new_in, made_cases}
 use Rattle.world_laws.proofs.Births.{new_frame, news, olds, frames_after, new_there}
 use Rattle.world_laws.proofs.Ending.{ended_names}
 use Rattle.world_laws.proofs.Holding.{HoldsOf, link_from, number_at, number_is, new_is, is_ready}
-use Rattle.world_laws.proofs.Messages.{Quiet, Applies, GoesTo, take_goes, run_holds}
-use Rattle.world_laws.proofs.Texts.{Fit, LiveFits, FitsIn, MessageFits, take_fits}
+use Rattle.world_laws.proofs.Messages.{Quiet, Applies, GoesTo, met_goes, run_holds}
+use Rattle.world_laws.proofs.Texts.{Fit, LiveFits, FitsIn, MessageFits, IncomingFits, met_fits}
 
 -- the one of this number exports the name
 pub record Exporting (fs : List Frame) (k : ℕ) (x : Name) : Type 0 where
@@ -147,16 +147,16 @@ module _ (language : Language) (P : Name → Fit) (p : Plan) (r : Runtime) (plan
       by (inl c) = of_new (map_from (new_frame p r) (new_names p r) f c)
       by (inr c) = λ b d k l. made_to (news p r) (olds p r) k b.exported (cut_served language (ended_by (ended_names p.kind p r) (frames r.instances)) (frames r.instances) all f c b d k l)
 
--- Every message.
+-- Each thing that comes.
 
-take_served : (language : Language) (P : Name → Fit) (r : Runtime) (m : ServerMsg) → HoldsOf r → FitsIn P r → AllServed language (frames r.instances) → AllServed language (frames (take language r m).after.instances)
-take_served language P r m old fits all = by g.moves
+met_served : (language : Language) (P : Name → Fit) (r : Runtime) (came : Incoming) → HoldsOf r → FitsIn P r → AllServed language (frames r.instances) → AllServed language (frames (met language came r).0.instances)
+met_served language P r came old fits all = by g.moves
   where
     s : Runtime
-    s = (take language r m).after
+    s = (met language came r).0
 
     g : GoesTo language r s
-    g = take_goes language r m old
+    g = met_goes language r came old
 
     by : Quiet r.page.view s.page.view (frames r.instances) (frames s.instances) ⊎ Applies language r s.page (frames s.instances) → AllServed language (frames s.instances)
     by (inl q) = subst (AllServed language) (sym q.cuts) (cut_served language q.ends (frames r.instances) all)
@@ -168,9 +168,9 @@ Right language n v t a = language.transformed n t ≡ Good a
 
 all_right : (language : Language) (m : ServerMsg) → MessageFits language (Right language) m
 all_right language (msg.Connected client roots) = tt
-all_right language (msg.Update replaced updates) = tt
+all_right language (msg.Update replaced updates batch triggered) = tt
 all_right language (msg.Prune paths) = tt
-all_right language (msg.FullReload cause path) = tt
+all_right language (msg.FullReload cause path batch triggered) = tt
 all_right language (msg.Error m row column word) = tt
 all_right language (msg.Broken m row column word) = tt
 all_right language msg.Idle = tt
@@ -180,21 +180,25 @@ all_right language (msg.Missing m) = tt
 all_right language (msg.NotYet m) = tt
 all_right language (msg.Refused code m told kept) = tt
 
-module _ (language : Language) (shelf : List (Text × ℕ)) where
-  run_right : (past : List ServerMsg) → FitsIn (Right language) (runtime_after language shelf past)
-  run_right [] = record { planned = tt; live = λ n. tt }
-  run_right (m ∷ past) = take_fits language (Right language) (runtime_after language shelf past) (run_holds language shelf past) (run_right past) m (all_right language m)
+came_right : (language : Language) (came : Incoming) → IncomingFits language (Right language) came
+came_right language (message m) = all_right language m
+came_right language (event n value) = tt
 
-  run_served : (past : List ServerMsg) → AllServed language (frames (runtime_after language shelf past).instances)
+module _ (language : Language) (opening : Opening) where
+  run_right : (past : Past) → FitsIn (Right language) (runtime_after language opening past)
+  run_right [] = record { planned = tt; live = λ n. tt }
+  run_right (came ∷ past) = met_fits language (Right language) (runtime_after language opening past) (run_holds language opening past) (run_right past) came (came_right language came)
+
+  run_served : (past : Past) → AllServed language (frames (runtime_after language opening past).instances)
   run_served [] = λ f c. absurd (none_in f c)
-  run_served (m ∷ past) = take_served language (Right language) (runtime_after language shelf past) m (run_holds language shelf past) (run_right past) (run_served past)
+  run_served (came ∷ past) = met_served language (Right language) (runtime_after language opening past) came (run_holds language opening past) (run_right past) (run_served past)
 
 exporting_is : (is : List Instance) (k : ℕ) (x : Name) → Exporting (frames is) k x → IsExporting is k x
 exporting_is is k x t =
     let m : MadeOf frame is t.to = map_from frame is t.to t.there in
     record { instance = m.of; made = m.there; number = ap (λ (f : Frame). f.number) m.makes ∙ t.number; exports = ap (λ (f : Frame). has f.exports x) m.makes ∙ t.exports }
 
-pub exported_run : (language : Language) (shelf : List (Text × ℕ)) (past : List ServerMsg) → AreExported language (runtime_after language shelf past).instances
-exported_run language shelf past i c b d k l =
-    let is : List Instance = (runtime_after language shelf past).instances in
-    exporting_is is k b.exported (run_served language shelf past (frame i) (map_in frame is i c) b d k l)
+pub exported_run : (language : Language) (opening : Opening) (past : Past) → AreExported language (runtime_after language opening past).instances
+exported_run language opening past i c b d k l =
+    let is : List Instance = (runtime_after language opening past).instances in
+    exporting_is is k b.exported (run_served language opening past (frame i) (map_in frame is i c) b d k l)

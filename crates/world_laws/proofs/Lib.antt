@@ -3,6 +3,7 @@ pub mod CatchingUp
 pub mod Changes
 pub mod Ending
 pub mod Exporting
+pub mod Firings
 pub mod Following
 pub mod Frames
 pub mod Freshness

@@ -3,13 +3,12 @@ use Rattle.std.proofs.Common.{◌≡◌, ◌↔◌, ◌⊎◌, inl, inr, ℕ, su
 use Rattle.std.specs.Prelude.{filter, cond, ◌&&◌, Option, Some, None, is_some, option_map}
 use Rattle.std.proofs.lemmas.List.{length-map}
 use Rattle.core_model.specs.Names.{Name, same_name}
-use Rattle.core_model.specs.Sources.{Text}
 use Rattle.core_model.specs.View.{is_in}
-use Rattle.update_msgs.specs.declared.message.ServerMsg.{ServerMsg}
 use Rattle.client_model.specs.Language.{Language}
 use Rattle.client_model.specs.Instance.{Instance, is_live, live_at}
 use Rattle.client_model.specs.Applying.{live_of}
-use Rattle.client_model.specs.Taking.{runtime_after}
+use Rattle.client_model.specs.Past.{Past, runtime_after}
+use Rattle.client_model.specs.Runtime.{Opening}
 use Rattle.client_model.specs.Stale.{IsStale, stale_of}
 use Rattle.world_laws.specs.Instances.{AreNumbered, IsMadeOf, AreLinked, AreCounted}
 use Rattle.world_laws.proofs.Members.{none_in, in_cases, map_in, MadeOf, map_from}
@@ -61,32 +60,32 @@ some_framed : (o : Option Instance) → is_some o ≡ is_some (option_map frame 
 some_framed None = refl
 some_framed (Some i) = refl
 
-module _ (language : Language) (shelf : List (Text × ℕ)) (past : List ServerMsg) where
-  held : HoldsOf (runtime_after language shelf past)
-  held = run_holds language shelf past
+module _ (language : Language) (opening : Opening) (past : Past) where
+  held : HoldsOf (runtime_after language opening past)
+  held = run_holds language opening past
 
-  pub numbered_run : AreNumbered (runtime_after language shelf past).instances
-  numbered_run = numbered (runtime_after language shelf past).instances held.numbered
+  pub numbered_run : AreNumbered (runtime_after language opening past).instances
+  numbered_run = numbered (runtime_after language opening past).instances held.numbered
 
-  pub linked_run : AreLinked (runtime_after language shelf past).instances
-  linked_run i c x k l = lead_is (runtime_after language shelf past).instances x k (held.linked (frame i) (map_in frame (runtime_after language shelf past).instances i c) x k l)
+  pub linked_run : AreLinked (runtime_after language opening past).instances
+  linked_run i c x k l = lead_is (runtime_after language opening past).instances x k (held.linked (frame i) (map_in frame (runtime_after language opening past).instances i c) x k l)
 
-  pub counted_run : AreCounted (runtime_after language shelf past).instances
+  pub counted_run : AreCounted (runtime_after language opening past).instances
   counted_run =
-      let is : List Instance = (runtime_after language shelf past).instances in
+      let is : List Instance = (runtime_after language opening past).instances in
       record {
         numbers = λ i c. counted_in is held.numbered (frame i) (map_in frame is i c);
         links = λ i c x k l. by x k (held.linked (frame i) (map_in frame is i c) x k l);
       }
     where
-      by : (x : Name) (k : ℕ) → LeadsTo (frames (runtime_after language shelf past).instances) x k → (1 ≤ k) × (k ≤ length (runtime_after language shelf past).instances)
-      by x k l = let b = counted_in (runtime_after language shelf past).instances held.numbered l.to l.there in (omega (arith, b.0, l.number), omega (arith, b.1, l.number))
+      by : (x : Name) (k : ℕ) → LeadsTo (frames (runtime_after language opening past).instances) x k → (1 ≤ k) × (k ≤ length (runtime_after language opening past).instances)
+      by x k l = let b = counted_in (runtime_after language opening past).instances held.numbered l.to l.there in (omega (arith, b.0, l.number), omega (arith, b.1, l.number))
 
-  pub one_run : (n : Name) → length (live_of (λ m. same_name m n) (runtime_after language shelf past)) ≤ 1
-  one_run n = omega (arith, counts (runtime_after language shelf past).instances n, held.one n)
+  pub one_run : (n : Name) → length (live_of (λ m. same_name m n) (runtime_after language opening past)) ≤ 1
+  one_run n = omega (arith, counts (runtime_after language opening past).instances n, held.one n)
 
-  pub live_run : (n : Name) → is_some (live_at (runtime_after language shelf past).instances n) ≡ is_in (runtime_after language shelf past).page.view n
-  live_run n = some_framed (live_at (runtime_after language shelf past).instances n) ∙ ap is_some (sym (live_is (runtime_after language shelf past).instances n)) ∙ held.live n
+  pub live_run : (n : Name) → is_some (live_at (runtime_after language opening past).instances n) ≡ is_in (runtime_after language opening past).page.view n
+  live_run n = some_framed (live_at (runtime_after language opening past).instances n) ∙ ap is_some (sym (live_is (runtime_after language opening past).instances n)) ∙ held.live n
 
-  pub listed_run : (b x : Name) → Contains (stale_of (runtime_after language shelf past)) (b, x) ↔ IsStale (runtime_after language shelf past) b x
-  listed_run = listed_are (runtime_after language shelf past) (λ n h. live_run n ∙ h)
+  pub listed_run : (b x : Name) → Contains (stale_of (runtime_after language opening past)) (b, x) ↔ IsStale (runtime_after language opening past) b x
+  listed_run = listed_are (runtime_after language opening past) (λ n h. live_run n ∙ h)

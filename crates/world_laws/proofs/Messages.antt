@@ -1,4 +1,4 @@
--- Each message that a client takes leaves what holds of it; it applies a plan, or only takes modules away.
+-- Each thing that comes to a client leaves what holds of it; it applies a plan, or only takes modules away.
 use Rattle.std.proofs.Common.{◌≡◌, ◌⊎◌, inl, inr, ℕ, ◌≤◌, Bool, true, false, List, [], ◌∷◌, length, refl, ap, sym, ◌∙◌, arith}
 use Rattle.std.specs.Prelude.{map, ◌==◌, Option, Some, None, is_some, if◌then◌else◌}
 use Rattle.std.proofs.Math.Path.{subst}
@@ -19,21 +19,28 @@ use Rattle.core_model.proofs.Naming.{not_true}
 use Rattle.core_model.proofs.Tables.{at_with_row}
 use Rattle.core_laws.proofs.Looking.{at_without_all}
 use Rattle.client_model.specs.Language.{Language}
-use Rattle.client_model.specs.Runtime.{Runtime, new_runtime, Cause, nothing, and_then, for_each, write}
+use Rattle.client_model.specs.Runtime.{Runtime, Opening, new_runtime, Cause, nothing, and_then, for_each, write}
 use Rattle.client_model.specs.Linking.{next_needed, link_cause}
 use Rattle.client_model.specs.Requesting.{cause_by}
 use Rattle.client_model.specs.Applying.{apply, prune, prune_instance, live_of}
-use Rattle.client_model.specs.Answering.{accept_line, pair_of, start_update, stage, stage_in, apply_in, abort_in, write_cause, done, refused, answered}
+use Rattle.client_model.specs.Answering.{accept_line, pair_of, start_reload, start_update, stage, stage_in, apply_in, abort_in, write_cause, done, refused, answered}
 use Rattle.client_model.specs.Expecting.{is_answer}
-use Rattle.client_model.specs.Taking.{take, runtime_after}
-use Rattle.client_model.proofs.Acts.{kept_lines, kept_pruning}
+use Rattle.client_model.specs.Taking.{take}
+use Rattle.client_model.specs.Firing.{fire, hear_all}
+use Rattle.client_model.specs.Past.{Incoming, Past, met, runtime_after}
+use Rattle.client_model.specs.Past as came_is
+use Rattle.client_model.proofs.Acts.{kept_lines, kept_pruning, kept_hear}
 use Rattle.client_model.proofs.Staying.{Stays, page_kept}
 use Rattle.client_model.proofs.Needs.{IsDue, Needs, prunes_at_ask}
 use Rattle.client_model.proofs.Takes.{take_by}
+use Rattle.world_model.proofs.Fitting.{after_batch}
+use Rattle.world_laws.proofs.Firings.{fire_by}
+use Rattle.hmr_types.specs.declared.value.Value.{Value}
+use Rattle.output_lines.specs.declared.out_line.OutLine.TheVariants as line
 use Rattle.world_laws.proofs.Members.{none_in}
 use Rattle.world_laws.proofs.Frames.{Frame, frames, cut, cut_none, ended_by, live_one, live_cut, cut_numbered, cut_count, cut_length}
 use Rattle.world_laws.proofs.Births.{frames_after, applied_frames, applied_page, applied_client}
-use Rattle.world_laws.proofs.Ending.{same_lines, ends_prune}
+use Rattle.world_laws.proofs.Ending.{same_lines, same_hear, ends_prune}
 use Rattle.world_laws.proofs.Holding.{KindFits, PlanFits, Holds, HoldsOf, linked_cut, holds_after, is_ready}
 
 -- some instances ended; modules and live instances are those of before, or gone
@@ -173,7 +180,7 @@ not_loaded true f = sym (f refl)
 not_loaded false f = refl
 
 connects : (language : Language) (asked : ClientMsg) (client : ℕ) (roots : List Name) (r : Runtime) → HoldsOf r → Needs language asked r → is_answer r.page.loaded asked (msg.Connected client roots) ≡ true → r.page.loaded ≡ false
-connects language (request_is.Hello format) client roots r h n a = not_loaded r.page.loaded (λ l. sym (h.talks l) ∙ n)
+connects language (request_is.Hello format names) client roots r h n a = not_loaded r.page.loaded (λ l. sym (h.talks l) ∙ n)
 connects language request_is.Ask client roots r h n a = not_true r.page.loaded a
 connects language (request_is.Fetch m) client roots r h n a = absurd (false≢true a)
 connects language (request_is.Applied table) client roots r h n a = absurd (false≢true a)
@@ -183,7 +190,7 @@ connects language request_is.Bye client roots r h n a = absurd (false≢true a)
 
 module _ (language : Language) (r : Runtime) (h : HoldsOf r) where
   done_goes : (asked : ClientMsg) → Needs language asked r → GoesTo language r (done asked language r).0
-  done_goes (request_is.Hello format) n = unchanged language r h
+  done_goes (request_is.Hello format names) n = unchanged language r h
   done_goes request_is.Ask n = unchanged language r h
   done_goes (request_is.Fetch m) n = unchanged language r h
   done_goes (request_is.Applied table) n = apply_goes r.page.plan language r h refl n.1 n.0
@@ -192,7 +199,7 @@ module _ (language : Language) (r : Runtime) (h : HoldsOf r) where
   done_goes request_is.Bye n = unchanged language r h
 
   refused_goes : (asked : ClientMsg) → GoesTo language r (refused asked r).0
-  refused_goes (request_is.Hello format) = unchanged language r h
+  refused_goes (request_is.Hello format names) = unchanged language r h
   refused_goes request_is.Ask = unchanged language r h
   refused_goes (request_is.Fetch m) = unchanged language r h
   refused_goes (request_is.Applied table) = unchanged language r h
@@ -204,9 +211,9 @@ module _ (language : Language) (r : Runtime) (h : HoldsOf r) where
   answered_goes asked (msg.Connected client roots) n a =
       let e : r.page.loaded ≡ false = connects language asked client roots r h n a in
       begins language Load [] r client h e (λ l. absurd (false≢true (sym e ∙ l)))
-  answered_goes asked (msg.Update replaced updates) n a = update_goes language replaced (map pair_of updates) r h
+  answered_goes asked (msg.Update replaced updates batch triggered) n a = after_batch batch triggered r (start_update replaced (map pair_of updates)) (GoesTo language r) (update_goes language replaced (map pair_of updates) r h)
   answered_goes asked (msg.Prune paths) n a = let k = prunes_at_ask language asked paths r n a in prune_goes language paths r h k.0 k.1
-  answered_goes asked (msg.FullReload cause path) n a = begins language Reload [] r r.client h tt h.talks
+  answered_goes asked (msg.FullReload cause path batch triggered) n a = after_batch batch triggered r (start_reload (line.Reload r.client cause path)) (GoesTo language r) (begins language Reload [] r r.client h tt h.talks)
   answered_goes asked (msg.Error m row column word) n a = unchanged language r h
   answered_goes asked (msg.Broken m row column word) n a = unchanged language r h
   answered_goes asked msg.Idle n a = unchanged language r h
@@ -221,8 +228,26 @@ module _ (language : Language) (r : Runtime) (h : HoldsOf r) where
 pub take_goes : (language : Language) (r : Runtime) (m : ServerMsg) → HoldsOf r → GoesTo language r (take language r m).after
 take_goes language r m h = take_by language r m (λ did. GoesTo language r did.0) (unchanged language r h) (unchanged language r h) (λ asked n a. answered_goes language r h asked m n a)
 
-pub new_holds : (shelf : List (Text × ℕ)) → HoldsOf (new_runtime shelf)
-new_holds shelf = record {
+-- An event that is fired.
+
+hear_goes : (language : Language) (n : Name) (value : Value) (r : Runtime) → HoldsOf r → r.page.plan ≡ None → GoesTo language r (hear_all language n value r).0
+hear_goes language n value r h none =
+    let s : Runtime = (hear_all language n value r).0 in
+    let k : Stays r (hear_all language n value r) = kept_hear Stays page_kept language n value r in
+    goes_as language r s.client s.page s.texts (frames s.instances) r.client r.page (frames r.instances) k.client k.page (same_hear language n value r)
+    (same_page language r r.client r.page s.texts h refl refl (subst (λ q. PlanFits q r.page.loaded s.texts) (sym none) tt) h.talks)
+
+pub fire_goes : (language : Language) (r : Runtime) (n : Name) (value : Value) → HoldsOf r → GoesTo language r (fire language n value r).after
+fire_goes language r n value h = fire_by language r n value (λ did. GoesTo language r did.0) (unchanged language r h) (λ loaded none. hear_goes language n value r h none)
+
+-- Each thing that comes.
+
+pub met_goes : (language : Language) (r : Runtime) (came : Incoming) → HoldsOf r → GoesTo language r (met language came r).0
+met_goes language r (came_is.message m) h = take_goes language r m h
+met_goes language r (came_is.event n value) h = fire_goes language r n value h
+
+pub new_holds : (opening : Opening) → HoldsOf (new_runtime opening)
+new_holds opening = record {
   numbered = tt;
   one = λ n. omega arith;
   live = λ n. refl;
@@ -232,7 +257,7 @@ new_holds shelf = record {
   talks = λ e. absurd (false≢true e);
 }
 
--- every list of messages keeps it
-pub run_holds : (language : Language) (shelf : List (Text × ℕ)) (past : List ServerMsg) → HoldsOf (runtime_after language shelf past)
-run_holds language shelf [] = new_holds shelf
-run_holds language shelf (m ∷ past) = (take_goes language (runtime_after language shelf past) m (run_holds language shelf past)).holds
+-- every past keeps it
+pub run_holds : (language : Language) (opening : Opening) (past : Past) → HoldsOf (runtime_after language opening past)
+run_holds language opening [] = new_holds opening
+run_holds language opening (came ∷ past) = (met_goes language (runtime_after language opening past) came (run_holds language opening past)).holds

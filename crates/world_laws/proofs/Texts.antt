@@ -27,14 +27,19 @@ use Rattle.client_model.specs.Applying.{prune_instance, live_of}
 use Rattle.client_model.specs.Answering.{stage, stage_in, apply_in, abort_in, write_cause, done, refused, answered}
 use Rattle.client_model.specs.Expecting.{is_answer}
 use Rattle.client_model.specs.Taking.{take}
-use Rattle.client_model.proofs.Acts.{kept_pruning}
+use Rattle.client_model.specs.Firing.{fire, hear_all}
+use Rattle.client_model.specs.Past.{Incoming, met}
+use Rattle.client_model.specs.Past as came_is
+use Rattle.hmr_types.specs.declared.value.Value.{Value}
+use Rattle.world_laws.proofs.Firings.{fire_by}
+use Rattle.client_model.proofs.Acts.{kept_pruning, kept_hear}
 use Rattle.client_model.proofs.Staying.{Stays, page_kept}
 use Rattle.client_model.proofs.Needs.{Needs, prunes_at_ask}
 use Rattle.client_model.proofs.Takes.{take_by}
 use Rattle.world_laws.proofs.Frames.{Frame, frames, live_one}
 use Rattle.world_laws.proofs.Births.{new_frame, version_of}
 use Rattle.world_laws.proofs.Holding.{HoldsOf, ends_kind, one_after, entry_after}
-use Rattle.world_laws.proofs.Messages.{Quiet, Applies, GoesTo, take_goes}
+use Rattle.world_laws.proofs.Messages.{Quiet, Applies, GoesTo, take_goes, fire_goes}
 
 -- how a version's text fits its analysis
 abbrev pub Fit : Type 1
@@ -104,7 +109,7 @@ module _ (language : Language) (P : Name → Fit) where
       by (Some cause) = tt
 
   done_texts : (asked : ClientMsg) (r : Runtime) → Texts r → Texts (done asked language r).0
-  done_texts (request_is.Hello format) r old = old
+  done_texts (request_is.Hello format names) r old = old
   done_texts request_is.Ask r old = old
   done_texts (request_is.Fetch m) r old = old
   done_texts (request_is.Applied table) r old = apply_texts r.page.plan r old
@@ -113,7 +118,7 @@ module _ (language : Language) (P : Name → Fit) where
   done_texts request_is.Bye r old = old
 
   refused_texts : (asked : ClientMsg) (r : Runtime) → Texts r → Texts (refused asked r).0
-  refused_texts (request_is.Hello format) r old = old
+  refused_texts (request_is.Hello format names) r old = old
   refused_texts request_is.Ask r old = old
   refused_texts (request_is.Fetch m) r old = old
   refused_texts (request_is.Applied table) r old = old
@@ -128,9 +133,9 @@ module _ (language : Language) (P : Name → Fit) where
 
   answered_texts : (asked : ClientMsg) (m : ServerMsg) (r : Runtime) → Needs language asked r → is_answer r.page.loaded asked m ≡ true → MessageFits language P m → Texts r → Texts (answered language asked m r).0
   answered_texts asked (msg.Connected client roots) r n a fit old = λ m. tt
-  answered_texts asked (msg.Update replaced updates) r n a fit old = λ m. tt
+  answered_texts asked (msg.Update replaced updates batch triggered) r n a fit old = λ m. tt
   answered_texts asked (msg.Prune paths) r n a fit old = prune_texts paths r (prunes_at_ask language asked paths r n a).0
-  answered_texts asked (msg.FullReload cause path) r n a fit old = λ m. tt
+  answered_texts asked (msg.FullReload cause path batch triggered) r n a fit old = λ m. tt
   answered_texts asked (msg.Error m row column word) r n a fit old = old
   answered_texts asked (msg.Broken m row column word) r n a fit old = old
   answered_texts asked msg.Idle r n a fit old = old
@@ -142,6 +147,17 @@ module _ (language : Language) (P : Name → Fit) where
 
   take_texts : (r : Runtime) (m : ServerMsg) → MessageFits language P m → Texts r → Texts (take language r m).after
   take_texts r m fit old = take_by language r m (λ did. Texts did.0) old old (λ asked n a. answered_texts asked m r n a fit old)
+
+  fire_texts : (r : Runtime) (n : Name) (value : Value) → Texts r → Texts (fire language n value r).after
+  fire_texts r n value old = fire_by language r n value (λ did. Texts did.0) old
+      (λ loaded none.
+      let k : Stays r (hear_all language n value r) = kept_hear Stays page_kept language n value r in
+      subst (λ q. PlanTexts P q (hear_all language n value r).0.texts) (sym (ap (λ (page : Page). page.plan) k.page ∙ none)) tt)
+
+-- each text that comes fits
+abbrev pub IncomingFits : Language → (Name → Fit) → Incoming → Type 0
+IncomingFits language P (came_is.message m) = MessageFits language P m
+IncomingFits language P (came_is.event n value) = ⊤
 
 -- What is live.
 
@@ -184,12 +200,19 @@ module _ (language : Language) (P : Name → Fit) (r : Runtime) (old : HoldsOf r
       (fits_now (P n) p.kind (has (met_of r.roots p r.page.view) n) (has p.replaced n) (at r.page.view n) (at p.staged n) (at r.texts n) (live_one (frames r.instances) n) (new_frame p r n) refl refl refl
       (subst (λ q. PlanTexts P q r.texts) a.plan_is h.planned n) (h.live n)))
 
-  -- a message keeps it
+  -- what comes keeps it
+  goes_fit : (s : Runtime) → GoesTo language r s → PlanTexts P s.page.plan s.texts → FitsIn P s
+  goes_fit s g texts = record { planned = texts; live = live_fits s.page (frames s.instances) g.moves }
+
   pub take_fits : (m : ServerMsg) → MessageFits language P m → FitsIn P (take language r m).after
-  take_fits m fit =
-      let s : Runtime = (take language r m).after in
-      let g : GoesTo language r s = take_goes language r m old in
-      record { planned = take_texts language P r m fit h.planned; live = live_fits s.page (frames s.instances) g.moves }
+  take_fits m fit = goes_fit (take language r m).after (take_goes language r m old) (take_texts language P r m fit h.planned)
+
+  pub fire_fits : (n : Name) (value : Value) → FitsIn P (fire language n value r).after
+  fire_fits n value = goes_fit (fire language n value r).after (fire_goes language r n value old) (fire_texts language P r n value h.planned)
+
+  pub met_fits : (came : Incoming) → IncomingFits language P came → FitsIn P (met language came r).0
+  met_fits (came_is.message m) fit = take_fits m fit
+  met_fits (came_is.event n value) fit = fire_fits n value
 
 -- what fits in one way fits in a weaker one
 pub fits_too : (P R : Name → Fit) → ((n : Name) (v : ℕ) (t : Text) (a : Analysis) → P n v t a → R n v t a) → (r : Runtime) → FitsIn P r → FitsIn R r

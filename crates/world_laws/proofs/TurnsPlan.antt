@@ -20,7 +20,7 @@ use Rattle.core_model.specs.View.{View, Entry, imports_of, imports, differs, cha
 use Rattle.core_model.specs.Page.{Page, Plan, kept_or_staged, entry_at, plan_imports, met_of, new_entry, new_view}
 use Rattle.core_model.specs.Client.{Client}
 use Rattle.core_model.specs.Requests.{FetchRow, text, row_verdict, row_source, row_served, fetched, fetch_reply, AppliedRow, unfetched, mismatch, done, applied_row, after_applied, applied_reply}
-use Rattle.core_model.specs.Exchange.{message_of}
+use Rattle.core_model.specs.Exchange.{message_for}
 use Rattle.core_model.proofs.Naming.{true_same, or_cases, has_append, filtered_from, and_both}
 use Rattle.core_model.proofs.Tables.{named, at_with_row}
 use Rattle.core_model.proofs.Reaching.{reaches_within, reaches_on, reaches_start}
@@ -34,13 +34,12 @@ use Rattle.client_model.specs.Runtime.{Runtime, Cause, Invalidation}
 use Rattle.client_model.specs.Linking.{next_needed, link_cause}
 use Rattle.client_model.specs.Requesting.{abort_message, apply_or_abort, fetch_or_finish, carry_on, cause_by}
 use Rattle.client_model.specs.Answering.{stage}
-use Rattle.client_model.specs.Expecting.{is_answer}
 use Rattle.world_model.specs.CaughtUp.{is_empty, wants_nothing, unstaged, plan_turns, debt_between, debt_within, debt}
 use Rattle.world_model.specs.Ties.{IsServedRight, AreServedRight}
 use Rattle.world_model.proofs.Fitting.{write_same}
 use Rattle.world_laws.specs.Quiet.{IsBusy, HasResult, IsSettled}
 use Rattle.world_laws.proofs.TurnsServed.{plan_served, needed_is, cause_counts, none_to_link}
-use Rattle.world_laws.proofs.TurnsTaken.{heard_by, done_by}
+use Rattle.world_laws.proofs.TurnsTaken.{heard_by, done_by, is_answered}
 use Rattle.world_laws.proofs.TurnsCounted.{less, all_from, at_most_one, at_most_all, if_true, if_false, no_length}
 
 -- A fetch.
@@ -102,34 +101,34 @@ module _ (roots : List Name) (p : Plan) (view : View) (served : Served) (is : Pl
       in_changed n (inl h) = changed_dropped n h (has (dropped_of (new_view roots p view) roots) n) refl
       in_changed n (inr h) = absurd (false≢true h)
 
-module _ (language : Language) (s : Sources) (right : AreServedRight language s.served) (i : ℕ) (roots : List Name) (settled : IsSettled language roots s) (loaded : Bool) (view : View) (forced : List Name) (texts : List (Name × Text)) (pairs : List (Name × Name)) (instances : List Instance) (bags : List (Name × Bag)) (shelf : List (Text × ℕ)) (stopped : Bool) (plan_at : ℕ) (held_at : Option ℕ) (notices : List (Name × TextFault)) where
+module _ (language : Language) (s : Sources) (right : AreServedRight language s.served) (format : ℕ) (named : List Name) (i : ℕ) (roots : List Name) (batches : ℕ) (settled : IsSettled language roots s) (loaded : Bool) (view : View) (forced : List Name) (texts : List (Name × Text)) (pairs : List (Name × Name)) (instances : List Instance) (bags : List (Name × Bag)) (shelf : List (Text × ℕ)) (stopped : Bool) (plan_at : ℕ) (held_at : Option ℕ) (notices : List (Name × TextFault)) where
   abbrev page : Option Plan → Page
   page plan = record { loaded = loaded; view = view; forced = forced; plan = plan }
 
   abbrev rt : Plan → Option Cause → List Invalidation → Runtime
-  rt p cause unsent = record { client = i; roots = roots; page = page (Some p); texts = texts; pairs = pairs; cause = cause; instances = instances; bags = bags; unsent = unsent; shelf = shelf; stopped = stopped }
+  rt p cause unsent = record { format = format; named = named; client = i; roots = roots; page = page (Some p); texts = texts; pairs = pairs; cause = cause; instances = instances; bags = bags; unsent = unsent; shelf = shelf; stopped = stopped }
 
   abbrev cl : Plan → Client
-  cl p = record { page = page (Some p); plan_at = plan_at; held_at = held_at; notices = notices }
+  cl p = record { roots = roots; batches = batches; page = page (Some p); plan_at = plan_at; held_at = held_at; notices = notices }
 
   -- the debt once this is told and answered
   abbrev Lower : Plan → Option Cause → List Invalidation → ClientMsg → Type 0
-  Lower p cause unsent asked = debt roots s (heard_by asked roots i s (cl p)).0 (done_by language asked (heard_by asked roots i s (cl p)).1 (rt p cause unsent)) < debt_within p s (cl p) (rt p cause unsent)
+  Lower p cause unsent asked = debt s (heard_by asked i s (cl p)).0 (done_by language asked (heard_by asked i s (cl p)).1 (rt p cause unsent)) < debt_within p s (cl p) (rt p cause unsent)
 
   abbrev Answers : Plan → Option Cause → List Invalidation → ClientMsg → Type 0
-  Answers p cause unsent asked = is_answer loaded asked (message_of (heard_by asked roots i s (cl p)).1) ≡ true
+  Answers p cause unsent asked = is_answered loaded asked (message_for format (heard_by asked i s (cl p)).1) ≡ true
 
   abbrev Calm : Plan → Option Cause → List Invalidation → ClientMsg → Type 0
-  Calm p cause unsent asked = length (done_by language asked (heard_by asked roots i s (cl p)).1 (rt p cause unsent)).unsent ≤ length unsent
+  Calm p cause unsent asked = length (done_by language asked (heard_by asked i s (cl p)).1 (rt p cause unsent)).unsent ≤ length unsent
 
   abbrev Current : Plan → Type 0
   Current p = plan_at ≡ s.served_no → PlanIsServed (Some p) view s.served
 
   abbrev FetchLess : Plan → List Invalidation → Name → FetchRow → Type 0
-  FetchLess p unsent n row = debt roots s (fetched row p n (cl p)) (done_by language (told.Fetch n) (fetch_reply row n) (rt p None unsent)) < debt_within p s (cl p) (rt p None unsent)
+  FetchLess p unsent n row = debt s (fetched row p n (cl p)) (done_by language (told.Fetch n) (fetch_reply row n) (rt p None unsent)) < debt_within p s (cl p) (rt p None unsent)
 
-  text_less : (p : Plan) (unsent : List Invalidation) (n : Name) (v : Serving) (outcome : Outcome) → outcome ≡ Good v.analysis → at s.served n ≡ Some v → at p.staged n ≡ None → debt roots s (fetched (text v) p n (cl p)) (stage outcome p n v.version v.text (rt p None unsent)).0 < debt_within p s (cl p) (rt p None unsent)
-  text_less p unsent n v outcome g e none = subst (λ k. debt roots s (fetched (text v) p n (cl p)) (stage k p n v.version v.text (rt p None unsent)).0 < debt_within p s (cl p) (rt p None unsent)) (sym g)
+  text_less : (p : Plan) (unsent : List Invalidation) (n : Name) (v : Serving) (outcome : Outcome) → outcome ≡ Good v.analysis → at s.served n ≡ Some v → at p.staged n ≡ None → debt s (fetched (text v) p n (cl p)) (stage outcome p n v.version v.text (rt p None unsent)).0 < debt_within p s (cl p) (rt p None unsent)
+  text_less p unsent n v outcome g e none = subst (λ k. debt s (fetched (text v) p n (cl p)) (stage k p n v.version v.text (rt p None unsent)).0 < debt_within p s (cl p) (rt p None unsent)) (sym g)
       (omega (arith, staging s.served p.staged n (record { version = v.version; analysis = v.analysis }) v e none))
 
   verdict_less : (p : Plan) (unsent : List Invalidation) (n : Name) (verdict : Verdict) → HasResult (Some (record { version = 0; text = []; verdict = verdict })) → FetchLess p unsent n (row_verdict verdict)
@@ -150,34 +149,34 @@ module _ (language : Language) (s : Sources) (right : AreServedRight language s.
 
   -- the plan is applied
   done_less : (p : Plan) (unsent : List Invalidation) (table : List (Name × ℕ)) (b : Bool) → (plan_at == s.served_no) ≡ b → Current p → length (done_by language (told.Applied table) (applied_reply done) (rt p None unsent)).unsent ≤ 0
-      → debt roots s (after_applied done roots p (cl p)) (done_by language (told.Applied table) (applied_reply done) (rt p None unsent)) < debt_within p s (cl p) (rt p None unsent)
+      → debt s (after_applied done p (cl p)) (done_by language (told.Applied table) (applied_reply done) (rt p None unsent)) < debt_within p s (cl p) (rt p None unsent)
   done_less p unsent table false e current calm =
       let d : (if is_empty (dropped_of (new_view roots p view) roots) then 0 else 1) ≤ 1 = at_most_one (is_empty (dropped_of (new_view roots p view) roots)) in
-      let rest : (if true && is_empty (done_by language (told.Applied table) (applied_reply done) (rt p None unsent)).unsent && wants_nothing roots s (after_applied done roots p (cl p)) then 0 else plan_turns s) ≤ plan_turns s
-      = at_most_all (true && is_empty (done_by language (told.Applied table) (applied_reply done) (rt p None unsent)).unsent && wants_nothing roots s (after_applied done roots p (cl p))) (plan_turns s) in
+      let rest : (if true && is_empty (done_by language (told.Applied table) (applied_reply done) (rt p None unsent)).unsent && wants_nothing s (after_applied done p (cl p)) then 0 else plan_turns s) ≤ plan_turns s
+      = at_most_all (true && is_empty (done_by language (told.Applied table) (applied_reply done) (rt p None unsent)).unsent && wants_nothing s (after_applied done p (cl p))) (plan_turns s) in
       let before : ◌≡◌ {A = ℕ} (if plan_at == s.served_no then 0 else plan_turns s) (plan_turns s) = if_false (plan_at == s.served_no) 0 (plan_turns s) e in
       omega (arith, calm, d, rest, before)
   done_less p unsent table true e current calm =
       let d : (if is_empty (dropped_of (new_view roots p view) roots) then 0 else 1) ≤ 1 = at_most_one (is_empty (dropped_of (new_view roots p view) roots)) in
-      let rest : ◌≡◌ {A = ℕ} (if true && is_empty (done_by language (told.Applied table) (applied_reply done) (rt p None unsent)).unsent && wants_nothing roots s (after_applied done roots p (cl p)) then 0 else plan_turns s) 0
-      = if_true (true && is_empty (done_by language (told.Applied table) (applied_reply done) (rt p None unsent)).unsent && wants_nothing roots s (after_applied done roots p (cl p))) 0 (plan_turns s)
-      (and_both (is_empty (done_by language (told.Applied table) (applied_reply done) (rt p None unsent)).unsent) (wants_nothing roots s (after_applied done roots p (cl p))) (no_length _ calm) (nothing_wanted roots p view s.served (current (eqb-true plan_at s.served_no e)))) in
+      let rest : ◌≡◌ {A = ℕ} (if true && is_empty (done_by language (told.Applied table) (applied_reply done) (rt p None unsent)).unsent && wants_nothing s (after_applied done p (cl p)) then 0 else plan_turns s) 0
+      = if_true (true && is_empty (done_by language (told.Applied table) (applied_reply done) (rt p None unsent)).unsent && wants_nothing s (after_applied done p (cl p))) 0 (plan_turns s)
+      (and_both (is_empty (done_by language (told.Applied table) (applied_reply done) (rt p None unsent)).unsent) (wants_nothing s (after_applied done p (cl p))) (no_length _ calm) (nothing_wanted roots p view s.served (current (eqb-true plan_at s.served_no e)))) in
       omega (arith, calm, d, rest)
 
-  applied_less : (p : Plan) (unsent : List Invalidation) (table : List (Name × ℕ)) (row : AppliedRow) → unsent ≡ [] → Current p → is_answer loaded (told.Applied table) (message_of (applied_reply row)) ≡ true → length (done_by language (told.Applied table) (applied_reply row) (rt p None unsent)).unsent ≤ length unsent
-      → debt roots s (after_applied row roots p (cl p)) (done_by language (told.Applied table) (applied_reply row) (rt p None unsent)) < debt_within p s (cl p) (rt p None unsent)
+  applied_less : (p : Plan) (unsent : List Invalidation) (table : List (Name × ℕ)) (row : AppliedRow) → unsent ≡ [] → Current p → is_answered loaded (told.Applied table) (message_for format (applied_reply row)) ≡ true → length (done_by language (told.Applied table) (applied_reply row) (rt p None unsent)).unsent ≤ length unsent
+      → debt s (after_applied row p (cl p)) (done_by language (told.Applied table) (applied_reply row) (rt p None unsent)) < debt_within p s (cl p) (rt p None unsent)
   applied_less p unsent table (unfetched n) sent current answers calm = absurd (false≢true answers)
   applied_less p unsent table (mismatch n a b) sent current answers calm = absurd (false≢true answers)
   applied_less p unsent table done sent current answers calm = done_less p unsent table (plan_at == s.served_no) refl current (omega (arith, calm, ap length sent))
 
   -- the plan is given up
   given_up_less : (p : Plan) (found : Option Cause) (unsent left : List Invalidation) (b : Bool) → (plan_at == s.served_no) ≡ b → (plan_at ≡ s.served_no → ⊥) → left ≡ unsent → unsent ≡ []
-      → debt_between roots s (record (cl p) { page = page None; held_at = Some plan_at }) (record (rt p found unsent) { unsent = left; cause = None }) < debt_within p s (cl p) (rt p found unsent)
+      → debt_between s (record (cl p) { page = page None; held_at = Some plan_at }) (record (rt p found unsent) { unsent = left; cause = None }) < debt_within p s (cl p) (rt p found unsent)
   given_up_less p found unsent left true e h same sent = absurd (h (eqb-true plan_at s.served_no e))
   given_up_less p found unsent left false e h same sent =
       let d : (if is_empty (dropped_of view roots) then 0 else 1) ≤ 1 = at_most_one (is_empty (dropped_of view roots)) in
-      let rest : (if loaded && is_empty left && wants_nothing roots s (record (cl p) { page = page None; held_at = Some plan_at }) then 0 else plan_turns s) ≤ plan_turns s
-      = at_most_all (loaded && is_empty left && wants_nothing roots s (record (cl p) { page = page None; held_at = Some plan_at })) (plan_turns s) in
+      let rest : (if loaded && is_empty left && wants_nothing s (record (cl p) { page = page None; held_at = Some plan_at }) then 0 else plan_turns s) ≤ plan_turns s
+      = at_most_all (loaded && is_empty left && wants_nothing s (record (cl p) { page = page None; held_at = Some plan_at })) (plan_turns s) in
       let before : ◌≡◌ {A = ℕ} (if plan_at == s.served_no then 0 else plan_turns s) (plan_turns s) = if_false (plan_at == s.served_no) 0 (plan_turns s) e in
       let found_part : 1 ≤ (if is_some found then 1 else 2 + length (unstaged s.served p.staged)) = at_least_one (is_some found) in
       omega (arith, d, rest, before, found_part, ap length (same ∙ sent))
@@ -191,18 +190,18 @@ module _ (language : Language) (s : Sources) (right : AreServedRight language s.
   abort_less p found (causes.broken n) unsent h sent = given_up_less p found unsent _ (plan_at == s.served_no) refl h (ap (λ (r : Runtime). r.unsent) (write_same (cause_by found language p (rt p found unsent)) (rt p found unsent))) sent
   abort_less p found (causes.unlinked n m x) unsent h sent = given_up_less p found unsent _ (plan_at == s.served_no) refl h (ap (λ (r : Runtime). r.unsent) (write_same (cause_by found language p (rt p found unsent)) (rt p found unsent))) sent
 
-  by_link : (p : Plan) (unsent : List Invalidation) → BindsImports language → Current p → next_needed p (rt p None []) ≡ None → (found : Option Cause) → link_cause language p (rt p None unsent) ≡ found → IsBusy roots s (cl p) (rt p None unsent)
+  by_link : (p : Plan) (unsent : List Invalidation) → BindsImports language → Current p → next_needed p (rt p None []) ≡ None → (found : Option Cause) → link_cause language p (rt p None unsent) ≡ found → IsBusy s (cl p) (rt p None unsent)
       → Answers p None unsent (apply_or_abort found p (rt p None unsent)) → Calm p None unsent (apply_or_abort found p (rt p None unsent)) → Lower p None unsent (apply_or_abort found p (rt p None unsent))
   by_link p unsent binds current needed None e h answers calm = applied_less p unsent (table_of (new_view roots p view)) (applied_row roots p view (table_of (new_view roots p view))) h.sent current answers calm
   by_link p unsent binds current needed (Some k) e h answers calm = abort_less p None k unsent (λ now. false≢true (ap is_some (sym (none_to_link language s p (rt p None unsent) right binds settled.whole (current now) (h.current now).texts needed) ∙ e))) h.sent
 
-  by_needed : (p : Plan) (unsent : List Invalidation) → BindsImports language → Current p → (o : Option Name) → next_needed p (rt p None []) ≡ o → IsBusy roots s (cl p) (rt p None unsent)
+  by_needed : (p : Plan) (unsent : List Invalidation) → BindsImports language → Current p → (o : Option Name) → next_needed p (rt p None []) ≡ o → IsBusy s (cl p) (rt p None unsent)
       → Answers p None unsent (fetch_or_finish o (link_cause language p (rt p None unsent)) p (rt p None unsent)) → Calm p None unsent (fetch_or_finish o (link_cause language p (rt p None unsent)) p (rt p None unsent)) → Lower p None unsent (fetch_or_finish o (link_cause language p (rt p None unsent)) p (rt p None unsent))
   by_needed p unsent binds current (Some n) e h answers calm = fetch_less p unsent n e
   by_needed p unsent binds current None e h answers calm = by_link p unsent binds current e (link_cause language p (rt p None unsent)) refl h answers calm
 
   -- a turn with a plan under way
-  pub plan_less : (p : Plan) (cause : Option Cause) (unsent : List Invalidation) → BindsImports language → Current p → IsBusy roots s (cl p) (rt p cause unsent)
+  pub plan_less : (p : Plan) (cause : Option Cause) (unsent : List Invalidation) → BindsImports language → Current p → IsBusy s (cl p) (rt p cause unsent)
       → Answers p cause unsent (carry_on cause language p (rt p cause unsent)) → Calm p cause unsent (carry_on cause language p (rt p cause unsent)) → Lower p cause unsent (carry_on cause language p (rt p cause unsent))
   plan_less p None unsent binds current h answers calm = by_needed p unsent binds current (next_needed p (rt p None [])) refl h answers calm
   plan_less p (Some k) unsent binds current h answers calm = abort_less p (Some k) k unsent (λ now. cause_counts language roots s k (h.current now).cause settled.whole) h.sent

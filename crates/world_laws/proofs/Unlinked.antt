@@ -4,7 +4,6 @@ use Rattle.std.proofs.Common.{◌≡◌, ℕ, true, false, List, refl, ap, sym, 
 use Rattle.std.specs.Prelude.{filter, not, ◌&&◌, Option, Some, None, is_some, option_map, IfSome, if◌then◌else◌}
 use Rattle.std.proofs.Math.Path.{subst}
 use Rattle.std.proofs.lemmas.Bool.{false≢true}
-use Rattle.update_msgs.specs.declared.message.ServerMsg.{ServerMsg}
 use Rattle.core_model.specs.Names.{Name, same_name, has, at, sorted}
 use Rattle.core_model.specs.Sources.{Text, Serving}
 use Rattle.core_model.specs.FreshLoad as fresh
@@ -26,14 +25,13 @@ use Rattle.client_model.specs.Runtime.{Runtime}
 use Rattle.client_model.specs.Stale.{live_number, link_in, link_of, IsStale}
 use Rattle.world_model.specs.World.{World, Step}
 use Rattle.world_model.specs.Steps.{world_after}
-use Rattle.world_model.specs.Turning.{shelf_of}
 use Rattle.world_model.specs.Ties.{TiedAt, WentOn}
 use Rattle.world_model.proofs.Tying.{run_sound}
 use Rattle.world_laws.specs.Changes.{changes_in}
 use Rattle.world_laws.specs.Fresh.{IsUnlinkedStale, AreUnlinkedStale}
 use Rattle.world_laws.specs.Instances.{IsExporting, AreExported}
 use Rattle.world_laws.specs.Stops.{IsMadeBy}
-use Rattle.world_laws.specs.Taken.{messages_of}
+use Rattle.world_laws.specs.Taken.{Life, life_of}
 use Rattle.world_laws.specs.Versions.{IsOfPage, AreOfPage, IsServedSame, AreServedSame}
 use Rattle.world_laws.proofs.Members.{none_in, map_in, MadeOf, map_from, filter_from, ComesOf, flat_from}
 use Rattle.world_laws.proofs.Frames.{Frame, frame, frames, found_in}
@@ -162,17 +160,18 @@ module _ (language : Language) (roots : List Name) (served : Served) (by : Name 
 
 -- Each client.
 
-unlinked_by : (language : Language) (roots : List Name) (w : World) (by : Name → ℕ → Option Text) (shelf : List (Text × ℕ)) (past : List ServerMsg) (i : ℕ) (c : Option Client) (r : Option Runtime) → IfSome c (λ c. IsUpToDate roots w.core.sources c → IsFreshLoad roots w.core.sources c) → TiedAt roots i c r
-    → IsMadeBy language shelf past r → AreOfPage language by r → AreServedSame w.core.sources.served r → IsUnlinkedStale language roots w c r
-unlinked_by language roots w by shelf past i c None f t made of_page same = tt
-unlinked_by language roots w by shelf past i None (Some r) f t made of_page same = tt
-unlinked_by language roots w by shelf past i (Some c) (Some r) f t made of_page same = λ up n m x unlinked.
-    let loaded : IsFreshLoad roots w.core.sources c = f (record { loaded = up.loaded; unchanged = up.unchanged; whole = up.whole }) in
-    stale_at language roots w.core.sources.served by r (subst HoldsOf (sym made) (run_holds language shelf past)) (subst (λ (q : Runtime). AreExported language q.instances) (sym made) (exported_run language shelf past)) of_page same
-    (λ k. ap (λ (page : Page). at page.view k) t.page ∙ loaded.entries k) n m x (unlinked_from language roots w.core.sources.served (n, m, x) unlinked)
+unlinked_by : (language : Language) (w : World) (by : Name → ℕ → Option Text) (life : Life) (i : ℕ) (c : Option Client) (r : Option Runtime) → IfSome c (λ c. IsUpToDate w.core.sources c → IsFreshLoad w.core.sources c) → TiedAt i c r
+    → IsMadeBy language life.opening life.past r → AreOfPage language by r → AreServedSame w.core.sources.served r → IsUnlinkedStale language w c r
+unlinked_by language w by life i c None f t made of_page same = tt
+unlinked_by language w by life i None (Some r) f t made of_page same = tt
+unlinked_by language w by life i (Some c) (Some r) f t made of_page same = λ up n m x unlinked.
+    let loaded : IsFreshLoad w.core.sources c = f (record { loaded = up.loaded; unchanged = up.unchanged; whole = up.whole }) in
+    let served : Served = w.core.sources.served in
+    stale_at language r.roots served by r (subst HoldsOf (sym made) (run_holds language life.opening life.past)) (subst (λ (q : Runtime). AreExported language q.instances) (sym made) (exported_run language life.opening life.past)) of_page same
+    (λ k. ap (λ (page : Page). at page.view k) t.page ∙ loaded.entries k ∙ ap (λ roots. if has (reached_by served roots) k then entry_of (at served k) else None) (sym t.roots_are)) n m x (unlinked_from language r.roots served (n, m, x) unlinked)
 
-pub unlinked_run : (language : Language) (roots : List Name) (shelves : List (List (Text × ℕ))) (past : List Step) → WentOn language roots shelves past → AreUnlinkedStale language roots (world_after language roots shelves past)
+pub unlinked_run : (language : Language) (roots : List Name) (shelves : List (List (Text × ℕ))) (past : List Step) → WentOn language roots shelves past → AreUnlinkedStale language (world_after language roots shelves past)
 unlinked_run language roots shelves past went i =
     let w : World = world_after language roots shelves past in
-    unlinked_by language roots w (written (changes_in language roots shelves past)) (shelf_of shelves i) (messages_of language roots shelves past i) i (client_at w.core.clients i) (client_at w.clients i)
+    unlinked_by language w (written (changes_in language roots shelves past)) (life_of language roots shelves past i) i (client_at w.core.clients i) (client_at w.clients i)
     (fresh_in roots w.core i (core_made language roots shelves past)) ((run_sound language roots shelves past went).tied i) (made_run language roots shelves past i went) (of_page_run language roots shelves past i) (served_same_run language roots shelves past i went)

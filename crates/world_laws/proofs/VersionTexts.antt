@@ -18,7 +18,7 @@ use Rattle.core_laws.proofs.Writing.{written_stays}
 use Rattle.client_model.specs.Language.{Language}
 use Rattle.client_model.specs.Instance.{Instance}
 use Rattle.client_model.specs.Runtime.{Runtime}
-use Rattle.world_model.specs.World.{Job, World, Step, edits, settles, opens, turn, closes, show, values, fates, fresh}
+use Rattle.world_model.specs.World.{Job, World, Step, edits, settles, opens, turn, closes, show, values, fates, fresh, fresh_of, fires}
 use Rattle.world_model.specs.Editing.{is_job}
 use Rattle.world_model.specs.Steps.{world_after}
 use Rattle.world_model.specs.Ties.{IsServedRight, WentOn}
@@ -46,13 +46,15 @@ result_more language m w (Some j) past n v t h = h
 change_more : (language : Language) (w : World) (s : Step) (past : List Change) (n : Name) (v : ℕ) (t : Text) → written past n v ≡ Some t → written (change_too language w s past) n v ≡ Some t
 change_more language w (edits m x) past n v t h = written_stays past (edit m x) n v t h
 change_more language w (settles m k) past n v t h = result_more language m k (find (is_job m k) w.issued) past n v t h
-change_more language w opens past n v t h = h
+change_more language w (opens format names) past n v t h = h
 change_more language w (turn i) past n v t h = h
 change_more language w (closes i) past n v t h = h
 change_more language w (show i) past n v t h = h
 change_more language w (values i) past n v t h = h
 change_more language w (fates i) past n v t h = h
 change_more language w fresh past n v t h = h
+change_more language w (fresh_of i) past n v t h = h
+change_more language w (fires i m value) past n v t h = h
 
 served_fits : (language : Language) (by : Name → ℕ → Option Text) (n : Name) (o : Option Serving) → IsServedWritten (by n) o → ServedFits language (OfVersion language by) n o
 served_fits language by n None h = tt

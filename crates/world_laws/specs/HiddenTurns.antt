@@ -29,4 +29,4 @@ hiding = page_of (
 abbrev pub hidden : List Step
 hidden =
     turn 1 ∷ turn 1 ∷ turn 1 ∷ settles c 3 ∷ edits c (Some hidden_text) ∷
-    turn 1 ∷ turn 1 ∷ turn 1 ∷ opens ∷ settles c 2 ∷ settles m 1 ∷ edits c (Some shown_text) ∷ edits m (Some main_text) ∷ []
+    turn 1 ∷ turn 1 ∷ turn 1 ∷ opens 1 [] ∷ settles c 2 ∷ settles m 1 ∷ edits c (Some shown_text) ∷ edits m (Some main_text) ∷ []

@@ -43,29 +43,29 @@ pub record IsCurrent (roots : List Name) (served : Served) (r : Runtime) : Type 
   pub texts : (n : Name) → IsServedText (at r.texts n) (at served n)
 
 -- no plan is under way: no cause stands, and a held client waits for a fresh load that isn't whole
-pub record IsIdle (language : Language) (roots : List Name) (s : Sources) (c : Client) (r : Runtime) : Type 0 where
+pub record IsIdle (language : Language) (s : Sources) (c : Client) (r : Runtime) : Type 0 where
   pub causeless : r.cause ≡ None
-  pub held : BindsImports language → is_held s c ≡ true → IsServedWhole language roots s → ⊥
+  pub held : BindsImports language → is_held s c ≡ true → IsServedWhole language c.roots s → ⊥
 
 -- a plan is under way: no invalidation is unsent
-pub record IsBusy (roots : List Name) (s : Sources) (c : Client) (r : Runtime) : Type 0 where
+pub record IsBusy (s : Sources) (c : Client) (r : Runtime) : Type 0 where
   pub sent : r.unsent ≡ []
-  pub current : c.plan_at ≡ s.served_no → IsCurrent roots s.served r
+  pub current : c.plan_at ≡ s.served_no → IsCurrent c.roots s.served r
 
 -- by the plan under way, if there is one
-abbrev pub EndsBy : Option Plan → Language → List Name → Sources → Client → Runtime → Type 0
-EndsBy None language roots s c r = IsIdle language roots s c r
-EndsBy (Some p) language roots s c r = IsBusy roots s c r
+abbrev pub EndsBy : Option Plan → Language → Sources → Client → Runtime → Type 0
+EndsBy None language s c r = IsIdle language s c r
+EndsBy (Some p) language s c r = IsBusy s c r
 
 -- the same of each client that has a record and is open
-abbrev pub EndsAt : Language → List Name → Sources → Option Client → Option Runtime → Type 0
-EndsAt language roots s None r = ⊤
-EndsAt language roots s (Some c) None = ⊤
-EndsAt language roots s (Some c) (Some r) = EndsBy c.page.plan language roots s c r
+abbrev pub EndsAt : Language → Sources → Option Client → Option Runtime → Type 0
+EndsAt language s None r = ⊤
+EndsAt language s (Some c) None = ⊤
+EndsAt language s (Some c) (Some r) = EndsBy c.page.plan language s c r
 
 -- of every client
-abbrev pub Ends : Language → List Name → World → Type 0
-Ends language roots w = (i : ℕ) → EndsAt language roots w.core.sources (client_at w.core.clients i) (client_at w.clients i)
+abbrev pub Ends : Language → World → Type 0
+Ends language w = (i : ℕ) → EndsAt language w.core.sources (client_at w.core.clients i) (client_at w.clients i)
 
 -- client i is connected and open, with this record and this runtime
 pub record IsOpen (w : World) (i : ℕ) (c : Client) (r : Runtime) : Type 0 where
@@ -94,18 +94,18 @@ unsent_of None = 0
 unsent_of (Some r) = length r.unsent
 
 -- client i is connected and open, and its debt is below k
-pub record OwesLess (roots : List Name) (w : World) (i k : ℕ) : Type 0 where
+pub record OwesLess (w : World) (i k : ℕ) : Type 0 where
   pub client : Client
   pub runtime : Runtime
   pub is_open : IsOpen w i client runtime
-  pub less : debt roots w.core.sources client runtime < k
+  pub less : debt w.core.sources client runtime < k
 
 -- client i is connected and open, and it is caught up
-pub record IsUp (roots : List Name) (w : World) (i : ℕ) : Type 0 where
+pub record IsUp (w : World) (i : ℕ) : Type 0 where
   pub client : Client
   pub runtime : Runtime
   pub is_open : IsOpen w i client runtime
-  pub up : IsCaughtUp roots w.core.sources client runtime
+  pub up : IsCaughtUp w.core.sources client runtime
 
 -- so many turns more of client i
 abbrev pub turns : ℕ → ℕ → List Step → List Step
@@ -124,18 +124,18 @@ AreQuiet language roots shelves i (suc k) past =
 pub record IsUpWithin (language : Language) (roots : List Name) (shelves : List (List (Text × ℕ))) (i k : ℕ) (past : List Step) : Type 0 where
   pub taken : ℕ
   pub few : taken ≤ k
-  pub up : IsUp roots (world_after language roots shelves (turns i taken past)) i
+  pub up : IsUp (world_after language roots shelves (turns i taken past)) i
 
 -- the debt of a client that is connected and open, and 0 of any other
-abbrev pub debt_at : List Name → Sources → Option Client → Option Runtime → ℕ
-debt_at roots s None r = 0
-debt_at roots s (Some c) None = 0
-debt_at roots s (Some c) (Some r) = debt roots s c r
+abbrev pub debt_at : Sources → Option Client → Option Runtime → ℕ
+debt_at s None r = 0
+debt_at s (Some c) None = 0
+debt_at s (Some c) (Some r) = debt s c r
 
-abbrev pub debt_in : List Name → World → ℕ → ℕ
-debt_in roots w i = debt_at roots w.core.sources (client_at w.core.clients i) (client_at w.clients i)
+abbrev pub debt_in : World → ℕ → ℕ
+debt_in w i = debt_at w.core.sources (client_at w.core.clients i) (client_at w.clients i)
 
 -- the debts of client i now and after each of so many turns more
 abbrev pub debts : Language → List Name → List (List (Text × ℕ)) → ℕ → ℕ → List Step → List ℕ
-debts language roots shelves i zero past = debt_in roots (world_after language roots shelves past) i ∷ []
-debts language roots shelves i (suc k) past = debt_in roots (world_after language roots shelves past) i ∷ debts language roots shelves i k (turn i ∷ past)
+debts language roots shelves i zero past = debt_in (world_after language roots shelves past) i ∷ []
+debts language roots shelves i (suc k) past = debt_in (world_after language roots shelves past) i ∷ debts language roots shelves i k (turn i ∷ past)

@@ -1,20 +1,21 @@
 // At which edges a client is stale, and how they are listed.
-ghost use Rattle.std.specs.Prelude.{◌≡◌, ◌↔◌, ℕ, List, true, Contains, IsSome};
-ghost use Rattle.update_msgs.specs.declared.message.ServerMsg.{ServerMsg};
+ghost use Rattle.std.specs.Prelude.{◌≡◌, ◌↔◌, true, Contains, IsSome};
 ghost use Rattle.core_model.specs.Names.{Name};
-ghost use Rattle.core_model.specs.Sources.{Text};
 ghost use Rattle.core_model.specs.View.{is_in};
 ghost use Rattle.client_model.specs.Language.{Language};
-ghost use Rattle.client_model.specs.Runtime.{Runtime};
+ghost use Rattle.client_model.specs.Runtime.{Runtime, Opening};
 ghost use Rattle.client_model.specs.Instance.{live_at};
-ghost use Rattle.client_model.specs.Taking.{runtime_after};
+ghost use Rattle.client_model.specs.Past.{Past, runtime_after};
 ghost use Rattle.client_model.specs.Stale.{IsStale, stale_of};
 ghost use Rattle.world_laws.specs.Edges.{edges_rise};
 
 /// The list of stale edges rises, by importer and then by dependency. It has exactly the edges that are
-/// stale, wherever each module of the page has a live instance; and so after every list of messages.
+/// stale, wherever each module of the page has a live instance; and so whatever came to it.
 pub fn stale_edges_are_listed()
     ensures rising { (r : Runtime) → edges_rise (stale_of r) ≡ true }
-    ensures live { (r : Runtime) → ((n : Name) → is_in r.page.view n ≡ true → IsSome (live_at r.instances n)) → (b x : Name) → Contains (stale_of r) (b, x) ↔ IsStale r b x }
-    ensures exactly { (language : Language) (shelf : List (Text × ℕ)) (past : List ServerMsg) (b x : Name) → Contains (stale_of (runtime_after language shelf past)) (b, x) ↔ IsStale (runtime_after language shelf past) b x }
+    ensures live { (r : Runtime) →
+        ((n : Name) → is_in r.page.view n ≡ true → IsSome (live_at r.instances n)) →
+        (b x : Name) → Contains (stale_of r) (b, x) ↔ IsStale r b x }
+    ensures exactly { (language : Language) (opening : Opening) (past : Past) (b x : Name) →
+        let r = runtime_after language opening past in Contains (stale_of r) (b, x) ↔ IsStale r b x }
 {}

@@ -16,39 +16,59 @@ ghost use Rattle.world_laws.specs.SmallTexts.{all_bind_imports};
 ghost use Rattle.world_laws.specs.CounterTurns.{loading, updating};
 
 /// Where nothing was served or removed since the plan under way began, a cause to give it up that a
-/// fetch found names a module that a fresh load reaches and that isn't served; and each text that was
-/// fetched is the served one.
+/// fetch found names a module that a fresh load of the client's roots reaches and that isn't served; and
+/// each text that was fetched is the served one.
 pub fn found_causes_are_missing_modules()
-    ensures cause { (language : Language) (roots : List Name) → EachClient language roots (λ s c r. is_some c.page.plan ≡ true → c.plan_at ≡ s.served_no → CauseIs roots s.served r.cause) }
-    ensures texts { (language : Language) (roots : List Name) → EachClient language roots (λ s c r. is_some c.page.plan ≡ true → c.plan_at ≡ s.served_no → (n : Name) → IsServedText (at r.texts n) (at s.served n)) }
+    ensures cause { (language : Language) (roots : List Name) → EachClient language roots (λ s c r.
+        is_some c.page.plan ≡ true → c.plan_at ≡ s.served_no → CauseIs c.roots s.served r.cause) }
+    ensures texts { (language : Language) (roots : List Name) → EachClient language roots (λ s c r.
+        is_some c.page.plan ≡ true → c.plan_at ≡ s.served_no →
+        (n : Name) → IsServedText (at r.texts n) (at s.served n)) }
 {}
 
 /// With no plan under way no cause to give one up stands, and with one under way no invalidation is
 /// unsent.
 pub fn causes_go_with_plans()
-    ensures cause { (language : Language) (roots : List Name) → EachClient language roots (λ s c r. is_some c.page.plan ≡ false → r.cause ≡ None) }
-    ensures unsent { (language : Language) (roots : List Name) → EachClient language roots (λ s c r. is_some c.page.plan ≡ true → r.unsent ≡ []) }
+    ensures cause { (language : Language) (roots : List Name) →
+        EachClient language roots (λ s c r. is_some c.page.plan ≡ false → r.cause ≡ None) }
+    ensures unsent { (language : Language) (roots : List Name) →
+        EachClient language roots (λ s c r. is_some c.page.plan ≡ true → r.unsent ≡ []) }
 {}
 
 /// A client that is held with no plan under way has a fresh load that isn't whole: it waits for
 /// something to be served. This is of a language in which the bindings of each module's text are from
 /// the module's imports.
 pub fn held_client_has_no_whole_load()
-    ensures { (language : Language) (roots : List Name) → BindsImports language → EachClient language roots (λ s c r. is_some c.page.plan ≡ false → is_held s c ≡ true → IsServedWhole language roots s → ⊥) }
+    ensures { (language : Language) (roots : List Name) → BindsImports language → EachClient language roots (λ s c r.
+        is_some c.page.plan ≡ false → is_held s c ≡ true → IsServedWhole language c.roots s → ⊥) }
 {}
 
-/// Where no job is outstanding and the fresh load is whole, a turn of an open client that isn't caught
-/// up lowers its debt, if the turn goes on and adds no unsent invalidation. This is of a language in
-/// which the bindings of each module's text are from the module's imports.
+/// Where no job is outstanding and the fresh load of a client's roots is whole, a turn of that client, if
+/// it is open and isn't caught up, lowers its debt, if the turn goes on and adds no unsent invalidation.
+/// This is of a language in which the bindings of each module's text are from the module's imports.
 pub fn quiet_turn_lowers_the_debt()
-    ensures { (language : Language) (roots : List Name) (shelves : List (List (Text × ℕ))) (past : List Step) (i : ℕ) (c : Client) (r : Runtime) → WentOn language roots shelves past → BindsImports language → IsSettled language roots (world_after language roots shelves past).core.sources → IsOpen (world_after language roots shelves past) i c r → (IsCaughtUp roots (world_after language roots shelves past).core.sources c r → ⊥) → AreQuiet language roots shelves i 1 past → OwesLess roots (world_after language roots shelves (turn i ∷ past)) i (debt roots (world_after language roots shelves past).core.sources c r) }
+    ensures { (language : Language) (roots : List Name) (shelves : List (List (Text × ℕ))) (past : List Step)
+        (i : ℕ) (c : Client) (r : Runtime) → let w = world_after language roots shelves past in
+        WentOn language roots shelves past → BindsImports language → IsSettled language c.roots w.core.sources →
+        IsOpen w i c r → (IsCaughtUp w.core.sources c r → ⊥) → AreQuiet language roots shelves i 1 past →
+        OwesLess (world_after language roots shelves (turn i ∷ past)) i (debt w.core.sources c r) }
 {}
 
 /// So the client is caught up after at most as many such turns as its debt, with nothing else between
 /// them; and hence after at most as many as the bound of its debt.
 pub fn client_catches_up()
-    ensures debt { (language : Language) (roots : List Name) (shelves : List (List (Text × ℕ))) (past : List Step) (i : ℕ) (c : Client) (r : Runtime) → WentOn language roots shelves past → BindsImports language → IsSettled language roots (world_after language roots shelves past).core.sources → IsOpen (world_after language roots shelves past) i c r → AreQuiet language roots shelves i (debt roots (world_after language roots shelves past).core.sources c r) past → IsUpWithin language roots shelves i (debt roots (world_after language roots shelves past).core.sources c r) past }
-    ensures bound { (language : Language) (roots : List Name) (shelves : List (List (Text × ℕ))) (past : List Step) (i : ℕ) (c : Client) (r : Runtime) → WentOn language roots shelves past → BindsImports language → IsSettled language roots (world_after language roots shelves past).core.sources → IsOpen (world_after language roots shelves past) i c r → AreQuiet language roots shelves i (largest_debt (world_after language roots shelves past).core.sources c r) past → IsUpWithin language roots shelves i (largest_debt (world_after language roots shelves past).core.sources c r) past }
+    ensures debt { (language : Language) (roots : List Name) (shelves : List (List (Text × ℕ))) (past : List Step)
+        (i : ℕ) (c : Client) (r : Runtime) → let w = world_after language roots shelves past in
+        let owed = debt w.core.sources c r in
+        WentOn language roots shelves past → BindsImports language → IsSettled language c.roots w.core.sources →
+        IsOpen w i c r → AreQuiet language roots shelves i owed past →
+        IsUpWithin language roots shelves i owed past }
+    ensures bound { (language : Language) (roots : List Name) (shelves : List (List (Text × ℕ))) (past : List Step)
+        (i : ℕ) (c : Client) (r : Runtime) → let w = world_after language roots shelves past in
+        let most = largest_debt w.core.sources c r in
+        WentOn language roots shelves past → BindsImports language → IsSettled language c.roots w.core.sources →
+        IsOpen w i c r → AreQuiet language roots shelves i most past →
+        IsUpWithin language roots shelves i most past }
 {}
 
 /// In a small language, given by its texts, the bindings of each module's text are from its imports

@@ -8,4 +8,4 @@ pub returns-clause-debt : goal.returns-clause-debt
 returns-clause-debt c language roots shelves past i client r went binds settled is_open quiet = caught_within language roots shelves i binds _ past client r went settled is_open (omega arith) quiet
 
 pub returns-clause-bound : goal.returns-clause-bound
-returns-clause-bound c language roots shelves past i client r went binds settled is_open quiet = caught_within language roots shelves i binds _ past client r went settled is_open (debt_bound roots (world_after language roots shelves past).core.sources client r) quiet
+returns-clause-bound c language roots shelves past i client r went binds settled is_open quiet = caught_within language roots shelves i binds _ past client r went settled is_open (debt_bound (world_after language roots shelves past).core.sources client r) quiet
