@@ -1,6 +1,6 @@
 -- Where a disposer of an instance ran and a later instance takes its place, that one starts with what the
 -- run left: nothing else touches the bag between the run and the end of the instance.
-use Rattle.std.proofs.Common.{◌≡◌, ℕ, suc, Bool, true, false, List, [], ◌∷◌, ◌++◌, length, refl, ap, sym, ◌∙◌, arith, Contains}
+use Rattle.std.proofs.Common.{◌≡◌, ℕ, Bool, true, false, List, [], ◌∷◌, ◌++◌, length, refl, ap, sym, ◌∙◌, arith, Contains}
 use Rattle.std.specs.Prelude.{map, filter, fold, cond, ◌==◌, ◌&&◌, Option, Some, None, is_some, if◌then◌else◌, ⊤}
 use Prim.{⊥}
 use Rattle.std.proofs.Math.Path.{subst}
@@ -13,17 +13,17 @@ use Rattle.hmr_types.specs.declared.words.PlanKind.TheVariants.{Load, Reload, Up
 use Rattle.output_lines.specs.declared.words.FaultPlace.TheVariants as place
 use Rattle.output_lines.specs.declared.words.InstanceFate.{InstanceFate}
 use Rattle.output_lines.specs.declared.words.InstanceFate.TheVariants.{Live, Replaced, Pruned, Reloaded}
-use Rattle.core_model.specs.Names.{Name, same_name, has}
+use Rattle.core_model.specs.Names.{Name, has}
 use Rattle.core_model.specs.Page.{Plan}
 use Rattle.core_model.proofs.Naming.{true_same, both_true}
 use Rattle.client_model.specs.Language.{Language, Bag}
 use Rattle.client_model.specs.Instance.{Instance, Handler, is_live, is_live_fate, is_dispose, numbered, places_of, disposes}
 use Rattle.client_model.specs.Journal.{Happening, Journal, made, evaluated, not_run, registered, no_host, ran, dropped, ended, gave_up, gave_up_all, told, bag_after, bag_left}
-use Rattle.client_model.specs.Runtime.{Runtime, Opening, Did, for_each, bag_of}
+use Rattle.client_model.specs.Runtime.{Runtime, Opening, Did, for_each}
 use Rattle.client_model.specs.Running.{no_arguments, run_handler, run_of, run_each, drop_each}
 use Rattle.client_model.specs.Linking.{next_needed, new_names, number_after}
 use Rattle.client_model.specs.Making.{make}
-use Rattle.client_model.specs.Applying.{is_left_behind, fate_by, live_of, replace_instance, replaced_instances, end_old, births, prune_instance, prune, apply}
+use Rattle.client_model.specs.Applying.{is_left_behind, fate_by, live_of, replace_instance, replaced_instances, end_old, births, prune_instance, apply}
 use Rattle.client_model.specs.Firing.{hear_all}
 use Rattle.client_model.specs.Past.{Past, met, runtime_after, journal_of}
 use Rattle.client_model.proofs.Takes.{IsTaken, met_does}
@@ -42,7 +42,7 @@ use Rattle.journal_laws.proofs.DataEach.{Each, each_line}
 use Rattle.journal_laws.proofs.DataSparing.{name_at, numbered_name, AreNamed, replacing, rest_named, filter_in}
 use Rattle.journal_laws.proofs.DataResting.{NoneLeft, none_left, live_named}
 use Rattle.journal_laws.proofs.DataTelling.{EndedAs, ended_calm, free_each, free_make, free_reload_all, free_prunes, free_hear}
-use Rattle.journal_laws.proofs.DataPassing.{old_ended, after_old, whole, rest_free}
+use Rattle.journal_laws.proofs.DataPassing.{after_old, whole, rest_free}
 use Rattle.journal_laws.proofs.DataInheriting.{successors_inherit}
 
 -- What is handed on.

@@ -5,7 +5,6 @@ use Rattle.std.specs.Prelude.{map, reverse, ◌&&◌, ⊤}
 use Rattle.std.specs.List.{list_all}
 use Rattle.std.proofs.Math.Path.{subst}
 use Rattle.std.proofs.lemmas.List.{append_assoc, append-nil}
-use Rattle.hmr_types.specs.declared.value.Value.{Value}
 use Rattle.hmr_types.specs.declared.words.PlanKind.{PlanKind}
 use Rattle.hmr_types.specs.declared.words.PlanKind.TheVariants.{Load, Reload, Update}
 use Rattle.output_lines.specs.declared.words.FaultPlace.TheVariants as place
@@ -20,11 +19,10 @@ use Rattle.client_model.specs.Runtime.{Runtime, Opening, Did, and_then, for_each
 use Rattle.client_model.specs.Running.{no_arguments, run_each, drop_each, end_instance}
 use Rattle.client_model.specs.Linking.{new_names, number_after}
 use Rattle.client_model.specs.Making.{Birth, evaluate, register_in, make}
-use Rattle.client_model.specs.Applying.{fate_by, live_of, reload_instance, replace_instance, replaced_instances, end_old, births, tell_all, set_aside, finish, apply, prune_instance, prune}
-use Rattle.client_model.specs.Firing.{hear_all}
+use Rattle.client_model.specs.Applying.{live_of, reload_instance, replace_instance, replaced_instances, end_old, births, tell_all, set_aside, prune_instance, prune}
 use Rattle.client_model.specs.Past.{Past, met, runtime_after, journal_of}
 use Rattle.client_model.proofs.Acts.{IsHandled, by_make, handled_each, handled_replace, handled_run_each, handled_tell_all, handled_hear}
-use Rattle.client_model.proofs.Takes.{AreLines, IsTaken, lines_by, met_does}
+use Rattle.client_model.proofs.Takes.{IsTaken, lines_by, met_does}
 use Rattle.journal_laws.specs.Runs.{OfEachRun}
 use Rattle.journal_laws.specs.GivingUp.{IsAtPrune, IsAtReload, is_making, BagsGoAtPrunes, AllBagsGoAtReloads}
 use Rattle.journal_laws.proofs.ValuesRegistry.{registry_joins}
