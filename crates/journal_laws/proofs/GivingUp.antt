@@ -1,18 +1,23 @@
 -- A bag is given up right before the end of a pruned instance, and all bags where a reload is applied, in
 -- every run of a client.
 use Rattle.std.proofs.Common.{◌≡◌, ℕ, Bool, true, false, List, [], ◌∷◌, ◌++◌, refl, ap, sym, ◌∙◌}
-use Rattle.std.specs.Prelude.{map, reverse, ◌&&◌, ⊤}
+use Rattle.std.specs.Prelude.{Some, map, reverse, ◌&&◌, ⊤}
 use Rattle.std.specs.List.{list_all}
 use Rattle.std.proofs.Math.Path.{subst}
 use Rattle.std.proofs.lemmas.List.{append_assoc, append-nil}
 use Rattle.hmr_types.specs.declared.words.PlanKind.{PlanKind}
 use Rattle.hmr_types.specs.declared.words.PlanKind.TheVariants.{Load, Reload, Update}
 use Rattle.output_lines.specs.declared.words.FaultPlace.TheVariants as place
-use Rattle.output_lines.specs.declared.words.InstanceFate.TheVariants.{Reloaded, Pruned}
+use Rattle.output_lines.specs.declared.words.InstanceFate.{InstanceFate}
+use Rattle.output_lines.specs.declared.words.InstanceFate.TheVariants.{Live, Replaced, Reloaded, Pruned}
+use Rattle.std.proofs.lemmas.Bool.{false≢true}
+use Prim.{⊥}
+use Rattle.journal_laws.specs.Data.{disposed_left, DisposersHandOn}
 use Rattle.output_lines.specs.declared.out_line.OutLine.TheVariants as line
+use Rattle.hmr_types.specs.declared.value.Value.{Value}
 use Rattle.core_model.specs.Names.{Name, has}
 use Rattle.core_model.specs.Page.{Plan}
-use Rattle.client_model.specs.Language.{Language, Evaluated}
+use Rattle.client_model.specs.Language.{Language, Bag, Evaluated}
 use Rattle.client_model.specs.Instance.{Instance, numbered, places_of, is_held, disposes, prunes}
 use Rattle.client_model.specs.Journal.{Happening, Journal, made, evaluated, not_run, registered, no_host, ran, dropped, ended, gave_up, gave_up_all, told}
 use Rattle.client_model.specs.Runtime.{Runtime, Opening, Did, and_then, for_each}
@@ -208,3 +213,35 @@ module _ (language : Language) where
 
   pub all_bags_go_at_reloads : OfEachRun language AllBagsGoAtReloads
   all_bags_go_at_reloads opening past front back split = follows_at front gave_up_all back (subst Follows split (follows_run opening past))
+
+-- A client that gives a bag up at a replacement.
+
+abbrev is_prune_fate : InstanceFate → Bool
+is_prune_fate Live = false
+is_prune_fate (Replaced k) = false
+is_prune_fate Pruned = true
+is_prune_fate Reloaded = false
+
+abbrev fate_first : Journal → Bool
+fate_first [] = false
+fate_first (made i ∷ journal) = false
+fate_first (evaluated k n before e ∷ journal) = false
+fate_first (not_run k n ∷ journal) = false
+fate_first (registered k h ∷ journal) = false
+fate_first (no_host k n label ∷ journal) = false
+fate_first (ran k spot n at before left ∷ journal) = false
+fate_first (dropped k spot ∷ journal) = false
+fate_first (ended k n fate ∷ journal) = is_prune_fate fate
+fate_first (gave_up n ∷ journal) = false
+fate_first (gave_up_all ∷ journal) = false
+fate_first (told l ∷ journal) = false
+
+pub told_is_refused : (r : Runtime) (front back : Journal) (n m : Name) (j k : ℕ) → BagsGoAtPrunes r (front ++ gave_up n ∷ ended j m (Replaced k) ∷ back) → ⊥
+told_is_refused r front back n m j k law = let at_prune = law front (ended j m (Replaced k) ∷ back) n refl in false≢true (ap fate_first at_prune.ends)
+
+abbrev is_empty_bag : Bag → Bool
+is_empty_bag [] = true
+is_empty_bag (row ∷ bag) = false
+
+pub silence_is_refused : (r : Runtime) (front middle back : Journal) (n : Name) (j k : ℕ) (e : Evaluated) (key : Name) (value : Value) (bag : Bag) → disposed_left front j ≡ Some ((key, value) ∷ bag) → DisposersHandOn r (front ++ ended j n (Replaced k) ∷ (middle ++ evaluated k n [] e ∷ back)) → ⊥
+silence_is_refused r front middle back n j k e key value bag left law = false≢true (sym (ap is_empty_bag (law front middle back j k n ((key, value) ∷ bag) [] e refl left)))

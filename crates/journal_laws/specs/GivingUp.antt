@@ -1,6 +1,7 @@
 -- Where data is given up.
 use Rattle.std.specs.Prelude.{◌≡◌, ℕ, Bool, true, false, ◌∷◌, ◌++◌}
 use Rattle.std.specs.List.{list_all}
+use Prim.{⊥}
 use Rattle.hmr_types.specs.declared.words.PlanKind.TheVariants.{Reload}
 use Rattle.output_lines.specs.declared.words.InstanceFate.TheVariants.{Pruned}
 use Rattle.output_lines.specs.declared.out_line.OutLine.TheVariants as line
@@ -43,3 +44,7 @@ BagsGoAtPrunes r journal = (front back : Journal) (n : Name) → journal ≡ fro
 -- all bags are given up only where a reload is applied
 abbrev pub AllBagsGoAtReloads : Runtime → Journal → Type 0
 AllBagsGoAtReloads r journal = (front back : Journal) → journal ≡ front ++ gave_up_all ∷ back → IsAtReload back
+
+-- it can't hold
+abbrev pub IsRefused : Type 0 → Type 0
+IsRefused Law = Law → ⊥

@@ -6,7 +6,7 @@ ghost use Rattle.client_model.specs.Language.{Language};
 ghost use Rattle.journal_laws.specs.OfClients.{OfEachClient};
 ghost use Rattle.journal_laws.specs.Counts.{AreDisposedOnce, ArePrunedOnce};
 ghost use Rattle.journal_laws.specs.GivingUp.{BagsGoAtPrunes, AllBagsGoAtReloads};
-ghost use Rattle.journal_laws.specs.Data.{EvaluationsStartRight, RunsStartRight, SuccessorsInherit, OthersInheritNothing};
+ghost use Rattle.journal_laws.specs.Data.{EvaluationsStartRight, RunsStartRight, SuccessorsInherit, DisposersHandOn, OthersInheritNothing};
 ghost use Rattle.journal_laws.specs.Ends.{AllEnd};
 ghost use Rattle.journal_laws.specs.Values.{ValuesAreLeft};
 
@@ -32,9 +32,11 @@ pub fn data_was_given_up_at_prunes_and_reloads()
     ensures all { (language : Language) (roots : List Name) → OfEachClient language roots AllBagsGoAtReloads }
 {}
 
-/// An instance that replaced another started with what was left when that one ended, any other with nothing.
+/// An instance that replaced another started with what was left when that one ended, and so with what its
+/// disposer left where it had one; any other started with nothing.
 pub fn data_reached_successors_only()
     ensures successors { (language : Language) (roots : List Name) → OfEachClient language roots SuccessorsInherit }
+    ensures disposers { (language : Language) (roots : List Name) → OfEachClient language roots DisposersHandOn }
     ensures others { (language : Language) (roots : List Name) → OfEachClient language roots OthersInheritNothing }
 {}
 
