@@ -12,14 +12,13 @@ use Rattle.output_lines.specs.declared.words.FaultPlace.{FaultPlace}
 use Rattle.output_lines.specs.declared.words.FaultPlace.TheVariants as place
 use Rattle.output_lines.specs.declared.words.InstanceFate.{InstanceFate}
 use Rattle.output_lines.specs.declared.words.InstanceFate.TheVariants.{Live, Replaced, Pruned, Reloaded}
-use Rattle.core_model.specs.Sources.{Text}
-use Rattle.update_msgs.specs.declared.message.ServerMsg.{ServerMsg}
 use Rattle.client_model.specs.Language.{Language}
 use Rattle.client_model.specs.Instance.{Handler, is_live_fate, is_held_end, is_held, is_dispose, is_prune, disposes, prunes, accepts_own, accepts_dep, places_from}
 use Rattle.client_model.specs.Running.{end_after}
 use Rattle.client_model.specs.Making.{is_displaced_by}
 use Rattle.client_model.specs.Applying.{is_left_behind}
-use Rattle.client_model.specs.Taking.{runtime_after, journal_of}
+use Rattle.client_model.specs.Runtime.{Opening}
+use Rattle.client_model.specs.Past.{Past, runtime_after, journal_of}
 use Rattle.journal_laws.specs.Ends.{displaces, is_displaced, EndsBy}
 use Rattle.journal_laws.specs.Counts.{is_dispose_place, is_prune_place, is_disposed, is_pruned, once_if, AreDisposedOnce, ArePrunedOnce}
 use Rattle.journal_laws.proofs.HandlerShapes.{Shape, Word, gained, lost, fell}
@@ -209,9 +208,9 @@ once_life = record {
   pruned = λ x ws l w. (ends_life.pruned x ws l w.0, pruned_once x ws l w.0 w.1);
 }
 
-module _ (language : Language) (shelf : List (Text × ℕ)) (past : List ServerMsg) where
-  pub are_disposed_once : AreDisposedOnce (runtime_after language shelf past) (journal_of language shelf past)
-  are_disposed_once i c = uses_are i.number is_dispose_place (journal_of language shelf past) ∙ (of_each YoungOnce WholeOnce AsideOnce once_life language shelf past i c).1.disposals
+module _ (language : Language) (opening : Opening) (past : Past) where
+  pub are_disposed_once : AreDisposedOnce (runtime_after language opening past) (journal_of language opening past)
+  are_disposed_once i c = uses_are i.number is_dispose_place (journal_of language opening past) ∙ (of_each YoungOnce WholeOnce AsideOnce once_life language opening past i c).1.disposals
 
-  pub are_pruned_once : ArePrunedOnce (runtime_after language shelf past) (journal_of language shelf past)
-  are_pruned_once i c = uses_are i.number is_prune_place (journal_of language shelf past) ∙ (of_each YoungOnce WholeOnce AsideOnce once_life language shelf past i c).1.prunings
+  pub are_pruned_once : ArePrunedOnce (runtime_after language opening past) (journal_of language opening past)
+  are_pruned_once i c = uses_are i.number is_prune_place (journal_of language opening past) ∙ (of_each YoungOnce WholeOnce AsideOnce once_life language opening past i c).1.prunings

@@ -9,13 +9,12 @@ use Rattle.output_lines.specs.declared.words.FaultPlace.TheVariants as place
 use Rattle.output_lines.specs.declared.words.InstanceFate.{InstanceFate}
 use Rattle.output_lines.specs.declared.words.InstanceFate.TheVariants.{Replaced, Pruned, Reloaded}
 use Rattle.core_model.specs.Names.{Name}
-use Rattle.core_model.specs.Sources.{Text}
-use Rattle.update_msgs.specs.declared.message.ServerMsg.{ServerMsg}
 use Rattle.client_model.specs.Language.{Language}
 use Rattle.client_model.specs.Instance.{Handler, is_live_fate, is_held, disposes, prunes, accepts_own, accepts_dep, places_from}
 use Rattle.client_model.specs.Making.{is_displaced_by}
 use Rattle.client_model.specs.Applying.{is_left_behind}
-use Rattle.client_model.specs.Taking.{runtime_after, journal_of}
+use Rattle.client_model.specs.Runtime.{Opening}
+use Rattle.client_model.specs.Past.{Past, runtime_after, journal_of}
 use Rattle.world_laws.proofs.Frames.{apart}
 use Rattle.journal_laws.specs.Counts.{told_fate, AreFated}
 use Rattle.journal_laws.proofs.HandlerShapes.{Shape, Word, gained, used, lost, fell}
@@ -167,5 +166,5 @@ fates_life = record {
       (drops_more is_held (run_shape prunes y) second [] (runs_more place.Prune prunes y first [] (runs_more place.Dispose disposes x ws [] (e ∙ untold x.fate l))));
 }
 
-pub are_fated : (language : Language) (shelf : List (Text × ℕ)) (past : List ServerMsg) → AreFated (runtime_after language shelf past) (journal_of language shelf past)
-are_fated language shelf past i c = falls_are i.number (journal_of language shelf past) ∙ of_each Unfallen Fallen Fallen fates_life language shelf past i c
+pub are_fated : (language : Language) (opening : Opening) (past : Past) → AreFated (runtime_after language opening past) (journal_of language opening past)
+are_fated language opening past i c = falls_are i.number (journal_of language opening past) ∙ of_each Unfallen Fallen Fallen fates_life language opening past i c

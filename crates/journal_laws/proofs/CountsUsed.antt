@@ -15,17 +15,15 @@ use Rattle.output_lines.specs.declared.words.FaultPlace.TheVariants as place
 use Rattle.output_lines.specs.declared.words.InstanceFate.{InstanceFate}
 use Rattle.output_lines.specs.declared.words.InstanceFate.TheVariants.{Replaced, Pruned, Reloaded}
 use Rattle.core_model.specs.Names.{Name, has}
-use Rattle.core_model.specs.Sources.{Text}
-use Rattle.update_msgs.specs.declared.message.ServerMsg.{ServerMsg}
 use Rattle.core_model.proofs.Naming.{both_true}
 use Rattle.client_model.specs.Language.{Language, Bag, Ran}
 use Rattle.client_model.specs.Instance.{Instance, Handler, is_held, is_dispose, is_prune, is_own, is_dep, disposes, prunes, accepts_own, accepts_dep, numbered, places_from}
 use Rattle.client_model.specs.Journal.{Journal, ran}
-use Rattle.client_model.specs.Runtime.{Runtime}
+use Rattle.client_model.specs.Runtime.{Runtime, Opening}
 use Rattle.client_model.specs.Running.{end_after}
 use Rattle.client_model.specs.Making.{is_displaced_by}
 use Rattle.client_model.specs.Applying.{is_left_behind}
-use Rattle.client_model.specs.Taking.{runtime_after, journal_of}
+use Rattle.client_model.specs.Past.{Past, runtime_after, journal_of}
 use Rattle.world_laws.proofs.Members.{in_cases, none_in}
 use Rattle.world_laws.proofs.Frames.{found_in}
 use Rattle.journal_laws.specs.Counts.{place_of, IsHandlerOf, AreTold, AreRegistered, AreRunsOfHandlers, IsToldAs, drops_of}
@@ -191,25 +189,25 @@ kept_life = record {
       kept_end Pruned (drop_shape is_held z) (second ++ drop_words is_held z) (kept_drop is_held held_all z second (kept_prune y first (kept_dispose x ws k)));
 }
 
-module _ (language : Language) (shelf : List (Text × ℕ)) (past : List ServerMsg) where
-  pub are_registered : AreRegistered (runtime_after language shelf past) (journal_of language shelf past)
-  are_registered i c = gains_are i.number (journal_of language shelf past) ∙ (of_each KeptYoung Kept Kept kept_life language shelf past i c).0.registered
+module _ (language : Language) (opening : Opening) (past : Past) where
+  pub are_registered : AreRegistered (runtime_after language opening past) (journal_of language opening past)
+  are_registered i c = gains_are i.number (journal_of language opening past) ∙ (of_each KeptYoung Kept Kept kept_life language opening past i c).0.registered
 
-  pub are_told : AreTold (runtime_after language shelf past) (journal_of language shelf past)
+  pub are_told : AreTold (runtime_after language opening past) (journal_of language opening past)
   are_told i c spot h e =
-      let journal : Journal = journal_of language shelf past in
+      let journal : Journal = journal_of language opening past in
       subst (λ a. IsToldAs h.end h.kind a (drops_of journal i.number spot)) (sym (runs_are i.number spot journal))
       (subst (IsToldAs h.end h.kind (count_of (is_use spot) (words i.number journal))) (sym (drops_are i.number spot journal))
-      (subst (λ o. ToldAt o (count_of (is_use spot) (words i.number journal)) (count_of (is_loss spot) (words i.number journal))) e ((of_each KeptYoung Kept Kept kept_life language shelf past i c).0.told spot)))
+      (subst (λ o. ToldAt o (count_of (is_use spot) (words i.number journal)) (count_of (is_loss spot) (words i.number journal))) e ((of_each KeptYoung Kept Kept kept_life language opening past i c).0.told spot)))
 
-  pub are_runs_of_handlers : AreRunsOfHandlers (runtime_after language shelf past) (journal_of language shelf past)
-  are_runs_of_handlers k spot n at before left c = by (numbered r.instances k) refl (run_lives KeptYoung Kept Kept kept_life language k shelf past)
+  pub are_runs_of_handlers : AreRunsOfHandlers (runtime_after language opening past) (journal_of language opening past)
+  are_runs_of_handlers k spot n at before left c = by (numbered r.instances k) refl (run_lives KeptYoung Kept Kept kept_life language k opening past)
     where
       r : Runtime
-      r = runtime_after language shelf past
+      r = runtime_after language opening past
 
       journal : Journal
-      journal = journal_of language shelf past
+      journal = journal_of language opening past
 
       handler_of : (i : Instance) → numbered r.instances k ≡ Some i → n ≡ i.name → (o : Option Handler) → slice_get i.handlers spot ≡ o → StandsAt o at → IsHandlerOf r k spot n at
       handler_of i known name None e s = absurd s

@@ -27,7 +27,9 @@ use Rattle.client_model.specs.Applying.{live_of, births, end_old, replace_instan
 use Rattle.client_model.proofs.Takes.{Quiet}
 use Rattle.world_laws.proofs.Members.{MadeOf, map_from}
 use Rattle.world_laws.proofs.Frames.{Frame, frame, frames, none_counted, made_length, live_one, Distinct, number_low, names_in, cut_length, ended_by}
-use Rattle.world_laws.proofs.Ending.{ended_names, ends_prune}
+use Rattle.world_laws.proofs.Ending.{ended_names, ends_prune, same_hear}
+use Rattle.client_model.specs.Firing.{hear_all}
+use Rattle.hmr_types.specs.declared.value.Value.{Value}
 use Rattle.world_laws.proofs.Births.{birth_frame, new_frame, news, olds, frames_after, births_are, news_once, applied_frames, numbered_after, number_new}
 use Rattle.world_laws.proofs.Holding.{HoldsOf, LeadsTo, new_leads, is_ready, loads_none}
 use Rattle.journal_laws.specs.Data.{is_succeeded_by}
@@ -35,7 +37,7 @@ use Rattle.journal_laws.proofs.DataSplits.{inner_append, InFirst, InSecond, spli
 use Rattle.journal_laws.proofs.DataEach.{Each, Free, free_append, each_append, each_at, each_line}
 use Rattle.journal_laws.proofs.DataSparing.{some_of, spares_all, replacing}
 use Rattle.journal_laws.proofs.DataResting.{NoneLeft, live_listed, live_named}
-use Rattle.journal_laws.proofs.DataTelling.{IsCalm, EvaluatedAs, EndedAs, each_more, evaluated_more, ended_more, evaluated_calm, ended_calm, free_each, free_make, free_replaces, free_reload_all, free_prunes, free_tell_all, free_set_aside}
+use Rattle.journal_laws.proofs.DataTelling.{IsCalm, EvaluatedAs, EndedAs, each_more, evaluated_more, ended_more, evaluated_calm, ended_calm, free_each, free_make, free_replaces, free_reload_all, free_prunes, free_hear, free_tell_all, free_set_aside}
 use Rattle.journal_laws.proofs.DataHanding.{some_counted, one_each, LeftFor, replaces_left, replace_told, births_start}
 
 -- what it does passes on the bags so, and the numbers are those that it makes or that were there
@@ -70,6 +72,14 @@ prune_passes language names r =
     (each_append (EvaluatedAs (λ k n before. ⊥)) (bag_of r) pruned.1 [] (free_prunes (EvaluatedAs (λ k n before. ⊥)) (evaluated_calm (λ k n before. ⊥)) language is r (bag_of r)) tt)
     (each_append (EndedAs (λ k n bag. ⊥)) (bag_of r) pruned.1 [] (free_prunes (EndedAs (λ k n bag. ⊥)) (ended_calm (λ k n bag. ⊥)) language is r (bag_of r)) tt)
 
+pub hear_passes : (language : Language) (event : Name) (value : Value) (r : Runtime) → Passing r (hear_all language event value r)
+hear_passes language event value r =
+    let heard : Did = hear_all language event value r in
+    none_passes r heard
+    (omega (arith, length-map r.instances frame, length-map heard.0.instances frame, ap (λ (fs : List Frame). length fs) (same_hear language event value r)))
+    (free_hear (EvaluatedAs (λ k n before. ⊥)) (evaluated_calm (λ k n before. ⊥)) language event value r (bag_of r))
+    (free_hear (EndedAs (λ k n bag. ⊥)) (ended_calm (λ k n bag. ⊥)) language event value r (bag_of r))
+
 -- A plan.
 
 -- the number of a new instance of this name
@@ -91,22 +101,22 @@ five [] b c d e = refl
 five (x ∷ a) b c d e = ap (λ xs. x ∷ xs) (five a b c d e)
 
 module _ (language : Language) (p : Plan) (r : Runtime) (plan_is : r.page.plan ≡ Some p) (needed : next_needed p r ≡ None) (h : HoldsOf r) (empty : NoneLeft r) where
-  abbrev old_ended : Did
+  abbrev pub old_ended : Did
   old_ended = end_old p.kind language p r
 
-  abbrev new_born : Did
+  abbrev pub new_born : Did
   new_born = for_each (make language) (births (new_names p r) p r) old_ended.0
 
-  abbrev all_told : Did
+  abbrev pub all_told : Did
   all_told = tell_all p.kind language p r new_born.0
 
-  abbrev all_dropped : Did
+  abbrev pub all_dropped : Did
   all_dropped = drop_set_aside p r all_told.0
 
-  abbrev after_old : Journal
+  abbrev pub after_old : Journal
   after_old = ((new_born.1 ++ all_told.1) ++ all_dropped.1) ++ (finish p all_dropped.0).1
 
-  whole : (apply language p r).1 ≡ old_ended.1 ++ after_old
+  pub whole : (apply language p r).1 ≡ old_ended.1 ++ after_old
   whole = five old_ended.1 new_born.1 all_told.1 all_dropped.1 (finish p all_dropped.0).1
 
   -- what each replaced instance leaves, and each new one starts with
@@ -118,7 +128,7 @@ module _ (language : Language) (p : Plan) (r : Runtime) (plan_is : r.page.plan �
   old_free Q calm ends Reload = free_reload_all Q calm language r
   old_free Q calm ends Update = free_replaces Q calm language ends (number_after p r) (replaced_instances p r) r
 
-  rest_free : (Q : Happening → (Name → Bag) → Type 0) (calm : IsCalm Q) → Free Q calm.free new_born.1 → Free Q calm.free after_old
+  pub rest_free : (Q : Happening → (Name → Bag) → Type 0) (calm : IsCalm Q) → Free Q calm.free new_born.1 → Free Q calm.free after_old
   rest_free Q calm births =
       free_append Q calm.free ((new_born.1 ++ all_told.1) ++ all_dropped.1) (finish p all_dropped.0).1
       (free_append Q calm.free (new_born.1 ++ all_told.1) all_dropped.1

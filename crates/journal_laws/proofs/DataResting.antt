@@ -6,28 +6,27 @@ use Rattle.std.proofs.lemmas.Bool.{false≢true}
 use Rattle.hmr_types.specs.declared.words.PlanKind.{PlanKind}
 use Rattle.hmr_types.specs.declared.words.PlanKind.TheVariants.{Load, Reload, Update}
 use Rattle.output_lines.specs.declared.words.FaultPlace.TheVariants as place
-use Rattle.update_msgs.specs.declared.message.ServerMsg.{ServerMsg}
 use Rattle.core_model.specs.Names.{Name, same_name, has}
-use Rattle.core_model.specs.Sources.{Text}
 use Rattle.core_model.specs.Page.{Plan}
 use Rattle.core_model.proofs.Naming.{both_true, or_left, or_right, same_true, and_last}
 use Rattle.client_model.specs.Language.{Language}
 use Rattle.client_model.specs.Instance.{Instance, live_at, is_live, accepts_own, accepts_dep, is_held}
 use Rattle.client_model.specs.Linking.{next_needed, new_names, number_after, number_in}
-use Rattle.client_model.specs.Runtime.{Runtime, Did, for_each, nothing, bag_of}
+use Rattle.client_model.specs.Runtime.{Runtime, Opening, Did, for_each, nothing, bag_of}
 use Rattle.client_model.specs.Running.{drop_each}
 use Rattle.client_model.specs.Making.{make}
 use Rattle.client_model.specs.Applying.{live_of, births, end_old, replaced_instances, itself_in, listed_in, run_own, run_dep, replace_instance, tell_boundary, tell_all, set_aside, apply, prune_instance, prune}
-use Rattle.client_model.specs.Taking.{runtime_after}
-use Rattle.client_model.proofs.Takes.{Quiet, IsTaken, take_does}
+use Rattle.client_model.specs.Past.{Past, runtime_after}
+use Rattle.client_model.proofs.Takes.{Quiet, IsTaken, met_does}
 use Rattle.world_laws.proofs.Members.{map_in}
 use Rattle.world_laws.proofs.Frames.{Frame, frame, frames, live_one, live_cut, Numbered, ended_by, names_in}
-use Rattle.world_laws.proofs.Ending.{ended_names, ends_prune, same_tell, same_tell_all, same_set_aside}
+use Rattle.world_laws.proofs.Ending.{ended_names, ends_prune, same_hear, same_tell, same_tell_all, same_set_aside}
 use Rattle.world_laws.proofs.Births.{Ready, birth_frame, new_frame, news, olds, frames_after, births_are, news_names, applied_frames, live_after, numbered_after}
 use Rattle.world_laws.proofs.Holding.{HoldsOf, LeadsTo, live_is, number_is, number_at, live_leads, lead_cut, lead_made, is_ready}
 use Rattle.world_laws.proofs.Messages.{run_holds}
 use Rattle.journal_laws.specs.Runs.{OfEachRun}
 use Rattle.journal_laws.specs.Data.{NoneIsLeft}
+use Rattle.journal_laws.proofs.DataHearing.{hear_spares}
 use Rattle.journal_laws.proofs.DataSparing.{name_at, named_in, AreNamed, some_of, filter_in, spares_all, prunes_empty, replacing, pruning_own, spares_run_each, spares_births}
 
 -- the same, of frames
@@ -208,13 +207,14 @@ module _ (language : Language) where
     quiet = quiet_none;
     prunes = λ names r none loaded h empty. prune_leaves_none language names r h.numbered empty;
     applies = λ p r e due counted h empty. apply_leaves_none language p r e due.0 h empty;
+    hears = λ event value r loaded idle h empty n e. let gone : live_one (frames r.instances) n ≡ None = ap (λ fs. live_one fs n) (sym (same_hear language event value r)) ∙ e in hear_spares language event value n r h.numbered gone ∙ empty n gone;
   }
 
-  pub none_left : (shelf : List (Text × ℕ)) (past : List ServerMsg) → NoneLeft (runtime_after language shelf past)
-  none_left shelf [] = λ n e. refl
-  none_left shelf (m ∷ past) =
-      let r : Runtime = runtime_after language shelf past in
-      take_does language KeepsNone none_taken r m (run_holds language shelf past) (none_left shelf past)
+  pub none_left : (opening : Opening) (past : Past) → NoneLeft (runtime_after language opening past)
+  none_left opening [] = λ n e. refl
+  none_left opening (came ∷ past) =
+      let r : Runtime = runtime_after language opening past in
+      met_does language KeepsNone none_taken r came (run_holds language opening past) (none_left opening past)
 
   pub none_is_left : OfEachRun language NoneIsLeft
-  none_is_left shelf past n e = none_left shelf past n (live_is (runtime_after language shelf past).instances n ∙ none_framed (live_at (runtime_after language shelf past).instances n) e)
+  none_is_left opening past n e = none_left opening past n (live_is (runtime_after language opening past).instances n ∙ none_framed (live_at (runtime_after language opening past).instances n) e)

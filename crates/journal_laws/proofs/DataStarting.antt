@@ -1,21 +1,19 @@
 -- Each evaluation and each run of a handler starts with the bag that what happened before left.
-use Rattle.std.proofs.Common.{◌≡◌, ℕ, List, [], ◌∷◌, refl, ◌∙◌}
+use Rattle.std.proofs.Common.{◌≡◌, List, [], ◌∷◌, refl, ◌∙◌}
 use Rattle.std.specs.Prelude.{⊤}
 use Rattle.std.proofs.Math.Path.{subst}
-use Rattle.update_msgs.specs.declared.message.ServerMsg.{ServerMsg}
 use Rattle.core_model.specs.Names.{Name, has}
 use Rattle.core_model.specs.Page.{Plan}
-use Rattle.core_model.specs.Sources.{Text}
 use Rattle.client_model.specs.Language.{Language, Bag, Evaluated}
 use Rattle.client_model.specs.Instance.{numbered, places_of}
 use Rattle.client_model.specs.Journal.{Happening, made, evaluated, not_run, registered, no_host, ran, dropped, ended, gave_up, gave_up_all, told, bag_after, bag_left}
-use Rattle.client_model.specs.Runtime.{Runtime, Did, and_then, for_each, bag_of}
+use Rattle.client_model.specs.Runtime.{Runtime, Opening, Did, and_then, for_each, bag_of}
 use Rattle.client_model.specs.Making.{Birth, evaluate, make}
 use Rattle.client_model.specs.Applying.{live_of, finish, apply, prune_instance, leave_page, prune}
-use Rattle.client_model.specs.Taking.{take, runtime_after, journal_of}
-use Rattle.client_model.proofs.Acts.{IsKept, before_finish, kept_applying, kept_pruning, by_make}
+use Rattle.client_model.specs.Past.{Past, met, runtime_after, journal_of}
+use Rattle.client_model.proofs.Acts.{IsKept, before_finish, kept_applying, kept_pruning, kept_hear, by_make}
 use Rattle.client_model.proofs.Bagging.{Keeps, keeps_then, bags_kept, keeps_quiet, bags_are}
-use Rattle.client_model.proofs.Takes.{Quiet, IsTaken, take_does}
+use Rattle.client_model.proofs.Takes.{Quiet, IsTaken, met_does}
 use Rattle.journal_laws.specs.Runs.{OfEachRun}
 use Rattle.journal_laws.specs.Data.{EvaluationsStartRight, RunsStartRight}
 use Rattle.journal_laws.proofs.DataEach.{Each, Respects, IsFree, each_append, each_same, each_at, each_then, each_line, each_drop, each_register}
@@ -87,17 +85,17 @@ module _ (language : Language) where
   right_apply p r = right_then r (before_finish language p r) (finish p) (kept_applying StartsRight right_kept language p r) (λ n. refl, (tt, tt))
 
   right_taken : IsTaken language StartsRight
-  right_taken = record { quiet = right_quiet; prunes = λ names r none loaded. right_prune names r; applies = λ p r e due counted. right_apply p r }
+  right_taken = record { quiet = right_quiet; prunes = λ names r none loaded. right_prune names r; applies = λ p r e due counted. right_apply p r; hears = λ n value r loaded idle. kept_hear StartsRight right_kept language n value r }
 
-  pub starts_run : (shelf : List (Text × ℕ)) (past : List ServerMsg) → Each Starts (λ n. []) (journal_of language shelf past)
-  starts_run shelf [] = tt
-  starts_run shelf (m ∷ past) =
-      let r : Runtime = runtime_after language shelf past in
-      each_append Starts (λ n. []) (journal_of language shelf past) (take language r m).journal (starts_run shelf past)
-      (each_same Starts starts_same (bag_of r) (bag_left (journal_of language shelf past)) (bags_are language shelf past) (take language r m).journal (take_does language StartsRight right_taken r m).1)
+  pub starts_run : (opening : Opening) (past : Past) → Each Starts (λ n. []) (journal_of language opening past)
+  starts_run opening [] = tt
+  starts_run opening (came ∷ past) =
+      let r : Runtime = runtime_after language opening past in
+      each_append Starts (λ n. []) (journal_of language opening past) (met language came r).1 (starts_run opening past)
+      (each_same Starts starts_same (bag_of r) (bag_left (journal_of language opening past)) (bags_are language opening past) (met language came r).1 (met_does language StartsRight right_taken r came).1)
 
   pub evaluations_start : OfEachRun language EvaluationsStartRight
-  evaluations_start shelf past front back k n before e split = each_at Starts (λ m. []) front (evaluated k n before e) back (subst (Each Starts (λ m. [])) split (starts_run shelf past))
+  evaluations_start opening past front back k n before e split = each_at Starts (λ m. []) front (evaluated k n before e) back (subst (Each Starts (λ m. [])) split (starts_run opening past))
 
   pub runs_start : OfEachRun language RunsStartRight
-  runs_start shelf past front back k spot n at before left split = each_at Starts (λ m. []) front (ran k spot n at before left) back (subst (Each Starts (λ m. [])) split (starts_run shelf past))
+  runs_start opening past front back k spot n at before left split = each_at Starts (λ m. []) front (ran k spot n at before left) back (subst (Each Starts (λ m. [])) split (starts_run opening past))

@@ -1,6 +1,6 @@
 -- What is told of evaluations and of replacements: which acts of a client tell of none.
-use Rattle.std.proofs.Common.{ℕ, List, [], ◌∷◌, subst}
-use Rattle.std.specs.Prelude.{Option, ⊤}
+use Rattle.std.proofs.Common.{ℕ, true, List, [], ◌∷◌, subst}
+use Rattle.std.specs.Prelude.{reverse, Option, ⊤}
 use Rattle.hmr_types.specs.declared.words.PlanKind.{PlanKind}
 use Rattle.output_lines.specs.declared.words.FaultPlace.{FaultPlace}
 use Rattle.output_lines.specs.declared.words.FaultPlace.TheVariants as place
@@ -14,8 +14,10 @@ use Rattle.client_model.specs.Journal.{Happening, Journal, made, evaluated, not_
 use Rattle.client_model.specs.Runtime.{Runtime, Did, and_then, for_each, bag_of}
 use Rattle.client_model.specs.Running.{no_arguments, run_each, drop_each}
 use Rattle.client_model.specs.Making.{Birth, make, evaluate}
-use Rattle.client_model.specs.Applying.{is_left_behind, fate_by, replace_instance, tell_all, drop_set_aside, prune_instance, reload_all}
-use Rattle.client_model.proofs.Acts.{by_make, IsHandled, handled_each, handled_reload_all, handled_prunes, handled_tell_all, handled_set_aside, handled_disposed, handled_replace}
+use Rattle.client_model.specs.Applying.{is_left_behind, fate_by, replace_instance, tell_all, drop_set_aside, live_of, prune_instance, reload_all}
+use Rattle.client_model.specs.Firing.{hear_all}
+use Rattle.hmr_types.specs.declared.value.Value.{Value}
+use Rattle.client_model.proofs.Acts.{by_make, IsHandled, handled_each, handled_reload_all, handled_prunes, handled_tell_all, handled_hear, handled_set_aside, handled_disposed, handled_replace}
 use Rattle.journal_laws.proofs.DataEach.{Each, IsFree, Respects, Free, free_append, each_drop, each_register}
 
 -- What is told of.
@@ -122,6 +124,9 @@ module _ (Q : Happening → (Name → Bag) → Type 0) (calm : IsCalm Q) where
 
     pub free_prunes : (is : List Instance) (r : Runtime) → Freely r (for_each (prune_instance language) is r)
     free_prunes is r = handled_prunes language Freely free_handled (λ k n s bags. (calm.pruned k n bags, tt)) (λ n s bags. (calm.gave_up n bags, tt)) is r
+
+    pub free_hear : (event : Name) (value : Value) (r : Runtime) → Freely r (hear_all language event value r)
+    free_hear event value r = handled_hear language Freely free_handled event value (reverse (live_of (λ n. true) r)) r
 
     pub free_tell_all : (kind : PlanKind) (p : Plan) (before r : Runtime) → Freely r (tell_all kind language p before r)
     free_tell_all kind p before r = handled_tell_all language Freely free_handled kind p before r

@@ -6,22 +6,20 @@ use Rattle.std.proofs.Math.Path.{subst}
 use Rattle.output_lines.specs.declared.words.FaultPlace.{FaultPlace}
 use Rattle.output_lines.specs.declared.words.InstanceFate.{InstanceFate}
 use Rattle.output_lines.specs.declared.words.InstanceStatus.TheVariants.{Unrun}
-use Rattle.update_msgs.specs.declared.message.ServerMsg.{ServerMsg}
 use Rattle.core_model.specs.Names.{Name}
-use Rattle.core_model.specs.Sources.{Text}
 use Rattle.client_model.specs.Language.{Language, Slots, Bag, Ran, Evaluated}
 use Rattle.client_model.specs.Instance.{Instance, Handler, Deed, numbered, with_dropped, places_of}
 use Rattle.client_model.specs.Journal.{Journal, made, evaluated, not_run, ran}
-use Rattle.client_model.specs.Runtime.{Runtime, Did, and_then, bag_of}
+use Rattle.client_model.specs.Runtime.{Runtime, Opening, Did, and_then, bag_of}
 use Rattle.client_model.specs.Running.{assigned, imported_slots, end_after, after_run, scope_of, run_deed, did_run, drop_each, end_instance, TakesNothing}
 use Rattle.client_model.specs.Making.{Registry, Birth, born, register_in, status_after, is_failed, has_failed_link, make_unrun, make_run, evaluate, make}
-use Rattle.client_model.specs.Taking.{take, runtime_after, journal_of}
+use Rattle.client_model.specs.Past.{Past, met, runtime_after, journal_of}
 use Rattle.world_laws.proofs.Members.{head_in}
 use Rattle.world_laws.proofs.Frames.{found_in}
 use Rattle.journal_laws.specs.Values.{values_left, imports_left, IsEvaluationOf, IsUnrun, IsRunOf}
 use Rattle.journal_laws.proofs.ValuesWalk.{IsStepped}
 use Rattle.journal_laws.proofs.ValuesRegistry.{IsJoined, drops_join, registry_joins}
-use Rattle.journal_laws.proofs.ValuesTaking.{steps_take}
+use Rattle.journal_laws.proofs.ValuesTaking.{steps_met}
 use Rattle.journal_laws.proofs.ValuesAdding.{Adds, values_in, times_in, adds_then, none_assigned, or_false, plus_none}
 use Rattle.journal_laws.proofs.ValuesMaking.{all_add}
 use Rattle.journal_laws.proofs.ValuesLeft.{Reads, reads_on, reads_run, numbered_run}
@@ -186,21 +184,21 @@ module _ (language : Language) where
 
   -- Messages.
 
-  module _ (shelf : List (Text × ℕ)) where
-    right_run : (past : List ServerMsg) → AreRight language (runtime_after language shelf past) [] (journal_of language shelf past)
+  module _ (opening : Opening) where
+    right_run : (past : Past) → AreRight language (runtime_after language opening past) [] (journal_of language opening past)
     right_run [] = tt
-    right_run (m ∷ past) =
-        let r : Runtime = runtime_after language shelf past in
-        let told : Tells language r ((take language r m).after, (take language r m).journal) = steps_take language (Tells language) all_tell r m (numbered_run language shelf past) in
-        rights_join language (take language r m).after [] (journal_of language shelf past) (take language r m).journal
-        (rights_later language r (take language r m).after told.stay [] (journal_of language shelf past) (right_run past))
-        (told.right (journal_of language shelf past) (reads_run language shelf past))
+    right_run (came ∷ past) =
+        let r : Runtime = runtime_after language opening past in
+        let told : Tells language r (met language came r) = steps_met language (Tells language) all_tell r came (numbered_run language opening past) in
+        rights_join language (met language came r).0 [] (journal_of language opening past) (met language came r).1
+        (rights_later language r (met language came r).0 told.stay [] (journal_of language opening past) (right_run past))
+        (told.right (journal_of language opening past) (reads_run language opening past))
 
-    pub evaluations_run : (past : List ServerMsg) (front back : Journal) (k : ℕ) (n : Name) (before : Bag) (e : Evaluated) → journal_of language shelf past ≡ front ++ evaluated k n before e ∷ back → IsEvaluationOf language (runtime_after language shelf past) front k n e
-    evaluations_run past front back k n before e split = right_at language (runtime_after language shelf past) [] front (evaluated k n before e) back (subst (AreRight language (runtime_after language shelf past) []) split (right_run past))
+    pub evaluations_run : (past : Past) (front back : Journal) (k : ℕ) (n : Name) (before : Bag) (e : Evaluated) → journal_of language opening past ≡ front ++ evaluated k n before e ∷ back → IsEvaluationOf language (runtime_after language opening past) front k n e
+    evaluations_run past front back k n before e split = right_at language (runtime_after language opening past) [] front (evaluated k n before e) back (subst (AreRight language (runtime_after language opening past) []) split (right_run past))
 
-    pub unrun_run : (past : List ServerMsg) (front back : Journal) (k : ℕ) (n : Name) → journal_of language shelf past ≡ front ++ not_run k n ∷ back → IsUnrun (runtime_after language shelf past) front k n
-    unrun_run past front back k n split = unset_so (runtime_after language shelf past) front k n (right_at language (runtime_after language shelf past) [] front (not_run k n) back (subst (AreRight language (runtime_after language shelf past) []) split (right_run past)))
+    pub unrun_run : (past : Past) (front back : Journal) (k : ℕ) (n : Name) → journal_of language opening past ≡ front ++ not_run k n ∷ back → IsUnrun (runtime_after language opening past) front k n
+    unrun_run past front back k n split = unset_so (runtime_after language opening past) front k n (right_at language (runtime_after language opening past) [] front (not_run k n) back (subst (AreRight language (runtime_after language opening past) []) split (right_run past)))
 
-    pub runs_run : (past : List ServerMsg) (front back : Journal) (k spot : ℕ) (n : Name) (at : FaultPlace) (before : Bag) (left : Ran) → journal_of language shelf past ≡ front ++ ran k spot n at before left ∷ back → IsRunOf language (runtime_after language shelf past) front k spot n at left
-    runs_run past front back k spot n at before left split = right_at language (runtime_after language shelf past) [] front (ran k spot n at before left) back (subst (AreRight language (runtime_after language shelf past) []) split (right_run past))
+    pub runs_run : (past : Past) (front back : Journal) (k spot : ℕ) (n : Name) (at : FaultPlace) (before : Bag) (left : Ran) → journal_of language opening past ≡ front ++ ran k spot n at before left ∷ back → IsRunOf language (runtime_after language opening past) front k spot n at left
+    runs_run past front back k spot n at before left split = right_at language (runtime_after language opening past) [] front (ran k spot n at before left) back (subst (AreRight language (runtime_after language opening past) []) split (right_run past))

@@ -1,23 +1,22 @@
--- Every list of messages that a client takes, where no run of a handler assigns, leaves each instance with
+-- All that comes to a client, where no run of a handler assigns, leaves each instance with
 -- what its evaluation left.
-use Rattle.std.proofs.Common.{◌≡◌, ℕ, List, [], ◌∷◌, length, ap, sym, ◌∙◌}
+use Rattle.std.proofs.Common.{◌≡◌, List, [], ◌∷◌, length, ap, sym, ◌∙◌}
 use Rattle.std.proofs.Math.Path.{subst}
 use Rattle.std.proofs.lemmas.List.{length-map}
-use Rattle.update_msgs.specs.declared.message.ServerMsg.{ServerMsg}
 use Rattle.core_model.specs.Names.{Name, has}
-use Rattle.core_model.specs.Sources.{Text}
 use Rattle.core_model.specs.Page.{Plan}
 use Rattle.client_model.specs.Language.{Language}
 use Rattle.client_model.specs.Instance.{Instance}
-use Rattle.client_model.specs.Runtime.{Runtime, Did, and_then, for_each}
+use Rattle.client_model.specs.Runtime.{Runtime, Opening, Did, and_then, for_each}
 use Rattle.client_model.specs.Linking.{new_names}
 use Rattle.client_model.specs.Making.{Birth, make}
 use Rattle.client_model.specs.Applying.{births, end_old, tell_all, drop_set_aside, live_of, finish, apply, prune_instance, leave_page, prune}
-use Rattle.client_model.specs.Taking.{take, runtime_after, journal_of}
-use Rattle.client_model.proofs.Acts.{kept_end_old, kept_tell_all, kept_set_aside, kept_pruning}
-use Rattle.client_model.proofs.Takes.{IsTaken, take_does}
+use Rattle.client_model.specs.Past.{Past, met, runtime_after, journal_of}
+use Rattle.client_model.proofs.Acts.{kept_end_old, kept_tell_all, kept_set_aside, kept_pruning, kept_hear}
+use Rattle.client_model.specs.Firing.{hear_all}
+use Rattle.client_model.proofs.Takes.{IsTaken, met_does}
 use Rattle.world_laws.proofs.Frames.{frame, frames, cut_length, ended_by}
-use Rattle.world_laws.proofs.Ending.{same_tell_all, same_set_aside, ends_prune, ended_names, ends_old}
+use Rattle.world_laws.proofs.Ending.{same_hear, same_tell_all, same_set_aside, ends_prune, ended_names, ends_old}
 use Rattle.journal_laws.specs.FreshValues.{NothingAssigned}
 use Rattle.journal_laws.proofs.FreshMade.{gists, AreMade, made_one, LeavesOrAdds, assigned_first, assigned_rest, adds_kept, left_alone}
 
@@ -68,11 +67,12 @@ module _ (language : Language) where
     quiet = λ r did q n a. subst (λ instances. AreMade language (gists instances)) (sym q.instances) a;
     prunes = λ names r none loaded. made_prune names r;
     applies = λ p r e due counted. made_apply p r;
+    hears = λ event value r loaded idle. made_alone r (hear_all language event value r) (kept_hear LeavesOrAdds adds_kept language event value r) (ap length (same_hear language event value r));
   }
 
   -- each instance holds what its evaluation left
-  pub run_made : (shelf : List (Text × ℕ)) (past : List ServerMsg) → NothingAssigned (journal_of language shelf past) → AreMade language (gists (runtime_after language shelf past).instances)
-  run_made shelf [] n = tt
-  run_made shelf (m ∷ past) n = take_does language KeepsMade made_taken (runtime_after language shelf past) m
-      (assigned_rest (journal_of language shelf past) (take language (runtime_after language shelf past) m).journal n)
-      (run_made shelf past (assigned_first (journal_of language shelf past) (take language (runtime_after language shelf past) m).journal n))
+  pub run_made : (opening : Opening) (past : Past) → NothingAssigned (journal_of language opening past) → AreMade language (gists (runtime_after language opening past).instances)
+  run_made opening [] n = tt
+  run_made opening (came ∷ past) n = met_does language KeepsMade made_taken (runtime_after language opening past) came
+      (assigned_rest (journal_of language opening past) (met language came (runtime_after language opening past)).1 n)
+      (run_made opening past (assigned_first (journal_of language opening past) (met language came (runtime_after language opening past)).1 n))

@@ -3,7 +3,6 @@ use Rattle.std.proofs.Common.{◌≡◌, ℕ, Bool, true, false, List, [], refl,
 use Rattle.std.specs.Prelude.{◌↔◌, not, Option, Some, None, is_some, IfSome, if◌then◌else◌}
 use Rattle.std.proofs.Math.Path.{subst}
 use Rattle.std.proofs.lemmas.Option.{same_Some}
-use Rattle.update_msgs.specs.declared.message.ServerMsg.{ServerMsg}
 use Rattle.core_model.specs.Names.{Name, has, at}
 use Rattle.core_model.specs.Sources.{Text, Serving}
 use Rattle.core_model.specs.FreshLoad.{Served, reached_by, missing_of}
@@ -15,19 +14,18 @@ use Rattle.core_laws.specs.Given.{entry_of}
 use Rattle.core_laws.specs.Fresh.{IsUpToDate, IsFreshLoad}
 use Rattle.client_model.specs.Language.{Language, BindsImports}
 use Rattle.client_model.specs.Instance.{Instance, live_at}
-use Rattle.client_model.specs.Runtime.{Runtime}
+use Rattle.client_model.specs.Runtime.{Runtime, Opening}
 use Rattle.client_model.specs.Stale.{IsStale, stale_of}
-use Rattle.client_model.specs.Taking.{runtime_after, journal_of}
+use Rattle.client_model.specs.Past.{Past, runtime_after, journal_of}
 use Rattle.world_model.specs.CaughtUp.{IsCaughtUp}
 use Rattle.world_model.specs.World.{World, Step}
-use Rattle.world_model.specs.Turning.{shelf_of}
 use Rattle.world_model.specs.Steps.{world_after}
 use Rattle.world_model.specs.Ties.{IsTied, TiedAt, IsServedRight, WentOn}
 use Rattle.world_model.proofs.Tying.{run_sound}
 use Rattle.world_laws.specs.Instances.{AreNumbered}
 use Rattle.world_laws.specs.Quiet.{IsOpen}
 use Rattle.world_laws.specs.Stops.{IsMadeBy}
-use Rattle.world_laws.specs.Taken.{messages_of}
+use Rattle.world_laws.specs.Taken.{Life, life_of}
 use Rattle.world_laws.specs.Versions.{IsOfPage, AreOfPage, IsServedSame, AreServedSame}
 use Rattle.core_laws.specs.Written.{written}
 use Rattle.world_laws.specs.Changes.{changes_in}
@@ -44,7 +42,7 @@ use Rattle.journal_laws.proofs.FreshClient.{live_found, are_fresh_values}
 use Rattle.journal_laws.proofs.LeadingBack.{Traced}
 use Rattle.journal_laws.proofs.LeadingRun.{WasLive, traced_run}
 
--- What holds of a client after its messages.
+-- What holds of a client after all that came to it.
 
 record RunFacts (language : Language) (There : Frame → Type 0) (r : Runtime) : Type 0 where
   numbered : AreNumbered r.instances
@@ -53,19 +51,19 @@ record RunFacts (language : Language) (There : Frame → Type 0) (r : Runtime) :
   made : AreMade language (gists r.instances)
   listed : (b x : Name) → Contains (stale_of r) (b, x) ↔ IsStale r b x
 
-run_facts : (language : Language) (shelf : List (Text × ℕ)) (past : List ServerMsg) → NothingAssigned (journal_of language shelf past) → RunFacts language (WasLive language shelf past) (runtime_after language shelf past)
-run_facts language shelf past nothing = record {
-  numbered = numbered_run language shelf past;
-  live = live_run language shelf past;
-  traced = traced_run language shelf past;
-  made = run_made language shelf past nothing;
-  listed = listed_run language shelf past;
+run_facts : (language : Language) (opening : Opening) (past : Past) → NothingAssigned (journal_of language opening past) → RunFacts language (WasLive language opening past) (runtime_after language opening past)
+run_facts language opening past nothing = record {
+  numbered = numbered_run language opening past;
+  live = live_run language opening past;
+  traced = traced_run language opening past;
+  made = run_made language opening past nothing;
+  listed = listed_run language opening past;
 }
 
 -- The fresh load of its record.
 
-fresh_record : (roots : List Name) (core : Core) (i : ℕ) (c : Client) → IsMade roots core → client_at core.clients i ≡ Some c → IsUpToDate roots core.sources c → IsFreshLoad roots core.sources c
-fresh_record roots core i c m e = subst (λ o. IfSome o (λ c. IsUpToDate roots core.sources c → IsFreshLoad roots core.sources c)) e (fresh_in roots core i m)
+fresh_record : (roots : List Name) (core : Core) (i : ℕ) (c : Client) → IsMade roots core → client_at core.clients i ≡ Some c → IsUpToDate core.sources c → IsFreshLoad core.sources c
+fresh_record roots core i c m e = subst (λ o. IfSome o (λ c. IsUpToDate core.sources c → IsFreshLoad core.sources c)) e (fresh_in roots core i m)
 
 none_missing : (served : Served) (roots : List Name) → missing_of served roots ≡ [] → (n : Name) → has (reached_by served roots) n ≡ true → is_some (at served n) ≡ true
 none_missing served roots e n h = by (is_some (at served n)) refl
@@ -75,24 +73,27 @@ none_missing served roots e n h = by (is_some (at served n)) refl
     by false s = sym (ap (λ names. has names n) e) ∙ filtered_in (λ m. not (is_some (at served m))) (reached_by served roots) n (ap not s) h
 
 module _ (language : Language) (roots : List Name) (shelves : List (List (Text × ℕ))) (past : List Step) (i : ℕ) (c : Client) (r : Runtime) (went : WentOn language roots shelves past) (binds : BindsImports language)
-    (open_is : IsOpen (world_after language roots shelves past) i c r) (up : IsCaughtUp roots (world_after language roots shelves past).core.sources c r) (unstale : stale_of r ≡ []) where
+    (open_is : IsOpen (world_after language roots shelves past) i c r) (up : IsCaughtUp (world_after language roots shelves past).core.sources c r) (unstale : stale_of r ≡ []) where
   abbrev world : World
   world = world_after language roots shelves past
 
   abbrev served : Served
   served = world.core.sources.served
 
-  tied : IsTied roots i c r
-  tied = subst (λ o. TiedAt roots i (Some c) o) open_is.open_is (subst (λ o. TiedAt roots i o (client_at world.clients i)) open_is.connected ((run_sound language roots shelves past went).tied i))
+  tied : IsTied i c r
+  tied = subst (λ o. TiedAt i (Some c) o) open_is.open_is (subst (λ o. TiedAt i o (client_at world.clients i)) open_is.connected ((run_sound language roots shelves past went).tied i))
 
-  is_made : r ≡ runtime_after language (shelf_of shelves i) (messages_of language roots shelves past i)
-  is_made = subst (IsMadeBy language (shelf_of shelves i) (messages_of language roots shelves past i)) open_is.open_is (made_run language roots shelves past i went)
+  abbrev life : Life
+  life = life_of language roots shelves past i
 
-  is_fresh_load : IsFreshLoad roots world.core.sources c
+  is_made : r ≡ runtime_after language life.opening life.past
+  is_made = subst (IsMadeBy language life.opening life.past) open_is.open_is (made_run language roots shelves past i went)
+
+  is_fresh_load : IsFreshLoad world.core.sources c
   is_fresh_load = fresh_record roots world.core i c (core_made language roots shelves past) open_is.connected (record { loaded = up.loaded; unchanged = up.unchanged; whole = up.whole })
 
-  entries : (n : Name) → at r.page.view n ≡ (if has (reached_by served roots) n then entry_of (at served n) else None)
-  entries n = ap (λ page. at page.view n) tied.page ∙ is_fresh_load.entries n
+  entries : (n : Name) → at r.page.view n ≡ (if has (reached_by served r.roots) n then entry_of (at served n) else None)
+  entries n = ap (λ page. at page.view n) tied.page ∙ subst (λ names. at c.page.view n ≡ (if has (reached_by served names) n then entry_of (at served n) else None)) (sym tied.roots_are) (is_fresh_load.entries n)
 
   of_page : AreOfPage language (written (changes_in language roots shelves past)) (Some r)
   of_page = subst (AreOfPage language (written (changes_in language roots shelves past))) open_is.open_is (of_page_run language roots shelves past i)
@@ -108,21 +109,21 @@ module _ (language : Language) (roots : List Name) (shelves : List (List (Text �
   texts : (n : Name) (s : Serving) (j : Instance) → at served n ≡ Some s → live_at r.instances n ≡ Some j → j.text ≡ s.text
   texts n s j e l =
       let found = live_found r.instances n j l in
-      text_by (has (reached_by served roots) n) s j (at r.page.view n) (entries n ∙ ap (λ o. if has (reached_by served roots) n then entry_of o else None) e)
+      text_by (has (reached_by served r.roots) n) s j (at r.page.view n) (entries n ∙ ap (λ o. if has (reached_by served r.roots) n then entry_of o else None) e)
       (subst (λ k. IsOfPage language (written (changes_in language roots shelves past)) (at r.page.view k) j) found.1.1 (of_page j found.0 found.1.0))
       (subst (λ o. IsServedSame o (at r.page.view n) j) e (subst (λ k. IsServedSame (at served k) (at r.page.view k) j) found.1.1 (served_same j found.0 found.1.0)))
 
-  pub values_are_fresh : IsAcyclic served roots → AreWithoutBag language served → NothingAssigned (journal_of language (shelf_of shelves i) (messages_of language roots shelves past i)) → AreFreshValues language served roots r
+  pub values_are_fresh : IsAcyclic served r.roots → AreWithoutBag language served → NothingAssigned (journal_of language life.opening life.past) → AreFreshValues language served r.roots r
   values_are_fresh acyclic bagless nothing =
-      let facts : RunFacts language (WasLive language (shelf_of shelves i) (messages_of language roots shelves past i)) r = subst (RunFacts language (WasLive language (shelf_of shelves i) (messages_of language roots shelves past i))) (sym is_made) (run_facts language (shelf_of shelves i) (messages_of language roots shelves past i) nothing) in
-      are_fresh_values language served roots (WasLive language (shelf_of shelves i) (messages_of language roots shelves past i)) r (record {
+      let facts : RunFacts language (WasLive language life.opening life.past) r = subst (RunFacts language (WasLive language life.opening life.past)) (sym is_made) (run_facts language life.opening life.past nothing) in
+      are_fresh_values language served r.roots (WasLive language life.opening life.past) r (record {
         numbered = facts.numbered;
         live = facts.live;
         traced = facts.traced;
         made = facts.made;
         current = λ b x s. none_in (b, x) (subst (λ edges. Contains edges (b, x)) unstale ((facts.listed b x).1 s));
         entries = entries;
-        there = none_missing served roots is_fresh_load.nothing_missing;
+        there = none_missing served r.roots (subst (λ names. missing_of served names ≡ []) (sym tied.roots_are) is_fresh_load.nothing_missing);
         texts = texts;
         binds = λ n s e. binds n s.text s.analysis (subst (IsServedRight language n) e ((run_sound language roots shelves past went).served n));
       }) acyclic bagless

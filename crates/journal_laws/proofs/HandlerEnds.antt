@@ -12,14 +12,13 @@ use Rattle.output_lines.specs.declared.words.HandlerEnd.TheVariants.{Held, Spent
 use Rattle.output_lines.specs.declared.words.InstanceFate.{InstanceFate}
 use Rattle.output_lines.specs.declared.words.InstanceFate.TheVariants.{Live, Replaced, Pruned, Reloaded}
 use Rattle.core_model.specs.Names.{Name}
-use Rattle.core_model.specs.Sources.{Text}
-use Rattle.update_msgs.specs.declared.message.ServerMsg.{ServerMsg}
 use Rattle.client_model.specs.Language.{Language}
 use Rattle.client_model.specs.Instance.{Handler, Deed, is_live_fate, is_held_end, is_held, disposes, prunes, accepts_own, ended_as, with_dropped}
 use Rattle.client_model.specs.Running.{end_after}
 use Rattle.client_model.specs.Making.{is_displaced_by}
 use Rattle.client_model.specs.Applying.{is_left_behind}
-use Rattle.client_model.specs.Taking.{runtime_after, journal_of}
+use Rattle.client_model.specs.Runtime.{Opening}
+use Rattle.client_model.specs.Past.{Past, runtime_after, journal_of}
 use Rattle.journal_laws.specs.Ends.{displaces, is_displaced, EndsBy, HandlerEnds, HandlersEnd, AllEnd}
 use Rattle.journal_laws.proofs.HandlerShapes.{Shape, Word}
 use Rattle.journal_laws.proofs.HandlerActs.{run_in}
@@ -211,5 +210,5 @@ ends_life = record {
   pruned = λ x ws l w. stands_to Pruned (with_dropped is_held (run_in prunes (run_in disposes x.handlers))) (leaving_page (run_in prunes (run_in disposes x.handlers)) (pruning (run_in disposes x.handlers) (disposing x.handlers (live_stands x l w))));
 }
 
-pub all_end : (language : Language) (shelf : List (Text × ℕ)) (past : List ServerMsg) → AllEnd (runtime_after language shelf past) (journal_of language shelf past)
+pub all_end : (language : Language) (opening : Opening) (past : Past) → AllEnd (runtime_after language opening past) (journal_of language opening past)
 all_end = of_each YoungEnds WholeEnds AsideEnds ends_life

@@ -6,28 +6,26 @@ use Prim.{⊥}
 use Rattle.std.proofs.Math.Path.{subst}
 use Rattle.std.proofs.lemmas.Bool.{false≢true}
 use Rattle.std.proofs.lemmas.Option.{same_Some}
-use Rattle.update_msgs.specs.declared.message.ServerMsg.{ServerMsg}
 use Rattle.core_model.specs.Names.{Name, at}
 use Rattle.core_model.specs.Paths.{Leads, Reaches}
-use Rattle.core_model.specs.Sources.{Text}
 use Rattle.core_model.specs.View.{View, is_in, imports, imports_of}
 use Rattle.core_model.specs.Page.{Page, new_view}
 use Rattle.core_model.proofs.Naming.{has_is, head_has}
 use Rattle.client_model.specs.Language.{Language}
-use Rattle.client_model.specs.Runtime.{Runtime}
-use Rattle.client_model.specs.Taking.{take, runtime_after}
+use Rattle.client_model.specs.Runtime.{Runtime, Opening}
+use Rattle.client_model.specs.Past.{Past, met, runtime_after}
 use Rattle.world_laws.proofs.Frames.{Frame, frames, live_one}
 use Rattle.world_laws.proofs.Holding.{HoldsOf, number_at}
-use Rattle.world_laws.proofs.Messages.{Quiet, Applies, GoesTo, take_goes, run_holds}
+use Rattle.world_laws.proofs.Messages.{Quiet, Applies, GoesTo, met_goes, run_holds}
 use Rattle.journal_laws.proofs.LeadingBack.{linked_import, Outdated, IsChain, Chain, Traced, Later, live_name, quiet_traced}
 use Rattle.journal_laws.proofs.LeadingStep.{plan_traced}
 
--- Every list of messages.
+-- All that comes to a client.
 
--- it was live after some of the messages
-abbrev pub WasLive : Language → List (Text × ℕ) → List ServerMsg → Frame → Type 0
-WasLive language shelf [] f = ⊥
-WasLive language shelf (m ∷ past) f = Later (frames (runtime_after language shelf (m ∷ past)).instances) (WasLive language shelf past) f
+-- it was live after some of what came
+abbrev pub WasLive : Language → Opening → Past → Frame → Type 0
+WasLive language opening [] f = ⊥
+WasLive language opening (came ∷ past) f = Later (frames (runtime_after language opening (came ∷ past)).instances) (WasLive language opening past) f
 
 nothing_traced : (There : Frame → Type 0) → ((f : Frame) → There f → ⊥) → Traced There [] []
 nothing_traced There none = record {
@@ -53,11 +51,11 @@ step_traced language There r s h t g = by g.moves
     by (inl q) = quiet_traced There r.page.view s.page.view (frames r.instances) (frames s.instances) t q g.holds.live
     by (inr a) = applied_traced language There r s.page (frames s.instances) h t g.holds.live a
 
-pub traced_run : (language : Language) (shelf : List (Text × ℕ)) (past : List ServerMsg) → Traced (WasLive language shelf past) (runtime_after language shelf past).page.view (frames (runtime_after language shelf past).instances)
-traced_run language shelf [] = nothing_traced (WasLive language shelf []) (λ f h. h)
-traced_run language shelf (m ∷ past) =
-    let r : Runtime = runtime_after language shelf past in
-    step_traced language (WasLive language shelf past) r (take language r m).after (run_holds language shelf past) (traced_run language shelf past) (take_goes language r m (run_holds language shelf past))
+pub traced_run : (language : Language) (opening : Opening) (past : Past) → Traced (WasLive language opening past) (runtime_after language opening past).page.view (frames (runtime_after language opening past).instances)
+traced_run language opening [] = nothing_traced (WasLive language opening []) (λ f h. h)
+traced_run language opening (came ∷ past) =
+    let r : Runtime = runtime_after language opening past in
+    step_traced language (WasLive language opening past) r (met language came r).0 (run_holds language opening past) (traced_run language opening past) (met_goes language r came (run_holds language opening past))
 
 -- Where no link is out of date.
 

@@ -18,17 +18,16 @@ pub mod LeadingStep
 pub mod LeadingRun
 pub mod FreshSame
 pub mod FreshClient
-pub mod FreshWorld
 pub mod DataEach
 pub mod DataStarting
 pub mod DataSparing
+pub mod DataHearing
 pub mod DataResting
 pub mod DataTelling
 pub mod DataSplits
 pub mod DataHanding
 pub mod DataPassing
 pub mod DataInheriting
-pub mod InWorld
 pub mod HandlerShapes
 pub mod HandlerActs
 pub mod HandlerLists
@@ -43,3 +42,7 @@ pub mod CountsSteps
 pub mod CountsTold
 pub mod CountsUsed
 pub mod CountsOnce
+pub mod GivingUp
+pub mod DataDisposing
+pub mod FreshWorld
+pub mod InWorld

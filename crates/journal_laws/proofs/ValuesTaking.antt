@@ -1,17 +1,16 @@
--- What holds of each thing that a client does holds of each message that it takes.
+-- What holds of each thing that a client does holds of each thing that comes to it.
 use Rattle.std.proofs.Common.{◌≡◌, List, refl}
-use Rattle.update_msgs.specs.declared.message.ServerMsg.{ServerMsg}
 use Rattle.core_model.specs.Names.{Name, has}
 use Rattle.core_model.specs.Page.{Plan}
 use Rattle.client_model.specs.Language.{Language}
 use Rattle.client_model.specs.Journal.{Journal}
 use Rattle.client_model.specs.Runtime.{Runtime, Did, for_each, write}
 use Rattle.client_model.specs.Applying.{live_of, finish, apply, prune_instance, leave_page, prune}
-use Rattle.client_model.specs.Taking.{take}
-use Rattle.client_model.proofs.Takes.{AreLines, IsTaken, lines_by, take_does}
+use Rattle.client_model.specs.Past.{Incoming, met}
+use Rattle.client_model.proofs.Takes.{AreLines, IsTaken, lines_by, met_does}
 use Rattle.client_model.proofs.Acts.{before_finish}
 use Rattle.world_laws.proofs.Frames.{frames, Numbered}
-use Rattle.journal_laws.proofs.ValuesWalk.{IsStepped, steps_applying, steps_pruning}
+use Rattle.journal_laws.proofs.ValuesWalk.{IsStepped, steps_applying, steps_pruning, steps_hearing}
 
 module _ (language : Language) (P : Runtime → Did → Type 0) (k : IsStepped language P) where
   steps_told : (journal : Journal) → AreLines journal → (r s : Runtime) → s.instances ≡ r.instances → s.bags ≡ r.bags → P r (s, journal)
@@ -33,7 +32,8 @@ module _ (language : Language) (P : Runtime → Did → Type 0) (k : IsStepped l
     quiet = λ r did q d. steps_told did.1 q.lines r did.0 q.instances q.bags;
     prunes = λ names r none loaded d. steps_prune names r;
     applies = λ p r e due counted d. steps_apply p r d;
+    hears = λ event value r loaded idle d. steps_hearing language P k event value r;
   }
 
-  pub steps_take : (r : Runtime) (m : ServerMsg) → Numbered (frames r.instances) → P r ((take language r m).after, (take language r m).journal)
-  steps_take r m = take_does language (λ s did. Numbered (frames s.instances) → P s did) steps_taken r m
+  pub steps_met : (r : Runtime) (came : Incoming) → Numbered (frames r.instances) → P r (met language came r)
+  steps_met r came = met_does language (λ s did. Numbered (frames s.instances) → P s did) steps_taken r came

@@ -1,8 +1,8 @@
 -- What holds of each thing that a client does, where it does it, holds of what it does with a plan: a run
 -- is of a handler that stands at its place of an instance that was made, and a new instance has a number
 -- that none has yet.
-use Rattle.std.proofs.Common.{◌≡◌, ℕ, suc, ◌<◌, Bool, List, [], ◌∷◌, length, refl, ap, sym, ◌∙◌, arith}
-use Rattle.std.specs.Prelude.{cond, slice_get, ◌==◌, Option, Some, None}
+use Rattle.std.proofs.Common.{◌≡◌, ℕ, suc, ◌<◌, Bool, true, List, [], ◌∷◌, length, refl, ap, sym, ◌∙◌, arith}
+use Rattle.std.specs.Prelude.{cond, reverse, slice_get, ◌==◌, Option, Some, None}
 use Rattle.std.proofs.Math.Path.{subst}
 use Rattle.std.proofs.lemmas.List.{length-map}
 use Rattle.output_lines.specs.declared.words.FaultPlace.{FaultPlace}
@@ -17,7 +17,9 @@ use Rattle.client_model.specs.Running.{scope_of, run_deed, did_run, drop_each, e
 use Rattle.client_model.specs.Making.{Birth, make}
 use Rattle.client_model.specs.Applying.{give_up_all_bags, live_of, end_old, births, prune_instance}
 use Rattle.client_model.specs.Linking.{new_names}
-use Rattle.client_model.proofs.Acts.{IsWalked, before_finish, walked_applying, walked_pruning, by_make}
+use Rattle.client_model.proofs.Acts.{IsWalked, before_finish, walked_applying, walked_pruning, handled_hear, by_make}
+use Rattle.client_model.specs.Firing.{hear_all}
+use Rattle.hmr_types.specs.declared.value.Value.{Value}
 use Rattle.world_laws.proofs.Frames.{Frame, frame, frames, Numbered, cut, cut_length, cut_numbered, ended_by, apart}
 use Rattle.world_laws.proofs.Ending.{ended_names, ends_old}
 use Rattle.journal_laws.proofs.Numbers.{none_beyond, Rising, births_rise}
@@ -80,3 +82,6 @@ module _ (language : Language) (P : Runtime → Did → Type 0) (k : IsStepped l
 
   pub steps_pruning : (names : List Name) (r : Runtime) → P r (for_each (prune_instance language) (live_of (has names) r) r)
   steps_pruning names r = walked_pruning language P walk names r
+
+  pub steps_hearing : (event : Name) (value : Value) (r : Runtime) → P r (hear_all language event value r)
+  steps_hearing event value r = handled_hear language P walk.handled event value (reverse (live_of (λ n. true) r)) r

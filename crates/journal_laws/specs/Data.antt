@@ -1,5 +1,5 @@
 -- What of a module's data reaches which instance.
-use Rattle.std.specs.Prelude.{◌≡◌, ℕ, ◌==◌, Bool, false, ◌&&◌, [], ◌∷◌, ◌++◌, None}
+use Rattle.std.specs.Prelude.{◌≡◌, ℕ, ◌==◌, Bool, false, ◌&&◌, [], ◌∷◌, ◌++◌, fold, Option, Some, None, if◌then◌else◌}
 use Rattle.std.specs.List.{list_any}
 use Rattle.output_lines.specs.declared.words.FaultPlace.{FaultPlace}
 use Rattle.output_lines.specs.declared.words.InstanceFate.{InstanceFate}
@@ -9,6 +9,7 @@ use Rattle.client_model.specs.Language.{Bag, Evaluated, Ran}
 use Rattle.client_model.specs.Instance.{live_at}
 use Rattle.client_model.specs.Journal.{Happening, Journal, made, evaluated, not_run, registered, no_host, ran, dropped, ended, gave_up, gave_up_all, told, bag_left}
 use Rattle.client_model.specs.Runtime.{Runtime, bag_of}
+use Rattle.journal_laws.specs.Counts.{is_dispose_place}
 
 -- each evaluation of a name starts with the bag that what happened before left
 abbrev pub EvaluationsStartRight : Runtime → Journal → Type 0
@@ -50,3 +51,26 @@ SuccessorsInherit r journal = (front middle back : Journal) (j k : ℕ) (n : Nam
 -- a name without a live instance has no data
 abbrev pub NoneIsLeft : Runtime → Journal → Type 0
 NoneIsLeft r journal = (n : Name) → live_at r.instances n ≡ None → bag_of r n ≡ []
+
+-- what the last run of a disposer of instance k left of the bag, after one thing more happened
+abbrev pub disposed_after : ℕ → Option Bag → Happening → Option Bag
+disposed_after k last (made i) = last
+disposed_after k last (evaluated j n bag e) = last
+disposed_after k last (not_run j n) = last
+disposed_after k last (registered j h) = last
+disposed_after k last (no_host j n label) = last
+disposed_after k last (ran j s n at bag left) = if (j == k) && is_dispose_place at then Some left.bag else last
+disposed_after k last (dropped j s) = last
+disposed_after k last (ended j n fate) = last
+disposed_after k last (gave_up n) = last
+disposed_after k last gave_up_all = last
+disposed_after k last (told l) = last
+
+-- what it left after all that happened; none where no disposer of the instance ran
+abbrev pub disposed_left : Journal → ℕ → Option Bag
+disposed_left journal k = fold (disposed_after k) None journal
+
+-- where a disposer of an instance ran and a later instance took its place, that one starts with what the
+-- run left
+abbrev pub DisposersHandOn : Runtime → Journal → Type 0
+DisposersHandOn r journal = (front middle back : Journal) (j k : ℕ) (n : Name) (left before : Bag) (e : Evaluated) → journal ≡ front ++ ended j n (Replaced k) ∷ (middle ++ evaluated k n before e ∷ back) → disposed_left front j ≡ Some left → before ≡ left

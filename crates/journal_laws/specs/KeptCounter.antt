@@ -70,7 +70,7 @@ keeping = page_of (
 
 -- both modules are served, and a client comes and loads the page; the newest step first
 abbrev pub loaded : List Step
-loaded = turns 1 3 (opens ∷ settles c 2 ∷ settles m 1 ∷ edits c (Some by_one) ∷ edits m (Some with_counter) ∷ [])
+loaded = turns 1 3 (opens 1 [] ∷ settles c 2 ∷ settles m 1 ∷ edits c (Some by_one) ∷ edits m (Some with_counter) ∷ [])
 
 -- the counter is replaced
 abbrev pub replaced : List Step

@@ -2,8 +2,10 @@ pub mod Runs
 pub mod Ends
 pub mod Counts
 pub mod Data
+pub mod GivingUp
 pub mod Values
 pub mod FreshValues
+pub mod OfClients
 pub mod FirstClient
 pub mod WorkedValues
 pub mod KeptCounter

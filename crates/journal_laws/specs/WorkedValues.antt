@@ -51,4 +51,4 @@ updated = turn 1 ∷ turn 1 ∷ turn 1 ∷ updating
 -- A page is loaded of a module that throws, instance 1, and of its importer, 2.
 
 abbrev pub faulted : List Step
-faulted = turn 1 ∷ turn 1 ∷ turn 1 ∷ opens ∷ settles x 2 ∷ settles m 1 ∷ edits x (Some faulting_x) ∷ edits m (Some faulting_m) ∷ []
+faulted = turn 1 ∷ turn 1 ∷ turn 1 ∷ opens 1 [] ∷ settles x 2 ∷ settles m 1 ∷ edits x (Some faulting_x) ∷ edits m (Some faulting_m) ∷ []

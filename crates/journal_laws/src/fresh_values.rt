@@ -8,27 +8,31 @@ ghost use Rattle.core_model.specs.Client.{Client};
 ghost use Rattle.client_model.specs.Language.{Language};
 ghost use Rattle.client_model.specs.Runtime.{Runtime};
 ghost use Rattle.client_model.specs.Stale.{stale_of};
-ghost use Rattle.client_model.specs.Taking.{journal_of};
 ghost use Rattle.world_model.specs.CaughtUp.{IsCaughtUp};
 ghost use Rattle.world_model.specs.HandlerScripts.{faulting};
 ghost use Rattle.world_model.specs.SmallPages.{m, c, x};
 ghost use Rattle.world_model.specs.UpdateScripts.{counter, count};
 ghost use Rattle.world_model.specs.World.{Step};
-ghost use Rattle.world_model.specs.Turning.{shelf_of};
 ghost use Rattle.world_model.specs.Steps.{world_after};
 ghost use Rattle.world_model.specs.Ties.{WentOn};
 ghost use Rattle.client_model.specs.Language.{BindsImports};
 ghost use Rattle.world_laws.specs.Quiet.{IsOpen};
-ghost use Rattle.world_laws.specs.Taken.{messages_of};
+ghost use Rattle.journal_laws.specs.OfClients.{journal_at};
 ghost use Rattle.journal_laws.specs.FreshValues.{IsAcyclic, AreWithoutBag, NothingAssigned, AreFreshValues};
 ghost use Rattle.journal_laws.specs.WorkedValues.{valued_anew, valued_now, holding, loaded, faulted};
 
 /// Where a client is caught up, no edge is stale, the imports have no cycle, no evaluation of a served text
 /// hangs on its bag, and no run of a handler assigned, the variables of its modules are those of evaluating
-/// the fresh load, each module after those that it imports. This is of a language in which the bindings of
-/// each module's text are from the module's imports.
+/// the fresh load of its own roots, each module after those that it imports. This is of a language in which
+/// the bindings of each module's text are from the module's imports.
 pub fn values_are_those_of_a_fresh_load()
-    ensures { (language : Language) (roots : List Name) (shelves : List (List (Text × ℕ))) (past : List Step) (i : ℕ) (c : Client) (r : Runtime) → WentOn language roots shelves past → BindsImports language → IsOpen (world_after language roots shelves past) i c r → IsCaughtUp roots (world_after language roots shelves past).core.sources c r → stale_of r ≡ [] → IsAcyclic (world_after language roots shelves past).core.sources.served roots → AreWithoutBag language (world_after language roots shelves past).core.sources.served → NothingAssigned (journal_of language (shelf_of shelves i) (messages_of language roots shelves past i)) → AreFreshValues language (world_after language roots shelves past).core.sources.served roots r }
+    ensures { (language : Language) (roots : List Name) (shelves : List (List (Text × ℕ))) (past : List Step)
+        (i : ℕ) (c : Client) (r : Runtime) → WentOn language roots shelves past → BindsImports language →
+        let w = world_after language roots shelves past in let served = w.core.sources.served in
+        IsOpen w i c r → IsCaughtUp w.core.sources c r → stale_of r ≡ [] →
+        IsAcyclic served r.roots → AreWithoutBag language served →
+        NothingAssigned (journal_at language roots shelves past i) →
+        AreFreshValues language served r.roots r }
 {}
 
 /// A counter's page that was loaded has the values of one that is loaded anew; and so has a page of a module

@@ -1,15 +1,7 @@
 // What the variables of instances hold.
-ghost use Rattle.std.specs.Prelude.{◌≡◌, List, [], ◌∷◌, map, Some, codes};
-ghost use Rattle.client_model.specs.Language.{Language, Slots};
-ghost use Rattle.client_model.specs.Instance.{Instance};
+ghost use Rattle.client_model.specs.Language.{Language};
 ghost use Rattle.journal_laws.specs.Runs.{OfEachRun};
 ghost use Rattle.journal_laws.specs.Values.{ValuesAreLeft, AreEvaluations, AreUnrun, AreEvaluatedOnce, AreRuns};
-ghost use Rattle.journal_laws.specs.FirstClient.{client_of};
-ghost use Rattle.journal_laws.specs.WorkedValues.{values_in, evaluations_in, imports_in, holding, loaded, updated, faulted};
-ghost use Rattle.world_model.specs.UpdateScripts.{counter, count};
-ghost use Rattle.world_model.specs.HandlerScripts.{faulting};
-ghost use Rattle.hmr_types.specs.declared.value.Slot.TheVariants.{Unset};
-ghost use Rattle.output_lines.specs.declared.words.InstanceStatus.TheVariants.{Faulted, Unrun};
 
 /// The variables of each instance, live or not, are those that its evaluation made, with what the runs of
 /// its own handlers assigned since.
@@ -31,21 +23,4 @@ pub fn evaluations_are_of_the_text()
 /// Disposers and prune handlers get no modules.
 pub fn runs_are_of_the_handlers_code()
     ensures { (language : Language) → OfEachRun language (AreRuns language) }
-{}
-
-/// A counter counts 1, and main, which accepts it, holds that count. A new counter counts 11, from the count
-/// that the old one's disposer kept. Then the callback of main, which isn't made anew, assigns the new count
-/// to main's own variable; its import is of the old counter still.
-pub fn callback_assigns_the_new_count()
-    ensures load { values_in counter loaded (1 ∷ 2 ∷ []) ≡ holding count 1 ∷ holding count 1 ∷ [] }
-    ensures update { values_in counter updated (1 ∷ 2 ∷ 3 ∷ []) ≡ holding count 1 ∷ holding count 11 ∷ holding count 11 ∷ [] }
-    ensures held { map (λ (i : Instance). i.values) (client_of counter updated).instances ≡ holding count 11 ∷ holding count 11 ∷ holding count 1 ∷ [] }
-    ensures link { imports_in counter updated 2 ≡ Some (holding (codes "c") 1) }
-{}
-
-/// A module throws before it sets its export. Its importer isn't run, and has no variables.
-pub fn importer_of_a_faulted_module_is_not_run()
-    ensures statuses { map (λ (i : Instance). i.status) (client_of faulting faulted).instances ≡ Unrun ∷ Faulted ∷ [] }
-    ensures evaluations { evaluations_in faulting faulted (1 ∷ 2 ∷ []) ≡ 1 ∷ 0 ∷ [] }
-    ensures values { values_in faulting faulted (1 ∷ 2 ∷ []) ≡ ((codes "n", Unset) ∷ []) ∷ [] ∷ [] }
 {}

@@ -1,5 +1,5 @@
 use Rattle.std.proofs.Common.{refl}
-use Rattle.journal_laws.proofs.values.importer_of_a_faulted_module_is_not_run.Goals as goal
+use Rattle.journal_laws.proofs.worked.importer_of_a_faulted_module_is_not_run.Goals as goal
 
 pub returns-clause-statuses : goal.returns-clause-statuses
 returns-clause-statuses c = refl

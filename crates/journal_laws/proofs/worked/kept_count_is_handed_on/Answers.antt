@@ -1,5 +1,5 @@
 use Rattle.std.proofs.Common.{refl}
-use Rattle.journal_laws.proofs.data.kept_count_is_handed_on.Goals as goal
+use Rattle.journal_laws.proofs.worked.kept_count_is_handed_on.Goals as goal
 
 pub returns-clause-starts : goal.returns-clause-starts
 returns-clause-starts f = refl

@@ -1,5 +1,5 @@
 use Rattle.std.proofs.Common.{refl}
-use Rattle.journal_laws.proofs.values.callback_assigns_the_new_count.Goals as goal
+use Rattle.journal_laws.proofs.worked.callback_assigns_the_new_count.Goals as goal
 
 pub returns-clause-load : goal.returns-clause-load
 returns-clause-load c = refl
