@@ -6,6 +6,8 @@ pub mod Exporting
 pub mod Firings
 pub mod Following
 pub mod Frames
+pub mod FreshInstances
+pub mod Linked
 pub mod Freshness
 pub mod Holding
 pub mod Making

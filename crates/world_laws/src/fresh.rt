@@ -12,7 +12,7 @@ ghost use Rattle.world_model.specs.SmallPages.{m, c};
 ghost use Rattle.world_model.specs.UpdateScripts.{count};
 ghost use Rattle.world_model.specs.Steps.{world_step, world_after};
 ghost use Rattle.world_model.specs.Ties.{WentOn};
-ghost use Rattle.world_laws.specs.Fresh.{AreFresh, AreUnlinkedStale, ShowsFresh};
+ghost use Rattle.world_laws.specs.Fresh.{AreFresh, HaveFreshInstances, AreUnlinkedStale, ShowsFresh};
 ghost use Rattle.world_laws.specs.HiddenTurns.{hiding, hidden};
 
 /// After every list of steps, each client that is caught up holds, by name and version, exactly a fresh
@@ -20,6 +20,13 @@ ghost use Rattle.world_laws.specs.HiddenTurns.{hiding, hidden};
 pub fn caught_up_client_is_fresh()
     ensures { (language : Language) (roots : List Name) (shelves : List (List (Text × ℕ))) (past : List Step) →
         WentOn language roots shelves past → AreFresh (world_after language roots shelves past) }
+{}
+
+/// Where a client is caught up, a name is in a fresh load of its own roots at a version exactly where a
+/// live instance of that name has that version.
+pub fn live_instances_are_a_fresh_load()
+    ensures { (language : Language) (roots : List Name) (shelves : List (List (Text × ℕ))) (past : List Step) →
+        WentOn language roots shelves past → HaveFreshInstances (world_after language roots shelves past) }
 {}
 
 /// Where a client is caught up, each import of a name that the dependency, as it is served, doesn't

@@ -8,7 +8,7 @@ ghost use Rattle.client_model.specs.Runtime.{Opening};
 ghost use Rattle.client_model.specs.Instance.{live_at};
 ghost use Rattle.client_model.specs.Applying.{live_of};
 ghost use Rattle.client_model.specs.Past.{Past, runtime_after};
-ghost use Rattle.world_laws.specs.Instances.{AreNumbered, AreLinked, AreExported, AreCounted};
+ghost use Rattle.world_laws.specs.Instances.{AreNumbered, AreLinked, AreLinkedWhole, AreExported, AreCounted};
 
 /// Each instance has as its number the place at which it was made, from 1; so each number, and each
 /// number that an instance is linked to, is at most the number of instances made.
@@ -32,4 +32,11 @@ pub fn links_are_to_their_imports()
 /// link's other end, whatever became of either since.
 pub fn links_export_what_is_imported()
     ensures { (language : Language) (opening : Opening) (past : Past) → AreExported language (runtime_after language opening past).instances }
+{}
+
+/// Each import of an instance's text has a link, and nothing else has, whatever became of the instance
+/// since it was made.
+pub fn imports_have_links()
+    ensures { (language : Language) (opening : Opening) (past : Past) →
+        AreLinkedWhole language (runtime_after language opening past).instances }
 {}
