@@ -10,10 +10,12 @@ pub mod FreshInstances
 pub mod Linked
 pub mod Freshness
 pub mod Holding
+pub mod Looking
 pub mod Making
 pub mod Members
 pub mod Messages
 pub mod Orders
+pub mod Promising
 pub mod Replies
 pub mod StaleLists
 pub mod StopLists

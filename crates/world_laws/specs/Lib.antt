@@ -9,3 +9,4 @@ pub mod Quiet
 pub mod CounterTurns
 pub mod SmallTexts
 pub mod HiddenTurns
+pub mod Runs

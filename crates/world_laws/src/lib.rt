@@ -9,6 +9,7 @@
 
 pub mod catching_up;
 pub mod fresh;
+pub mod headline;
 pub mod instances;
 pub mod stale;
 pub mod stops;
