@@ -7,6 +7,7 @@ pub mod Firings
 pub mod Following
 pub mod Frames
 pub mod FreshInstances
+pub mod Keeping
 pub mod Linked
 pub mod Freshness
 pub mod Holding

@@ -10,3 +10,4 @@ pub mod CounterTurns
 pub mod SmallTexts
 pub mod HiddenTurns
 pub mod Runs
+pub mod Kept

@@ -11,6 +11,8 @@ pub mod catching_up;
 pub mod fresh;
 pub mod headline;
 pub mod instances;
+pub mod kept;
+pub mod modules;
 pub mod stale;
 pub mod stops;
 pub mod turns;

@@ -6,12 +6,12 @@ ghost use Rattle.core_model.specs.Client.{Client, is_held};
 ghost use Rattle.client_model.specs.Language.{Language, BindsImports};
 ghost use Rattle.client_model.specs.Runtime.{Runtime};
 ghost use Rattle.world_model.specs.CaughtUp.{IsCaughtUp, debt, largest_debt};
-ghost use Rattle.world_model.specs.World.{Step, turn};
-ghost use Rattle.world_model.specs.Steps.{world_after};
+ghost use Rattle.world_model.specs.World.{World, Step, turn};
+ghost use Rattle.world_model.specs.Steps.{world_step, world_after};
 ghost use Rattle.world_model.specs.Ties.{WentOn};
 ghost use Rattle.world_model.specs.SmallLanguage.{Texts, small_language};
 ghost use Rattle.world_model.specs.UpdateScripts.{counter};
-ghost use Rattle.world_laws.specs.Quiet.{IsServedWhole, CauseIs, IsServedText, EachClient, IsOpen, IsSettled, OwesLess, AreQuiet, IsUpWithin, debts};
+ghost use Rattle.world_laws.specs.Quiet.{IsServedWhole, CauseIs, IsServedText, EachClient, IsOpen, IsSettled, OwesLess, AreQuiet, IsUpWithin, looks, IsUpAmongLooks, debts};
 ghost use Rattle.world_laws.specs.SmallTexts.{all_bind_imports};
 ghost use Rattle.world_laws.specs.CounterTurns.{loading, updating};
 
@@ -69,6 +69,29 @@ pub fn client_catches_up()
         WentOn language roots shelves past → BindsImports language → IsSettled language c.roots w.core.sources →
         IsOpen w i c r → AreQuiet language roots shelves i most past →
         IsUpWithin language roots shelves i most past }
+{}
+
+/// Steps that only look, as shows, values, fates and fresh loads, leave the world as it was.
+pub fn looks_change_nothing()
+    ensures { (language : Language) (roots : List Name) (shelves : List (List (Text × ℕ))) (w : World) (s : Step) →
+        looks s ≡ true → (world_step language roots shelves w s).world ≡ w }
+{}
+
+/// So a client catches up among them as without them: there is a number of turns, at most its debt, and so
+/// at most the bound of that, after which it is caught up whatever looks come between.
+pub fn client_catches_up_among_looks()
+    ensures debt { (language : Language) (roots : List Name) (shelves : List (List (Text × ℕ))) (past : List Step)
+        (i : ℕ) (c : Client) (r : Runtime) → let w = world_after language roots shelves past in
+        let owed = debt w.core.sources c r in
+        WentOn language roots shelves past → BindsImports language → IsSettled language c.roots w.core.sources →
+        IsOpen w i c r → AreQuiet language roots shelves i owed past →
+        IsUpAmongLooks language roots shelves i owed past }
+    ensures bound { (language : Language) (roots : List Name) (shelves : List (List (Text × ℕ))) (past : List Step)
+        (i : ℕ) (c : Client) (r : Runtime) → let w = world_after language roots shelves past in
+        let most = largest_debt w.core.sources c r in
+        WentOn language roots shelves past → BindsImports language → IsSettled language c.roots w.core.sources →
+        IsOpen w i c r → AreQuiet language roots shelves i most past →
+        IsUpAmongLooks language roots shelves i most past }
 {}
 
 /// In a small language, given by its texts, the bindings of each module's text are from its imports
