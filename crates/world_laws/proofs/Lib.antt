@@ -16,6 +16,7 @@ pub mod Making
 pub mod Members
 pub mod Messages
 pub mod Orders
+pub mod OwnRoots
 pub mod Promising
 pub mod Replies
 pub mod StaleLists

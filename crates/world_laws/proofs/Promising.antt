@@ -37,6 +37,8 @@ use Rattle.world_laws.proofs.Freshness.{are_fresh}
 use Rattle.world_laws.proofs.FreshInstances.{instances_run}
 use Rattle.world_laws.proofs.Following.{stops_run}
 use Rattle.world_laws.proofs.Looking.{up_among}
+use Rattle.world_laws.proofs.OwnRoots.{OwnRoots, own_roots}
+use Rattle.core_model.specs.Roots.{roots_or}
 use Rattle.world_laws.proofs.TurnsLowering.{caught_within}
 use Rattle.world_laws.proofs.TurnsTaken.{heard_by, IsRequest, is_request, request_is, step_by}
 
@@ -50,6 +52,9 @@ module _ (run : Run) (i : ℕ) (c : Client) (r : Runtime) (h : HasClient run i c
 
   pub holds_fresh : IsCaughtUp (sources_of run) c r → HoldsFreshLoad (served_of run) r
   holds_fresh = of_client (IsFreshAt (world_of run)) (are_fresh module_language run.roots run.shelves run.steps h.went i)
+
+  pub has_own_roots : r.roots ≡ roots_or (life_in run i).opening.roots run.roots
+  has_own_roots = of_client (OwnRoots module_language run.roots run.shelves (life_in run i)) (own_roots module_language run.roots run.shelves run.steps i h.went)
 
   pub has_instances : IsCaughtUp (sources_of run) c r → (n : Name) (v : ℕ) → Contains (fresh_table (served_of run) r.roots) (n, v) ↔ IsLiveAs r.instances n v
   has_instances = of_client (HasInstancesAt (world_of run)) (instances_run module_language run.roots run.shelves run.steps h.went i)

@@ -11,6 +11,7 @@
 ghost use Rattle.std.specs.Prelude.{◌≡◌, ◌↔◌, ℕ, [], Contains};
 ghost use Rattle.core_model.specs.Names.{Name};
 ghost use Rattle.core_model.specs.FreshLoad.{fresh_table, missing_of};
+ghost use Rattle.core_model.specs.Roots.{roots_or};
 ghost use Rattle.core_model.specs.Client.{Client};
 ghost use Rattle.core_laws.specs.Reloading.{IsFullReload};
 ghost use Rattle.client_model.specs.Runtime.{Runtime};
@@ -30,6 +31,9 @@ ghost use Rattle.world_laws.specs.Runs.{Run, sources_of, served_of, life_in, Has
 ///
 /// `nothing_missing`: and that load reaches no module that isn't served.
 ///
+/// `own_roots`: the client's own roots are those that it named when it came; where it named none, they are
+/// the server's.
+///
 /// `stale_bindings`: the client is stale exactly at the edges at which applied updates stopped: each such
 /// update made a new instance of the dependency in place of a live one, and left the importer's as it was.
 ///
@@ -47,6 +51,8 @@ pub fn headline()
         (n : Name) (v : ℕ) → Contains (fresh_table (served_of run) r.roots) (n, v) ↔ IsLiveAs r.instances n v }
     ensures nothing_missing { (run : Run) (i : ℕ) (c : Client) (r : Runtime) →
         HasClient run i c r → IsCaughtUp (sources_of run) c r → missing_of (served_of run) r.roots ≡ [] }
+    ensures own_roots { (run : Run) (i : ℕ) (c : Client) (r : Runtime) →
+        HasClient run i c r → r.roots ≡ roots_or (life_in run i).opening.roots run.roots }
     ensures stale_bindings { (run : Run) (i : ℕ) (c : Client) (r : Runtime) → let life = life_in run i in
         HasClient run i c r →
         (b x : Name) → IsStale r b x ↔ IsStopped module_language life.opening life.past b x }
