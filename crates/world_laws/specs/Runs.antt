@@ -49,7 +49,8 @@ pub record HasClient (run : Run) (i : ℕ) (c : Client) (r : Runtime) : Type 0 w
 abbrev pub next_reply : Run → ℕ → Runtime → Reply
 next_reply run i r = (step run.roots (world_of run).core (event_of i (request module_language r))).1
 
--- the client asks what there is to do, and an unaccepted path reaches a root or a module that declines
+-- the client asks what there is to do, nothing else is to be done first, and an unaccepted path reaches a
+-- root or a module that declines
 pub record IsReloadTurn (run : Run) (c : Client) (r : Runtime) : Type 0 where
   pub asks : request module_language r ≡ told.Ask
   pub due : IsReloadDue (sources_of run) c

@@ -18,14 +18,16 @@ ghost use Rattle.world_laws.specs.HiddenTurns.{hiding, hidden};
 /// After every list of steps, each client that is caught up holds, by name and version, exactly a fresh
 /// load of the served sources from its own roots, and nothing of it is missing.
 pub fn caught_up_client_is_fresh()
-    ensures { (language : Language) (roots : List Name) (shelves : List (List (Text × ℕ))) (past : List Step) →
+    ensures { (language : Language) (roots : List Name) (shelves : List (List (Text × ℕ)))
+        (past : List Step) →
         WentOn language roots shelves past → AreFresh (world_after language roots shelves past) }
 {}
 
 /// Where a client is caught up, a name is in a fresh load of its own roots at a version exactly where a
 /// live instance of that name has that version.
 pub fn live_instances_are_a_fresh_load()
-    ensures { (language : Language) (roots : List Name) (shelves : List (List (Text × ℕ))) (past : List Step) →
+    ensures { (language : Language) (roots : List Name) (shelves : List (List (Text × ℕ)))
+        (past : List Step) →
         WentOn language roots shelves past → HaveFreshInstances (world_after language roots shelves past) }
 {}
 
@@ -33,7 +35,8 @@ pub fn live_instances_are_a_fresh_load()
 /// export is at an edge at which the client is stale: what the importer holds isn't the dependency's live
 /// instance.
 pub fn unlinked_imports_are_stale()
-    ensures { (language : Language) (roots : List Name) (shelves : List (List (Text × ℕ))) (past : List Step) →
+    ensures { (language : Language) (roots : List Name) (shelves : List (List (Text × ℕ)))
+        (past : List Step) →
         WentOn language roots shelves past → AreUnlinkedStale language (world_after language roots shelves past) }
 {}
 
@@ -41,8 +44,12 @@ pub fn unlinked_imports_are_stale()
 /// takes the new counter and is caught up, it is stale at that one edge, and a fresh load of the page has
 /// that one import that isn't exported.
 pub fn hidden_count_is_stale()
-    ensures client { (world_step hiding.language hiding.roots hiding.shelves (world_after hiding.language hiding.roots hiding.shelves hidden) (show 1)).lines ≡ Some (line.Client 1 Up ∷ line.Module c 3 ∷ line.Module m 1 ∷ line.Stale m c ∷ []) }
-    ensures load { (world_step hiding.language hiding.roots hiding.shelves (world_after hiding.language hiding.roots hiding.shelves hidden) fresh).lines ≡ Some (line.Fresh ∷ line.Module c 3 ∷ line.Module m 1 ∷ line.Unlinked m c count ∷ []) }
+    ensures client { let w = world_after hiding.language hiding.roots hiding.shelves hidden in
+        (world_step hiding.language hiding.roots hiding.shelves w (show 1)).lines ≡
+        Some (line.Client 1 Up ∷ line.Module c 3 ∷ line.Module m 1 ∷ line.Stale m c ∷ []) }
+    ensures load { let w = world_after hiding.language hiding.roots hiding.shelves hidden in
+        (world_step hiding.language hiding.roots hiding.shelves w fresh).lines ≡
+        Some (line.Fresh ∷ line.Module c 3 ∷ line.Module m 1 ∷ line.Unlinked m c count ∷ []) }
 {}
 
 /// Wherever a client shows that it is up, the modules and versions that it writes are exactly those that

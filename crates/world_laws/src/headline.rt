@@ -24,7 +24,8 @@ ghost use Rattle.world_laws.specs.Quiet.{IsSettled, AreQuiet, IsUpAmongLooks};
 ghost use Rattle.world_laws.specs.Runs.{Run, sources_of, served_of, life_in, HasClient, next_reply, IsReloadTurn};
 
 /// The headline, part by part, of every run and of each client that is open in it. `r` is the client, and
-/// `c` is what the server keeps of it.
+/// `c` is what the server keeps of it. A run goes on as long as no client would make more instances than
+/// it may.
 ///
 /// `fresh_load`: a caught-up client holds exactly a fresh load of the served sources, of its own roots. A
 /// name is in that load at a version exactly where a live instance of the name has that version.
@@ -38,8 +39,9 @@ ghost use Rattle.world_laws.specs.Runs.{Run, sources_of, served_of, life_in, Has
 /// update made a new instance of the dependency in place of a live one, and left the importer's as it was.
 ///
 /// `full_reload`: the server answers the client's next request by a full reload exactly where the client
-/// asks what there is to do, and an unaccepted path from what is changed or invalidated reaches a root
-/// that doesn't accept itself or is invalidated, or a module that declines.
+/// asks what there is to do, its page is loaded, it isn't held, it is to be told no fault and to prune
+/// nothing first, and an unaccepted path from what is changed or invalidated reaches a root that doesn't
+/// accept itself or is invalidated, or a module that declines.
 ///
 /// `catches_up`: and a client does catch up. Where every result came and the fresh load of its roots is
 /// whole, some number of its turns, at most the bound of its debt, leaves it caught up, with any shows,

@@ -13,7 +13,8 @@ ghost use Rattle.world_laws.specs.Kept.{WorldFacts};
 /// give it up.
 pub fn world_facts_are_kept()
     ensures first { (language : Language) → WorldFacts language new_world }
-    ensures step { (language : Language) (roots : List Name) (shelves : List (List (Text × ℕ))) (w : World) (s : Step) →
+    ensures step { (language : Language) (roots : List Name) (shelves : List (List (Text × ℕ)))
+        (w : World) (s : Step) →
         WorldFacts language w → is_some (world_step language roots shelves w s).lines ≡ true →
         WorldFacts language (world_step language roots shelves w s).world }
 {}

@@ -57,13 +57,15 @@ pub fn quiet_turn_lowers_the_debt()
 /// So the client is caught up after at most as many such turns as its debt, with nothing else between
 /// them; and hence after at most as many as the bound of its debt.
 pub fn client_catches_up()
-    ensures debt { (language : Language) (roots : List Name) (shelves : List (List (Text × ℕ))) (past : List Step)
+    ensures debt { (language : Language) (roots : List Name) (shelves : List (List (Text × ℕ)))
+        (past : List Step)
         (i : ℕ) (c : Client) (r : Runtime) → let w = world_after language roots shelves past in
         let owed = debt w.core.sources c r in
         WentOn language roots shelves past → BindsImports language → IsSettled language c.roots w.core.sources →
         IsOpen w i c r → AreQuiet language roots shelves i owed past →
         IsUpWithin language roots shelves i owed past }
-    ensures bound { (language : Language) (roots : List Name) (shelves : List (List (Text × ℕ))) (past : List Step)
+    ensures bound { (language : Language) (roots : List Name) (shelves : List (List (Text × ℕ)))
+        (past : List Step)
         (i : ℕ) (c : Client) (r : Runtime) → let w = world_after language roots shelves past in
         let most = largest_debt w.core.sources c r in
         WentOn language roots shelves past → BindsImports language → IsSettled language c.roots w.core.sources →
@@ -73,20 +75,22 @@ pub fn client_catches_up()
 
 /// Steps that only look, as shows, values, fates and fresh loads, leave the world as it was.
 pub fn looks_change_nothing()
-    ensures { (language : Language) (roots : List Name) (shelves : List (List (Text × ℕ))) (w : World) (s : Step) →
-        looks s ≡ true → (world_step language roots shelves w s).world ≡ w }
+    ensures { (language : Language) (roots : List Name) (shelves : List (List (Text × ℕ)))
+        (w : World) (s : Step) → looks s ≡ true → (world_step language roots shelves w s).world ≡ w }
 {}
 
 /// So a client catches up among them as without them: there is a number of turns, at most its debt, and so
 /// at most the bound of that, after which it is caught up whatever looks come between.
 pub fn client_catches_up_among_looks()
-    ensures debt { (language : Language) (roots : List Name) (shelves : List (List (Text × ℕ))) (past : List Step)
+    ensures debt { (language : Language) (roots : List Name) (shelves : List (List (Text × ℕ)))
+        (past : List Step)
         (i : ℕ) (c : Client) (r : Runtime) → let w = world_after language roots shelves past in
         let owed = debt w.core.sources c r in
         WentOn language roots shelves past → BindsImports language → IsSettled language c.roots w.core.sources →
         IsOpen w i c r → AreQuiet language roots shelves i owed past →
         IsUpAmongLooks language roots shelves i owed past }
-    ensures bound { (language : Language) (roots : List Name) (shelves : List (List (Text × ℕ))) (past : List Step)
+    ensures bound { (language : Language) (roots : List Name) (shelves : List (List (Text × ℕ)))
+        (past : List Step)
         (i : ℕ) (c : Client) (r : Runtime) → let w = world_after language roots shelves past in
         let most = largest_debt w.core.sources c r in
         WentOn language roots shelves past → BindsImports language → IsSettled language c.roots w.core.sources →
