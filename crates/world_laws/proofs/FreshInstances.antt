@@ -6,7 +6,6 @@ use Prim.{⊥}
 use Rattle.std.proofs.Math.Path.{subst}
 use Rattle.std.proofs.lemmas.Bool.{false≢true}
 use Rattle.std.proofs.lemmas.Option.{same_Some}
-use Rattle.hmr_types.specs.declared.analysis.Analysis.{Analysis}
 use Rattle.hmr_types.specs.declared.analysis.Outcome.TheVariants.{Good}
 use Rattle.core_model.specs.Names.{Name, same_name, has, at}
 use Rattle.core_model.specs.Sources.{Text, Serving}
@@ -23,10 +22,9 @@ use Rattle.core_laws.specs.Fresh.{IsUpToDate, IsFreshLoad}
 use Rattle.core_laws.specs.Given.{entry_of}
 use Rattle.client_model.specs.Language.{Language}
 use Rattle.client_model.specs.Instance.{Instance, is_live, live_at}
-use Rattle.client_model.specs.Linking.{number_in}
 use Rattle.client_model.specs.Runtime.{Runtime, Opening}
 use Rattle.client_model.specs.Past.{Past, runtime_after}
-use Rattle.client_model.specs.Stale.{live_number, link_in, link_of, IsStale}
+use Rattle.client_model.specs.Stale.{live_number, link_in, IsStale}
 use Rattle.world_model.specs.World.{World, Step}
 use Rattle.world_model.specs.Steps.{world_after}
 use Rattle.world_model.specs.Ties.{TiedAt, WentOn}
@@ -35,13 +33,13 @@ use Rattle.world_laws.specs.Fresh.{HasInstancesAt, HaveFreshInstances}
 use Rattle.world_laws.specs.Instances.{IsLiveAs, HoldsOlder}
 use Rattle.world_laws.specs.Stops.{IsMadeBy}
 use Rattle.world_laws.specs.Taken.{Life, life_of}
-use Rattle.world_laws.proofs.Members.{map_in, MadeOf, map_from}
-use Rattle.world_laws.proofs.Frames.{Frame, frame, frames, is_of, live_one, found_in}
+use Rattle.world_laws.proofs.Members.{map_in}
+use Rattle.world_laws.proofs.Frames.{Frame, frame, frames, live_one, found_in}
 use Rattle.world_laws.proofs.Holding.{HoldsOf, live_is}
 use Rattle.world_laws.proofs.Messages.{run_holds}
-use Rattle.world_laws.proofs.Texts.{Fit, LiveFits, FitsIn}
+use Rattle.world_laws.proofs.Texts.{LiveFits, FitsIn}
 use Rattle.world_laws.proofs.Exporting.{Right, run_right}
-use Rattle.world_laws.proofs.Linked.{AllWhole, run_whole, same_analysis}
+use Rattle.world_laws.proofs.Linked.{AllWhole, run_whole}
 use Rattle.world_laws.proofs.Freshness.{core_made, fresh_in}
 use Rattle.world_laws.proofs.Following.{made_run}
 use Rattle.world_laws.proofs.VersionTexts.{the_live}

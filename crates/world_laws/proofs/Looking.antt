@@ -7,7 +7,7 @@ use Rattle.output_lines.specs.declared.out_line.OutLine.{OutLine}
 use Rattle.core_model.specs.Names.{Name}
 use Rattle.core_model.specs.Sources.{Text}
 use Rattle.core_model.specs.Core.{client_at}
-use Rattle.core_model.proofs.Naming.{both_true, cases_bool, or_cases}
+use Rattle.core_model.proofs.Naming.{both_true, cases_bool}
 use Rattle.client_model.specs.Language.{Language}
 use Rattle.client_model.specs.Runtime.{Runtime}
 use Rattle.world_model.specs.World.{World, Step, edits, settles, opens, turn, closes, show, values, fates, fresh, fresh_of, fires}

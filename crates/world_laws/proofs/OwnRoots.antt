@@ -10,7 +10,7 @@ use Rattle.core_model.specs.Names.{Name}
 use Rattle.core_model.specs.Sources.{Text, Change, edit, result}
 use Rattle.core_model.specs.Roots.{are_bad, roots_or}
 use Rattle.core_model.specs.Client.{Client, new_client}
-use Rattle.core_model.specs.Core.{Core, client_at, with_client, without_client, told_of, after_change, is_full, if_room, connected, disconnected, admitted}
+use Rattle.core_model.specs.Core.{client_at, without_client, told_of, after_change, is_full, if_room, connected, disconnected, admitted}
 use Rattle.core_model.specs.Exchange.{message_for}
 use Rattle.core_model.proofs.Clients.{at_with, at_without, at_each}
 use Rattle.client_model.specs.Language.{Language}
@@ -22,7 +22,7 @@ use Rattle.world_model.specs.World.{World, Job, Step, edits, settles, opens, tur
 use Rattle.world_model.specs.Editing.{is_job, settle_job}
 use Rattle.world_model.specs.Turning.{turn_of, open_by, connected_as, close_of, shown, fire_of, opening_of}
 use Rattle.world_model.specs.Steps.{world_step, world_after}
-use Rattle.world_model.specs.Ties.{IsTied, TiedAt, WentOn}
+use Rattle.world_model.specs.Ties.{TiedAt, WentOn}
 use Rattle.world_model.proofs.Tying.{IsSound, change_roots, run_sound}
 use Rattle.world_laws.specs.Taken.{Life, message_too, in_turn, in_open, in_fire, lived_in, life_of}
 use Rattle.world_laws.proofs.TurnsTaken.{heard_by, heard_by_roots, Turned, turned}

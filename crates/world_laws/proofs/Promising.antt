@@ -1,7 +1,6 @@
 -- The parts of the headline, from the laws of the world and of the core.
-use Rattle.std.proofs.Common.{◌≡◌, ◌↔◌, ℕ, ◌≤◌, Bool, true, false, List, [], refl, ap, sym, ◌∙◌, arith, Contains}
-use Rattle.std.specs.Prelude.{Option, Some, None, if◌then◌else◌}
-use Prim.{⊥}
+use Rattle.std.proofs.Common.{◌≡◌, ◌↔◌, ℕ, ◌≤◌, Bool, true, false, List, refl, ap, sym, ◌∙◌, Contains}
+use Rattle.std.specs.Prelude.{Option, Some, None}
 use Rattle.std.proofs.Math.Path.{subst}
 use Rattle.std.proofs.lemmas.Bool.{false≢true}
 use Rattle.update_msgs.specs.declared.message.ClientMsg.{ClientMsg}
@@ -10,7 +9,7 @@ use Rattle.update_msgs.specs.declared.message.ServerMsg.{ServerMsg}
 use Rattle.update_msgs.specs.declared.message.ServerMsg.TheVariants as msg
 use Rattle.core_model.specs.Names.{Name, at}
 use Rattle.core_model.specs.Sources.{Sources}
-use Rattle.core_model.specs.FreshLoad.{fresh_table, missing_of}
+use Rattle.core_model.specs.FreshLoad.{fresh_table}
 use Rattle.core_model.specs.Page.{Plan}
 use Rattle.core_model.specs.Client.{Client}
 use Rattle.core_model.specs.Requests.{Reply, edited, settled, to_client, refused, gone, FetchRow, text, not_yet, broken, missing, fetch_row, fetched_in, fetch_reply, AppliedRow, unfetched, mismatch, done, applied_row, applied_reply, applied_in, aborted_in, is_at_version, invalidate_reply, invalidated_in}
@@ -18,19 +17,18 @@ use Rattle.core_model.specs.Core.{Core, client_at, step}
 use Rattle.core_model.specs.Exchange.{event_of}
 use Rattle.core_laws.specs.Reloading.{IsFullReload, IsReloadDue}
 use Rattle.core_laws.proofs.Replying.{reload_exactly}
-use Rattle.client_model.specs.Requesting.{request, request_by}
+use Rattle.client_model.specs.Requesting.{request}
 use Rattle.client_model.specs.Runtime.{Runtime}
-use Rattle.client_model.specs.Stale.{IsStale, stale_of}
+use Rattle.client_model.specs.Stale.{IsStale}
 use Rattle.module_language.specs.ModuleLanguage.{module_language}
 use Rattle.module_language.proofs.Binding.{module_texts_bind}
 use Rattle.world_model.specs.CaughtUp.{IsCaughtUp, largest_debt}
-use Rattle.world_model.specs.World.{World}
 use Rattle.world_model.specs.Ties.{IsTied, TiedAt}
 use Rattle.world_model.proofs.Tying.{run_sound}
 use Rattle.world_laws.specs.Fresh.{HoldsFreshLoad, IsFreshAt, HasInstancesAt}
 use Rattle.world_laws.specs.Instances.{IsLiveAs}
 use Rattle.world_laws.specs.Stops.{IsStopped, AreStops}
-use Rattle.world_laws.specs.Quiet.{IsOpen, IsSettled, AreQuiet, IsUpAmongLooks}
+use Rattle.world_laws.specs.Quiet.{IsSettled, AreQuiet, IsUpAmongLooks}
 use Rattle.world_laws.specs.Runs.{Run, world_of, sources_of, served_of, life_in, HasClient, next_reply, IsReloadTurn}
 use Rattle.world_laws.proofs.CatchingUp.{debt_bound}
 use Rattle.world_laws.proofs.Freshness.{are_fresh}

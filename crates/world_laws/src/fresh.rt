@@ -37,7 +37,8 @@ pub fn live_instances_are_a_fresh_load()
 pub fn unlinked_imports_are_stale()
     ensures { (language : Language) (roots : List Name) (shelves : List (List (Text × ℕ)))
         (past : List Step) →
-        WentOn language roots shelves past → AreUnlinkedStale language (world_after language roots shelves past) }
+        WentOn language roots shelves past →
+        AreUnlinkedStale language (world_after language roots shelves past) }
 {}
 
 /// So it is of a page whose counter hides the count that its main module imports and accepts: the client

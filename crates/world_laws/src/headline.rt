@@ -50,7 +50,8 @@ ghost use Rattle.world_laws.specs.Runs.{Run, sources_of, served_of, life_in, Has
 pub fn headline()
     ensures fresh_load { (run : Run) (i : ℕ) (c : Client) (r : Runtime) →
         HasClient run i c r → IsCaughtUp (sources_of run) c r →
-        (n : Name) (v : ℕ) → Contains (fresh_table (served_of run) r.roots) (n, v) ↔ IsLiveAs r.instances n v }
+        (n : Name) (v : ℕ) →
+        Contains (fresh_table (served_of run) r.roots) (n, v) ↔ IsLiveAs r.instances n v }
     ensures nothing_missing { (run : Run) (i : ℕ) (c : Client) (r : Runtime) →
         HasClient run i c r → IsCaughtUp (sources_of run) c r → missing_of (served_of run) r.roots ≡ [] }
     ensures own_roots { (run : Run) (i : ℕ) (c : Client) (r : Runtime) →

@@ -5,7 +5,8 @@
 //!
 //! Each law is the clause of a public function with an empty body; nothing here runs. Stands on the
 //! models of the core, the client and the world, whose definitions it speaks of, and on the module
-//! language. Keeps: no law has a premise that a run of the world can't meet. Knows nothing of bytes, threads or time.
+//! language. Keeps: no law has a premise that a run of the world can't meet. Knows nothing of bytes,
+//! threads or time.
 #![tactic(auto)]
 
 pub mod catching_up;

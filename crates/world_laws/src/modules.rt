@@ -23,7 +23,8 @@ pub fn quiet_module_turn_lowers_the_debt()
     ensures { (roots : List Name) (shelves : List (List (Text × ℕ))) (past : List Step)
         (i : ℕ) (c : Client) (r : Runtime) → let w = world_after module_language roots shelves past in
         WentOn module_language roots shelves past → IsSettled module_language c.roots w.core.sources →
-        IsOpen w i c r → (IsCaughtUp w.core.sources c r → ⊥) → AreQuiet module_language roots shelves i 1 past →
+        IsOpen w i c r → (IsCaughtUp w.core.sources c r → ⊥) →
+        AreQuiet module_language roots shelves i 1 past →
         OwesLess (world_after module_language roots shelves (turn i ∷ past)) i (debt w.core.sources c r) }
 {}
 

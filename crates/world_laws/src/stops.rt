@@ -17,7 +17,8 @@ pub fn clients_follow_their_past()
     ensures { (language : Language) (roots : List Name) (shelves : List (List (Text × ℕ)))
         (past : List Step) (i : ℕ) →
         let life = life_of language roots shelves past i in WentOn language roots shelves past →
-        IsMadeBy language life.opening life.past (client_at (world_after language roots shelves past).clients i) }
+        IsMadeBy language life.opening life.past
+        (client_at (world_after language roots shelves past).clients i) }
 {}
 
 /// After every list of steps each open client is stale exactly at the edges at which applied updates
@@ -27,11 +28,13 @@ pub fn stale_edges_are_stops()
     ensures listed { (language : Language) (roots : List Name) (shelves : List (List (Text × ℕ)))
         (past : List Step) (i : ℕ) →
         let life = life_of language roots shelves past i in WentOn language roots shelves past →
-        AreListedStops language life.opening life.past (client_at (world_after language roots shelves past).clients i) }
+        AreListedStops language life.opening life.past
+        (client_at (world_after language roots shelves past).clients i) }
     ensures exactly { (language : Language) (roots : List Name) (shelves : List (List (Text × ℕ)))
         (past : List Step) (i : ℕ) →
         let life = life_of language roots shelves past i in WentOn language roots shelves past →
-        AreStops language life.opening life.past (client_at (world_after language roots shelves past).clients i) }
+        AreStops language life.opening life.past
+        (client_at (world_after language roots shelves past).clients i) }
 {}
 
 /// At each edge at which an update stopped whose walk met the importer, the importer accepted the
@@ -41,5 +44,6 @@ pub fn stops_are_accepted()
     ensures { (language : Language) (roots : List Name) (shelves : List (List (Text × ℕ)))
         (past : List Step) (i : ℕ) →
         let life = life_of language roots shelves past i in WentOn language roots shelves past →
-        AreStopsAccepted language life.opening life.past (client_at (world_after language roots shelves past).clients i) }
+        AreStopsAccepted language life.opening life.past
+        (client_at (world_after language roots shelves past).clients i) }
 {}

@@ -39,7 +39,8 @@ pub fn causes_go_with_plans()
 /// something to be served. This is of a language in which the bindings of each module's text are from
 /// the module's imports.
 pub fn held_client_has_no_whole_load()
-    ensures { (language : Language) (roots : List Name) → BindsImports language → EachClient language roots (λ s c r.
+    ensures { (language : Language) (roots : List Name) → BindsImports language →
+        EachClient language roots (λ s c r.
         is_some c.page.plan ≡ false → is_held s c ≡ true → IsServedWhole language c.roots s → ⊥) }
 {}
 
@@ -49,7 +50,8 @@ pub fn held_client_has_no_whole_load()
 pub fn quiet_turn_lowers_the_debt()
     ensures { (language : Language) (roots : List Name) (shelves : List (List (Text × ℕ))) (past : List Step)
         (i : ℕ) (c : Client) (r : Runtime) → let w = world_after language roots shelves past in
-        WentOn language roots shelves past → BindsImports language → IsSettled language c.roots w.core.sources →
+        WentOn language roots shelves past → BindsImports language →
+        IsSettled language c.roots w.core.sources →
         IsOpen w i c r → (IsCaughtUp w.core.sources c r → ⊥) → AreQuiet language roots shelves i 1 past →
         OwesLess (world_after language roots shelves (turn i ∷ past)) i (debt w.core.sources c r) }
 {}
@@ -61,14 +63,16 @@ pub fn client_catches_up()
         (past : List Step)
         (i : ℕ) (c : Client) (r : Runtime) → let w = world_after language roots shelves past in
         let owed = debt w.core.sources c r in
-        WentOn language roots shelves past → BindsImports language → IsSettled language c.roots w.core.sources →
+        WentOn language roots shelves past → BindsImports language →
+        IsSettled language c.roots w.core.sources →
         IsOpen w i c r → AreQuiet language roots shelves i owed past →
         IsUpWithin language roots shelves i owed past }
     ensures bound { (language : Language) (roots : List Name) (shelves : List (List (Text × ℕ)))
         (past : List Step)
         (i : ℕ) (c : Client) (r : Runtime) → let w = world_after language roots shelves past in
         let most = largest_debt w.core.sources c r in
-        WentOn language roots shelves past → BindsImports language → IsSettled language c.roots w.core.sources →
+        WentOn language roots shelves past → BindsImports language →
+        IsSettled language c.roots w.core.sources →
         IsOpen w i c r → AreQuiet language roots shelves i most past →
         IsUpWithin language roots shelves i most past }
 {}
@@ -86,14 +90,16 @@ pub fn client_catches_up_among_looks()
         (past : List Step)
         (i : ℕ) (c : Client) (r : Runtime) → let w = world_after language roots shelves past in
         let owed = debt w.core.sources c r in
-        WentOn language roots shelves past → BindsImports language → IsSettled language c.roots w.core.sources →
+        WentOn language roots shelves past → BindsImports language →
+        IsSettled language c.roots w.core.sources →
         IsOpen w i c r → AreQuiet language roots shelves i owed past →
         IsUpAmongLooks language roots shelves i owed past }
     ensures bound { (language : Language) (roots : List Name) (shelves : List (List (Text × ℕ)))
         (past : List Step)
         (i : ℕ) (c : Client) (r : Runtime) → let w = world_after language roots shelves past in
         let most = largest_debt w.core.sources c r in
-        WentOn language roots shelves past → BindsImports language → IsSettled language c.roots w.core.sources →
+        WentOn language roots shelves past → BindsImports language →
+        IsSettled language c.roots w.core.sources →
         IsOpen w i c r → AreQuiet language roots shelves i most past →
         IsUpAmongLooks language roots shelves i most past }
 {}
