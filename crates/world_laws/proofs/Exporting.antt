@@ -185,7 +185,7 @@ came_right language (message m) = all_right language m
 came_right language (event n value) = tt
 
 module _ (language : Language) (opening : Opening) where
-  run_right : (past : Past) → FitsIn (Right language) (runtime_after language opening past)
+  pub run_right : (past : Past) → FitsIn (Right language) (runtime_after language opening past)
   run_right [] = record { planned = tt; live = λ n. tt }
   run_right (came ∷ past) = met_fits language (Right language) (runtime_after language opening past) (run_holds language opening past) (run_right past) came (came_right language came)
 

@@ -46,51 +46,53 @@ pub record IsMade (roots : List Name) (core : Core) : Type 0 where
   pub events : List Event
   pub made : core ≡ core_after roots events
 
-one_more : (roots : List Name) (core : Core) (event : Event) → IsMade roots core → IsMade roots (step roots core event).0
-one_more roots core event h = record { events = event ∷ h.events; made = ap (λ c. (step roots c event).0) h.made }
-
-settled_made : (language : Language) (roots : List Name) (n : Name) (v : ℕ) (w : World) (j : Option Job) → IsMade roots w.core → IsMade roots (settle_job language roots n v w j).world.core
-settled_made language roots n v w None h = h
-settled_made language roots n v w (Some j) h = one_more roots w.core (change (result n j.text (language.transformed n j.text) v)) h
-
 pub opened_core : (language : Language) (shelves : List (List (Text × ℕ))) (format : ℕ) (names : List Name) (w : World) (after : Core × Reply) (number : Option ℕ) → (opened_by language shelves format names w after number).world.core ≡ after.0
 opened_core language shelves format names w after None = refl
 opened_core language shelves format names w after (Some i) = refl
 
-turned_made : (language : Language) (roots : List Name) (i : ℕ) (w : World) (r : Option Runtime) → IsMade roots w.core → IsMade roots (turn_of language roots i w r).world.core
-turned_made language roots i w None h = h
-turned_made language roots i w (Some r) h = one_more roots w.core (event_of i (requesting.request language r)) h
+-- what each event of the core keeps, each step of the world keeps of its core
+module _ (language : Language) (roots : List Name) (P : Core → Type 0) (more : (core : Core) (event : Event) → P core → P (step roots core event).0) where
+  settled_core : (n : Name) (v : ℕ) (w : World) (j : Option Job) → P w.core → P (settle_job language roots n v w j).world.core
+  settled_core n v w None h = h
+  settled_core n v w (Some j) h = more w.core (change (result n j.text (language.transformed n j.text) v)) h
 
-closed_made : (roots : List Name) (i : ℕ) (w : World) (r : Option Runtime) → IsMade roots w.core → IsMade roots (close_of roots i w r).world.core
-closed_made roots i w None h = h
-closed_made roots i w (Some r) h = one_more roots w.core (disconnect i) h
+  turned_core : (i : ℕ) (w : World) (r : Option Runtime) → P w.core → P (turn_of language roots i w r).world.core
+  turned_core i w None h = h
+  turned_core i w (Some r) h = more w.core (event_of i (requesting.request language r)) h
 
-shown_made : (roots : List Name) (i : ℕ) (w : World) (lines : Runtime → List OutLine) (r : Option Runtime) → IsMade roots w.core → IsMade roots (shown i w lines r).world.core
-shown_made roots i w lines None h = h
-shown_made roots i w lines (Some r) h = h
+  closed_core : (i : ℕ) (w : World) (r : Option Runtime) → P w.core → P (close_of roots i w r).world.core
+  closed_core i w None h = h
+  closed_core i w (Some r) h = more w.core (disconnect i) h
 
-fired_made : (language : Language) (roots : List Name) (i : ℕ) (n : Name) (value : Value) (w : World) (r : Option Runtime) → IsMade roots w.core → IsMade roots (fire_of language i n value w r).world.core
-fired_made language roots i n value w None h = h
-fired_made language roots i n value w (Some r) h = h
+  shown_core : (i : ℕ) (w : World) (lines : Runtime → List OutLine) (r : Option Runtime) → P w.core → P (shown i w lines r).world.core
+  shown_core i w lines None h = h
+  shown_core i w lines (Some r) h = h
 
-step_made : (language : Language) (roots : List Name) (shelves : List (List (Text × ℕ))) (w : World) (s : Step) → IsMade roots w.core → IsMade roots (world_step language roots shelves w s).world.core
-step_made language roots shelves w (edits n t) h = one_more roots w.core (change (edit n t)) h
-step_made language roots shelves w (settles n v) h = settled_made language roots n v w (find (is_job n v) w.issued) h
-step_made language roots shelves w (opens format names) h =
-    let after : Core × Reply = step roots w.core (connect names) in
-    subst (IsMade roots) (sym (opened_core language shelves format names w after (connected_as (message_for format after.1)))) (one_more roots w.core (connect names) h)
-step_made language roots shelves w (turn i) h = turned_made language roots i w (client_at w.clients i) h
-step_made language roots shelves w (closes i) h = closed_made roots i w (client_at w.clients i) h
-step_made language roots shelves w (show i) h = shown_made roots i w _ (client_at w.clients i) h
-step_made language roots shelves w (values i) h = shown_made roots i w _ (client_at w.clients i) h
-step_made language roots shelves w (fates i) h = shown_made roots i w _ (client_at w.clients i) h
-step_made language roots shelves w fresh h = h
-step_made language roots shelves w (fresh_of i) h = shown_made roots i w _ (client_at w.clients i) h
-step_made language roots shelves w (fires i n value) h = fired_made language roots i n value w (client_at w.clients i) h
+  fired_core : (i : ℕ) (n : Name) (value : Value) (w : World) (r : Option Runtime) → P w.core → P (fire_of language i n value w r).world.core
+  fired_core i n value w None h = h
+  fired_core i n value w (Some r) h = h
+
+  pub step_core : (shelves : List (List (Text × ℕ))) (w : World) (s : Step) → P w.core → P (world_step language roots shelves w s).world.core
+  step_core shelves w (edits n t) h = more w.core (change (edit n t)) h
+  step_core shelves w (settles n v) h = settled_core n v w (find (is_job n v) w.issued) h
+  step_core shelves w (opens format names) h =
+      let after : Core × Reply = step roots w.core (connect names) in
+      subst P (sym (opened_core language shelves format names w after (connected_as (message_for format after.1)))) (more w.core (connect names) h)
+  step_core shelves w (turn i) h = turned_core i w (client_at w.clients i) h
+  step_core shelves w (closes i) h = closed_core i w (client_at w.clients i) h
+  step_core shelves w (show i) h = shown_core i w _ (client_at w.clients i) h
+  step_core shelves w (values i) h = shown_core i w _ (client_at w.clients i) h
+  step_core shelves w (fates i) h = shown_core i w _ (client_at w.clients i) h
+  step_core shelves w fresh h = h
+  step_core shelves w (fresh_of i) h = shown_core i w _ (client_at w.clients i) h
+  step_core shelves w (fires i n value) h = fired_core i n value w (client_at w.clients i) h
+
+one_more : (roots : List Name) (core : Core) (event : Event) → IsMade roots core → IsMade roots (step roots core event).0
+one_more roots core event h = record { events = event ∷ h.events; made = ap (λ c. (step roots c event).0) h.made }
 
 pub core_made : (language : Language) (roots : List Name) (shelves : List (List (Text × ℕ))) (past : List Step) → IsMade roots (world_after language roots shelves past).core
 core_made language roots shelves [] = record { events = []; made = refl }
-core_made language roots shelves (s ∷ past) = step_made language roots shelves (world_after language roots shelves past) s (core_made language roots shelves past)
+core_made language roots shelves (s ∷ past) = step_core language roots (IsMade roots) (one_more roots) shelves (world_after language roots shelves past) s (core_made language roots shelves past)
 
 -- What is caught up is fresh.
 

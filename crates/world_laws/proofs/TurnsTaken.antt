@@ -61,7 +61,7 @@ abbrev pub is_answered : Bool → ClientMsg → Option ServerMsg → Bool
 is_answered loaded asked None = true
 is_answered loaded asked (Some m) = is_answer loaded asked m
 
-abbrev IsRequest : ClientMsg → Type 0
+abbrev pub IsRequest : ClientMsg → Type 0
 IsRequest (told.Hello format names) = ⊥
 IsRequest told.Ask = ⊤
 IsRequest (told.Fetch n) = ⊤
@@ -91,11 +91,11 @@ by_unsent : (unsent : List Invalidation) → IsRequest (ask_or_invalidate unsent
 by_unsent [] = tt
 by_unsent (i ∷ more) = tt
 
-is_request : (plan : Option Plan) (language : Language) (r : Runtime) → IsRequest (request_by plan language r)
+pub is_request : (plan : Option Plan) (language : Language) (r : Runtime) → IsRequest (request_by plan language r)
 is_request None language r = by_unsent r.unsent
 is_request (Some p) language r = by_found r.cause language p r
 
-step_by : (asked : ClientMsg) (roots : List Name) (i : ℕ) (core : Core) (c : Client) → IsRequest asked → client_at core.clients i ≡ Some c
+pub step_by : (asked : ClientMsg) (roots : List Name) (i : ℕ) (core : Core) (c : Client) → IsRequest asked → client_at core.clients i ≡ Some c
     → step roots core (event_of i asked) ≡ (record core { clients = with_client i (heard_by asked i core.sources c).0 core.clients }, (heard_by asked i core.sources c).1)
 step_by (told.Hello format names) roots i core c h e = absurd h
 step_by told.Ask roots i core c h e = ap (λ o. requested o i core ask) e
@@ -109,7 +109,7 @@ not_new : (b : Bool) (x y : ClientMsg) → (b ≡ true → ⊥) → (if b then x
 not_new true x y f = absurd (f refl)
 not_new false x y f = refl
 
-request_is : (language : Language) (r : Runtime) → 1 ≤ r.client → request language r ≡ request_by r.page.plan language r
+pub request_is : (language : Language) (r : Runtime) → 1 ≤ r.client → request language r ≡ request_by r.page.plan language r
 request_is language r counted = not_new (r.client == 0) _ _ (λ h. omega (arith, counted, eqb-true r.client 0 h))
 
 -- an answer that was understood and that goes on is taken

@@ -101,7 +101,7 @@ module _ (language : Language) (roots : List Name) (served : Served) where
       module_from k.of (at served k.of) q ((has_is (reached_by served roots) k.of).0 k.there) refl k.gives
 
 -- the live instance of a name is of what is served of it
-record IsLiveAs (r : Runtime) (n : Name) (s : Serving) : Type 0 where
+record IsLiveServed (r : Runtime) (n : Name) (s : Serving) : Type 0 where
   instance : Instance
   found : live_at r.instances n ≡ Some instance
   made : Contains r.instances instance
@@ -114,13 +114,13 @@ module _ (language : Language) (roots : List Name) (served : Served) (by : Name 
   entry_is : (n : Name) (s : Serving) → has (reached_by served roots) n ≡ true → at served n ≡ Some s → at r.page.view n ≡ entry_of (Some s)
   entry_is n s reached e = entries n ∙ ap (λ b. if b then entry_of (at served n) else None) reached ∙ ap entry_of e
 
-  live_as : (n : Name) (s : Serving) → has (reached_by served roots) n ≡ true → at served n ≡ Some s → IsLiveAs r n s
+  live_as : (n : Name) (s : Serving) → has (reached_by served roots) n ≡ true → at served n ≡ Some s → IsLiveServed r n s
   live_as n s reached e = by_live (live_at r.instances n) refl
     where
       entry : at r.page.view n ≡ entry_of (Some s)
       entry = entry_is n s reached e
 
-      by_live : (o : Option Instance) → live_at r.instances n ≡ o → IsLiveAs r n s
+      by_live : (o : Option Instance) → live_at r.instances n ≡ o → IsLiveServed r n s
       by_live None f = absurd (false≢true (sym (ap (λ o. is_some (option_map frame o)) f) ∙ sym (ap is_some (live_is r.instances n)) ∙ h.live n ∙ ap is_some entry))
       by_live (Some i) f =
           let there = found_in (λ (k : Instance). is_live k && same_name k.name n) r.instances i f in
@@ -139,13 +139,13 @@ module _ (language : Language) (roots : List Name) (served : Served) (by : Name 
   stale_at : (n m x : Name) → Unlinked language roots served n m x → IsStale r n m
   stale_at n m x u = record { live = ap is_some i.found; importing = importing; older = λ e. false≢true (sym u.missing ∙ held e) }
     where
-      i : IsLiveAs r n u.importer
+      i : IsLiveServed r n u.importer
       i = live_as n u.importer u.reached u.importer_is
 
       reached : has (reached_by served roots) m ≡ true
       reached = (reached_is served roots m).1 (reaches_on (fresh.imports served) roots n m ((reached_is served roots n).0 u.reached) (ap (λ o. has (imports_in o) m) u.importer_is ∙ u.imported))
 
-      j : IsLiveAs r m u.dependency
+      j : IsLiveServed r m u.dependency
       j = live_as m u.dependency reached u.dependency_is
 
       importing : has (imports_of (at r.page.view n)) m ≡ true

@@ -79,7 +79,7 @@ only_one (g ∷ []) f l c = by (in_cases g [] f c)
     by (inr t) = absurd (none_in f t)
 only_one (g ∷ (h ∷ fs)) f l c = absurd (omega (arith, l))
 
-the_live : (fs : List Frame) (f : Frame) → Contains fs f → f.live ≡ true → live_count fs f.name ≤ 1 → live_one fs f.name ≡ Some f
+pub the_live : (fs : List Frame) (f : Frame) → Contains fs f → f.live ≡ true → live_count fs f.name ≤ 1 → live_one fs f.name ≡ Some f
 the_live fs f c l one = find_first (is_of f.name) fs ∙ only_one (filter (is_of f.name) fs) f one (filter_in (is_of f.name) fs f c (ap (λ b. b && same_name f.name f.name) l ∙ true_same f.name f.name refl))
 
 module _ (language : Language) (by : Name → ℕ → Option Text) where

@@ -1,5 +1,5 @@
 -- What a caught-up client holds, and what it shows of it.
-use Rattle.std.specs.Prelude.{◌≡◌, ℕ, List, [], ◌++◌, map, Contains, Option, Some, None, ⊤}
+use Rattle.std.specs.Prelude.{◌≡◌, ◌↔◌, ℕ, List, [], ◌++◌, map, Contains, Option, Some, None, ⊤}
 use Prim.{⊥}
 use Rattle.output_lines.specs.declared.out_line.OutLine.{OutLine}
 use Rattle.core_model.specs.Names.{Name}
@@ -12,6 +12,7 @@ use Rattle.client_model.specs.Stale.{IsStale}
 use Rattle.client_model.specs.Printing.{table, module_line, stale_line}
 use Rattle.world_model.specs.World.{World}
 use Rattle.world_model.specs.CaughtUp.{IsCaughtUp}
+use Rattle.world_laws.specs.Instances.{IsLiveAs}
 
 -- the client's modules with their versions are those of a fresh load of its own roots, in its order, and
 -- the fresh load misses nothing
@@ -28,6 +29,17 @@ IsFreshAt w (Some c) (Some r) = IsCaughtUp w.core.sources c r → HoldsFreshLoad
 -- each client that is caught up holds a fresh load
 abbrev pub AreFresh : World → Type 0
 AreFresh w = (i : ℕ) → IsFreshAt w (client_at w.core.clients i) (client_at w.clients i)
+
+-- where the client is caught up, a name is in the fresh load of its own roots at a version exactly where a
+-- live instance of the name has that version
+abbrev pub HasInstancesAt : World → Option Client → Option Runtime → Type 0
+HasInstancesAt w c None = ⊤
+HasInstancesAt w None (Some r) = ⊤
+HasInstancesAt w (Some c) (Some r) = IsCaughtUp w.core.sources c r → (n : Name) (v : ℕ) → Contains (fresh_table w.core.sources.served r.roots) (n, v) ↔ IsLiveAs r.instances n v
+
+-- the same of each client
+abbrev pub HaveFreshInstances : World → Type 0
+HaveFreshInstances w = (i : ℕ) → HasInstancesAt w (client_at w.core.clients i) (client_at w.clients i)
 
 -- the lines are those of the modules of a fresh load of these roots, and behind them stale edges alone; and the fresh
 -- load misses nothing

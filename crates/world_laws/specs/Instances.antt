@@ -1,8 +1,12 @@
 -- Numbers and links of a client's instances, and what they export.
-use Rattle.std.specs.Prelude.{◌≡◌, ℕ, suc, ◌≤◌, true, List, [], ◌∷◌, length, Contains, ⊤}
-use Rattle.core_model.specs.Names.{Name, has}
+use Rattle.std.specs.Prelude.{◌≡◌, ◌≢◌, ℕ, suc, ◌≤◌, true, List, [], ◌∷◌, length, Contains, Some, is_some, ⊤}
+use Rattle.hmr_types.specs.declared.analysis.Analysis.{Analysis}
+use Rattle.hmr_types.specs.declared.analysis.Outcome.TheVariants.{Good}
+use Rattle.core_model.specs.Names.{Name, has, at}
 use Rattle.client_model.specs.Language.{Language, Binding}
-use Rattle.client_model.specs.Instance.{Instance}
+use Rattle.client_model.specs.Instance.{Instance, is_live}
+use Rattle.client_model.specs.Runtime.{Runtime}
+use Rattle.client_model.specs.Stale.{live_number}
 
 -- each instance has as its number the place at which it was made; the newest stands first
 abbrev pub AreNumbered : List Instance → Type 0
@@ -35,3 +39,29 @@ AreExported language instances = (i : Instance) → Contains instances i → (b 
 pub record AreCounted (instances : List Instance) : Type 0 where
   pub numbers : (i : Instance) → Contains instances i → (1 ≤ i.number) × (i.number ≤ length instances)
   pub links : (i : Instance) → Contains instances i → (x : Name) (k : ℕ) → Contains i.links (x, k) → (1 ≤ k) × (k ≤ length instances)
+
+-- where the instance's text has a good analysis, its links are of exactly the imports
+abbrev pub IsLinkedWhole : Language → Instance → Type 0
+IsLinkedWhole language i = (a : Analysis) → language.transformed i.name i.text ≡ Good a → (x : Name) → is_some (at i.links x) ≡ has a.imports x
+
+-- each does
+abbrev pub AreLinkedWhole : Language → List Instance → Type 0
+AreLinkedWhole language instances = (i : Instance) → Contains instances i → IsLinkedWhole language i
+
+-- a live instance of n has version v
+pub record IsLiveAs (instances : List Instance) (n : Name) (v : ℕ) : Type 0 where
+  pub instance : Instance
+  pub made : Contains instances instance
+  pub live : is_live instance ≡ true
+  pub name : instance.name ≡ n
+  pub version : instance.version ≡ v
+
+-- a live instance of b imports x, and the number that it holds for x isn't that of x's live instance
+pub record HoldsOlder (r : Runtime) (b x : Name) : Type 0 where
+  pub instance : Instance
+  pub made : Contains r.instances instance
+  pub live : is_live instance ≡ true
+  pub name : instance.name ≡ b
+  pub held : ℕ
+  pub link : at instance.links x ≡ Some held
+  pub older : live_number r x ≢ Some held

@@ -9,3 +9,5 @@ pub mod Quiet
 pub mod CounterTurns
 pub mod SmallTexts
 pub mod HiddenTurns
+pub mod Runs
+pub mod Kept

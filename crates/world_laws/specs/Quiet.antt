@@ -1,5 +1,6 @@
 -- Turns of one client, and what they leave of its plan, its cause to give one up, and its debt.
-use Rattle.std.specs.Prelude.{◌≡◌, ◌<◌, ◌≤◌, ℕ, zero, suc, true, false, List, [], ◌∷◌, length, Option, Some, None, is_some, ⊤}
+use Rattle.std.specs.Prelude.{◌≡◌, ◌<◌, ◌≤◌, ◌==◌, ◌||◌, ℕ, zero, suc, Bool, true, false, List, [], ◌∷◌, ◌++◌, length, filter, Option, Some, None, is_some, ⊤}
+use Rattle.std.specs.List.{list_all}
 use Prim.{⊥}
 use Rattle.core_model.specs.Names.{Name, has, at}
 use Rattle.core_model.specs.Sources.{Text, Sources, Source, Serving, is_outstanding}
@@ -10,7 +11,7 @@ use Rattle.core_model.specs.Core.{client_at}
 use Rattle.client_model.specs.Language.{Language, links_of, BindsImports}
 use Rattle.client_model.specs.Runtime.{Runtime, Cause, missing, broken, unlinked}
 use Rattle.world_model.specs.CaughtUp.{IsCaughtUp, debt}
-use Rattle.world_model.specs.World.{World, Step, turn}
+use Rattle.world_model.specs.World.{World, Step, edits, settles, opens, turn, closes, show, values, fates, fresh, fresh_of, fires}
 use Rattle.world_model.specs.Steps.{world_step, world_after}
 use Rattle.world_model.specs.Ties.{WentOn}
 
@@ -139,3 +140,47 @@ debt_in w i = debt_at w.core.sources (client_at w.core.clients i) (client_at w.c
 abbrev pub debts : Language → List Name → List (List (Text × ℕ)) → ℕ → ℕ → List Step → List ℕ
 debts language roots shelves i zero past = debt_in (world_after language roots shelves past) i ∷ []
 debts language roots shelves i (suc k) past = debt_in (world_after language roots shelves past) i ∷ debts language roots shelves i k (turn i ∷ past)
+
+-- Steps that only look.
+
+-- it shows a client or a fresh load, and changes nothing
+abbrev pub looks : Step → Bool
+looks (edits n t) = false
+looks (settles n v) = false
+looks (opens format names) = false
+looks (turn j) = false
+looks (closes j) = false
+looks (show j) = true
+looks (values j) = true
+looks (fates j) = true
+looks fresh = true
+looks (fresh_of j) = true
+looks (fires j n value) = false
+
+-- it is a turn of client i
+abbrev pub is_turn : ℕ → Step → Bool
+is_turn i (edits n t) = false
+is_turn i (settles n v) = false
+is_turn i (opens format names) = false
+is_turn i (turn j) = j == i
+is_turn i (closes j) = false
+is_turn i (show j) = false
+is_turn i (values j) = false
+is_turn i (fates j) = false
+is_turn i fresh = false
+is_turn i (fresh_of j) = false
+is_turn i (fires j n value) = false
+
+-- each is a turn of client i, or only looks
+abbrev pub are_turns_and_looks : ℕ → List Step → Bool
+are_turns_and_looks i steps = list_all (λ s. is_turn i s || looks s) steps
+
+-- how many are turns of client i
+abbrev pub turns_in : ℕ → List Step → ℕ
+turns_in i steps = length (filter (is_turn i) steps)
+
+-- client i is caught up after so many turns more, at most k, whatever looks come between them
+pub record IsUpAmongLooks (language : Language) (roots : List Name) (shelves : List (List (Text × ℕ))) (i k : ℕ) (past : List Step) : Type 0 where
+  pub taken : ℕ
+  pub few : taken ≤ k
+  pub up : (steps : List Step) → are_turns_and_looks i steps ≡ true → turns_in i steps ≡ taken → IsUp (world_after language roots shelves (steps ++ past)) i

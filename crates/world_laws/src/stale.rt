@@ -8,6 +8,7 @@ ghost use Rattle.client_model.specs.Instance.{live_at};
 ghost use Rattle.client_model.specs.Past.{Past, runtime_after};
 ghost use Rattle.client_model.specs.Stale.{IsStale, stale_of};
 ghost use Rattle.world_laws.specs.Edges.{edges_rise};
+ghost use Rattle.world_laws.specs.Instances.{HoldsOlder};
 
 /// The list of stale edges rises, by importer and then by dependency. It has exactly the edges that are
 /// stale, wherever each module of the page has a live instance; and so whatever came to it.
@@ -18,4 +19,11 @@ pub fn stale_edges_are_listed()
         (b x : Name) → Contains (stale_of r) (b, x) ↔ IsStale r b x }
     ensures exactly { (language : Language) (opening : Opening) (past : Past) (b x : Name) →
         let r = runtime_after language opening past in Contains (stale_of r) (b, x) ↔ IsStale r b x }
+{}
+
+/// A client is stale at an edge exactly where a live instance of the importer holds, for the dependency,
+/// a number that isn't the one of the dependency's live instance; whatever came to the client.
+pub fn stale_edges_are_of_instances()
+    ensures { (language : Language) (opening : Opening) (past : Past) (b x : Name) →
+        let r = runtime_after language opening past in IsStale r b x ↔ HoldsOlder r b x }
 {}

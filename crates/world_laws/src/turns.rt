@@ -6,12 +6,12 @@ ghost use Rattle.core_model.specs.Client.{Client, is_held};
 ghost use Rattle.client_model.specs.Language.{Language, BindsImports};
 ghost use Rattle.client_model.specs.Runtime.{Runtime};
 ghost use Rattle.world_model.specs.CaughtUp.{IsCaughtUp, debt, largest_debt};
-ghost use Rattle.world_model.specs.World.{Step, turn};
-ghost use Rattle.world_model.specs.Steps.{world_after};
+ghost use Rattle.world_model.specs.World.{World, Step, turn};
+ghost use Rattle.world_model.specs.Steps.{world_step, world_after};
 ghost use Rattle.world_model.specs.Ties.{WentOn};
 ghost use Rattle.world_model.specs.SmallLanguage.{Texts, small_language};
 ghost use Rattle.world_model.specs.UpdateScripts.{counter};
-ghost use Rattle.world_laws.specs.Quiet.{IsServedWhole, CauseIs, IsServedText, EachClient, IsOpen, IsSettled, OwesLess, AreQuiet, IsUpWithin, debts};
+ghost use Rattle.world_laws.specs.Quiet.{IsServedWhole, CauseIs, IsServedText, EachClient, IsOpen, IsSettled, OwesLess, AreQuiet, IsUpWithin, looks, IsUpAmongLooks, debts};
 ghost use Rattle.world_laws.specs.SmallTexts.{all_bind_imports};
 ghost use Rattle.world_laws.specs.CounterTurns.{loading, updating};
 
@@ -39,7 +39,8 @@ pub fn causes_go_with_plans()
 /// something to be served. This is of a language in which the bindings of each module's text are from
 /// the module's imports.
 pub fn held_client_has_no_whole_load()
-    ensures { (language : Language) (roots : List Name) → BindsImports language → EachClient language roots (λ s c r.
+    ensures { (language : Language) (roots : List Name) → BindsImports language →
+        EachClient language roots (λ s c r.
         is_some c.page.plan ≡ false → is_held s c ≡ true → IsServedWhole language c.roots s → ⊥) }
 {}
 
@@ -49,7 +50,8 @@ pub fn held_client_has_no_whole_load()
 pub fn quiet_turn_lowers_the_debt()
     ensures { (language : Language) (roots : List Name) (shelves : List (List (Text × ℕ))) (past : List Step)
         (i : ℕ) (c : Client) (r : Runtime) → let w = world_after language roots shelves past in
-        WentOn language roots shelves past → BindsImports language → IsSettled language c.roots w.core.sources →
+        WentOn language roots shelves past → BindsImports language →
+        IsSettled language c.roots w.core.sources →
         IsOpen w i c r → (IsCaughtUp w.core.sources c r → ⊥) → AreQuiet language roots shelves i 1 past →
         OwesLess (world_after language roots shelves (turn i ∷ past)) i (debt w.core.sources c r) }
 {}
@@ -57,18 +59,49 @@ pub fn quiet_turn_lowers_the_debt()
 /// So the client is caught up after at most as many such turns as its debt, with nothing else between
 /// them; and hence after at most as many as the bound of its debt.
 pub fn client_catches_up()
-    ensures debt { (language : Language) (roots : List Name) (shelves : List (List (Text × ℕ))) (past : List Step)
+    ensures debt { (language : Language) (roots : List Name) (shelves : List (List (Text × ℕ)))
+        (past : List Step)
         (i : ℕ) (c : Client) (r : Runtime) → let w = world_after language roots shelves past in
         let owed = debt w.core.sources c r in
-        WentOn language roots shelves past → BindsImports language → IsSettled language c.roots w.core.sources →
+        WentOn language roots shelves past → BindsImports language →
+        IsSettled language c.roots w.core.sources →
         IsOpen w i c r → AreQuiet language roots shelves i owed past →
         IsUpWithin language roots shelves i owed past }
-    ensures bound { (language : Language) (roots : List Name) (shelves : List (List (Text × ℕ))) (past : List Step)
+    ensures bound { (language : Language) (roots : List Name) (shelves : List (List (Text × ℕ)))
+        (past : List Step)
         (i : ℕ) (c : Client) (r : Runtime) → let w = world_after language roots shelves past in
         let most = largest_debt w.core.sources c r in
-        WentOn language roots shelves past → BindsImports language → IsSettled language c.roots w.core.sources →
+        WentOn language roots shelves past → BindsImports language →
+        IsSettled language c.roots w.core.sources →
         IsOpen w i c r → AreQuiet language roots shelves i most past →
         IsUpWithin language roots shelves i most past }
+{}
+
+/// Steps that only look, as shows, values, fates and fresh loads, leave the world as it was.
+pub fn looks_change_nothing()
+    ensures { (language : Language) (roots : List Name) (shelves : List (List (Text × ℕ)))
+        (w : World) (s : Step) → looks s ≡ true → (world_step language roots shelves w s).world ≡ w }
+{}
+
+/// So a client catches up among them as without them: there is a number of turns, at most its debt, and so
+/// at most the bound of that, after which it is caught up whatever looks come between.
+pub fn client_catches_up_among_looks()
+    ensures debt { (language : Language) (roots : List Name) (shelves : List (List (Text × ℕ)))
+        (past : List Step)
+        (i : ℕ) (c : Client) (r : Runtime) → let w = world_after language roots shelves past in
+        let owed = debt w.core.sources c r in
+        WentOn language roots shelves past → BindsImports language →
+        IsSettled language c.roots w.core.sources →
+        IsOpen w i c r → AreQuiet language roots shelves i owed past →
+        IsUpAmongLooks language roots shelves i owed past }
+    ensures bound { (language : Language) (roots : List Name) (shelves : List (List (Text × ℕ)))
+        (past : List Step)
+        (i : ℕ) (c : Client) (r : Runtime) → let w = world_after language roots shelves past in
+        let most = largest_debt w.core.sources c r in
+        WentOn language roots shelves past → BindsImports language →
+        IsSettled language c.roots w.core.sources →
+        IsOpen w i c r → AreQuiet language roots shelves i most past →
+        IsUpAmongLooks language roots shelves i most past }
 {}
 
 /// In a small language, given by its texts, the bindings of each module's text are from its imports

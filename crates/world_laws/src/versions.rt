@@ -14,8 +14,12 @@ ghost use Rattle.world_laws.specs.Versions.{AreFetched, AreOfPage, AreServedSame
 /// The sources of the world are those that its edits and results make; so what is served of a name has
 /// the text of the edit that was counted as its version.
 pub fn sources_follow_their_changes()
-    ensures sources { (language : Language) (roots : List Name) (shelves : List (List (Text × ℕ))) (past : List Step) → (world_after language roots shelves past).core.sources ≡ sources_after (changes_in language roots shelves past) }
-    ensures served { (language : Language) (roots : List Name) (shelves : List (List (Text × ℕ))) (past : List Step) (n : Name) → IsServedWritten (written (changes_in language roots shelves past) n) (at (world_after language roots shelves past).core.sources.served n) }
+    ensures sources { (language : Language) (roots : List Name) (shelves : List (List (Text × ℕ)))
+        (past : List Step) → (world_after language roots shelves past).core.sources ≡
+        sources_after (changes_in language roots shelves past) }
+    ensures served { (language : Language) (roots : List Name) (shelves : List (List (Text × ℕ)))
+        (past : List Step) (n : Name) → let w = world_after language roots shelves past in
+        IsServedWritten (written (changes_in language roots shelves past) n) (at w.core.sources.served n) }
 {}
 
 /// After every list of steps, each live instance of each open client is of its page's module of its
@@ -23,12 +27,19 @@ pub fn sources_follow_their_changes()
 /// version, and transforming the text gives that module's analysis. So where the name is served at this
 /// version, the served text is the instance's, and the served analysis is the page's.
 pub fn instances_are_of_their_versions()
-    ensures page { (language : Language) (roots : List Name) (shelves : List (List (Text × ℕ))) (past : List Step) (i : ℕ) → AreOfPage language (written (changes_in language roots shelves past)) (client_at (world_after language roots shelves past).clients i) }
-    ensures served { (language : Language) (roots : List Name) (shelves : List (List (Text × ℕ))) (past : List Step) (i : ℕ) → WentOn language roots shelves past → AreServedSame (world_after language roots shelves past).core.sources.served (client_at (world_after language roots shelves past).clients i) }
+    ensures page { (language : Language) (roots : List Name) (shelves : List (List (Text × ℕ)))
+        (past : List Step) (i : ℕ) → let w = world_after language roots shelves past in
+        AreOfPage language (written (changes_in language roots shelves past)) (client_at w.clients i) }
+    ensures served { (language : Language) (roots : List Name) (shelves : List (List (Text × ℕ)))
+        (past : List Step)
+        (i : ℕ) → let w = world_after language roots shelves past in WentOn language roots shelves past →
+        AreServedSame w.core.sources.served (client_at w.clients i) }
 {}
 
 /// After every list of steps, each module that an open client fetched for its plan has its text, which is
 /// that of the edit that was counted as its version; and transforming the text gives the module's analysis.
 pub fn fetched_texts_are_of_their_versions()
-    ensures { (language : Language) (roots : List Name) (shelves : List (List (Text × ℕ))) (past : List Step) (i : ℕ) → AreFetched language (written (changes_in language roots shelves past)) (client_at (world_after language roots shelves past).clients i) }
+    ensures { (language : Language) (roots : List Name) (shelves : List (List (Text × ℕ))) (past : List Step)
+        (i : ℕ) → let w = world_after language roots shelves past in
+        AreFetched language (written (changes_in language roots shelves past)) (client_at w.clients i) }
 {}
