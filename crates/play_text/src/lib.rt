@@ -16,6 +16,7 @@ pub use play_script::{
     spelling_is_read,
 };
 pub use rendering::render;
+pub use word_texts::{cause_str, fault_str};
 
 #[cfg(test)]
 mod tests;
