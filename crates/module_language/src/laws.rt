@@ -12,6 +12,7 @@ ghost use Rattle.client_model.specs.Past.{Past, runtime_after};
 ghost use Rattle.module_semantics.specs.Entries.{is_bag, names_of};
 ghost use Rattle.module_semantics.specs.ModuleText.{parsing};
 ghost use Rattle.module_semantics.specs.Modules.{declared_names};
+ghost use Rattle.module_language.specs.Bagless.{is_bagless_module};
 ghost use Rattle.module_language.specs.Meaning.{ItemsMean};
 ghost use Rattle.module_language.specs.ModuleLanguage.{module_language, linked_by};
 
@@ -53,4 +54,12 @@ pub fn clients_keep_bags()
 /// order, whether or not a fault came.
 pub fn variables_are_the_declared_names()
     ensures { (n : Name) (t : Text) (m : ModuleTree) (imports : Slots) (before : Bag) → parsing t ≡ Ok m → names_of (module_language.evaluated n t imports before).vars ≡ declared_names m }
+{}
+
+/// The evaluation of a text that uses `data` in handlers alone doesn't hang on its bag: it is that with the
+/// empty bag, but that it leaves the bag as it was.
+pub fn texts_without_data_do_not_hang_on_it()
+    ensures { (n : Name) (t : Text) (m : ModuleTree) (imports : Slots) (before : Bag) →
+        parsing t ≡ Ok m → is_bagless_module m ≡ true →
+        module_language.evaluated n t imports before ≡ record (module_language.evaluated n t imports []) { bag = before } }
 {}
