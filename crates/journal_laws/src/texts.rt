@@ -1,0 +1,29 @@
+// The law on fresh values, of the module language: what it asks of a language holds of it.
+ghost use Rattle.std.specs.Prelude.{◌≡◌, ℕ, List, []};
+ghost use Rattle.core_model.specs.Names.{Name};
+ghost use Rattle.core_model.specs.Sources.{Text};
+ghost use Rattle.core_model.specs.Client.{Client};
+ghost use Rattle.client_model.specs.Runtime.{Runtime};
+ghost use Rattle.client_model.specs.Stale.{stale_of};
+ghost use Rattle.module_language.specs.ModuleLanguage.{module_language};
+ghost use Rattle.world_model.specs.CaughtUp.{IsCaughtUp};
+ghost use Rattle.world_model.specs.World.{Step};
+ghost use Rattle.world_model.specs.Steps.{world_after};
+ghost use Rattle.world_model.specs.Ties.{WentOn};
+ghost use Rattle.world_laws.specs.Quiet.{IsOpen};
+ghost use Rattle.journal_laws.specs.FreshValues.{IsAcyclic, NothingAssigned, AreFreshValues};
+ghost use Rattle.journal_laws.specs.OfClients.{journal_at};
+ghost use Rattle.journal_laws.specs.Texts.{UseDataInHandlersAlone};
+
+/// Where a client is caught up, no edge is stale, the imports have no cycle, each served text uses `data` in
+/// handlers alone, and no run of a handler assigned, the variables of its modules are those of evaluating the
+/// fresh load of its own roots.
+pub fn values_of_texts_are_those_of_a_fresh_load()
+    ensures { (roots : List Name) (shelves : List (List (Text × ℕ))) (past : List Step)
+        (i : ℕ) (c : Client) (r : Runtime) → WentOn module_language roots shelves past →
+        let w = world_after module_language roots shelves past in let served = w.core.sources.served in
+        IsOpen w i c r → IsCaughtUp w.core.sources c r → stale_of r ≡ [] →
+        IsAcyclic served r.roots → UseDataInHandlersAlone served →
+        NothingAssigned (journal_at module_language roots shelves past i) →
+        AreFreshValues module_language served r.roots r }
+{}
