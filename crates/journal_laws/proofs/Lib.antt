@@ -47,3 +47,4 @@ pub mod DataDisposing
 pub mod FreshWorld
 pub mod InWorld
 pub mod OfTexts
+pub mod TextPage

@@ -11,3 +11,4 @@ pub mod WorkedValues
 pub mod KeptCounter
 pub mod HandlerRuns
 pub mod Texts
+pub mod TextPages

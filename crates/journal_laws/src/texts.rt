@@ -1,5 +1,8 @@
 // The law on fresh values, of the module language: what it asks of a language holds of it.
-ghost use Rattle.std.specs.Prelude.{◌≡◌, ℕ, List, []};
+ghost use Rattle.std.specs.Prelude.{◌≡◌, ℕ, List, [], ◌∷◌, codes, pos};
+ghost use Rattle.hmr_types.specs.declared.value.Value.TheVariants.{Num};
+ghost use Rattle.module_language.specs.Examples.{m};
+ghost use Rattle.journal_laws.specs.TextPages.{keeping_loaded, keeping_replaced, text_starts};
 ghost use Rattle.core_model.specs.Names.{Name};
 ghost use Rattle.core_model.specs.Sources.{Text};
 ghost use Rattle.core_model.specs.Client.{Client};
@@ -26,4 +29,11 @@ pub fn values_of_texts_are_those_of_a_fresh_load()
         IsAcyclic served r.roots → UseDataInHandlersAlone served →
         NothingAssigned (journal_at module_language roots shelves past i) →
         AreFreshValues module_language served r.roots r }
+{}
+
+/// A module's text keeps its number for the next instance, whose text reads it: the first starts with nothing,
+/// the second with what the first one's disposer left.
+pub fn kept_number_is_handed_on()
+    ensures loaded { text_starts keeping_loaded ≡ (1, m, []) ∷ [] }
+    ensures replaced { text_starts keeping_replaced ≡ (1, m, []) ∷ (2, m, (codes "n", Num (pos 1)) ∷ []) ∷ [] }
 {}
