@@ -47,4 +47,3 @@ pub mod DataDisposing
 pub mod FreshWorld
 pub mod InWorld
 pub mod OfTexts
-pub mod TextPage

@@ -1,8 +1,10 @@
 // The law on fresh values, of the module language: what it asks of a language holds of it.
-ghost use Rattle.std.specs.Prelude.{◌≡◌, ℕ, List, [], ◌∷◌, codes, pos};
+ghost use Rattle.std.specs.Prelude.{◌≡◌, ℕ, List, [], ◌∷◌, codes, pos, Some};
 ghost use Rattle.hmr_types.specs.declared.value.Value.TheVariants.{Num};
-ghost use Rattle.module_language.specs.Examples.{m};
-ghost use Rattle.journal_laws.specs.TextPages.{keeping_loaded, keeping_replaced, text_starts};
+ghost use Rattle.module_language.specs.Examples.{m, x};
+ghost use Rattle.journal_laws.specs.TextPages.{text_page, keeping_loaded, keeping_replaced, text_starts, text_fates, text_stale, seeing_loaded, seeing_updated, leaf_updated};
+ghost use Rattle.journal_laws.specs.WorkedValues.{values_in, holding};
+ghost use Rattle.output_lines.specs.declared.words.InstanceFate.TheVariants.{Live, Replaced};
 ghost use Rattle.core_model.specs.Names.{Name};
 ghost use Rattle.core_model.specs.Sources.{Text};
 ghost use Rattle.core_model.specs.Client.{Client};
@@ -36,4 +38,21 @@ pub fn values_of_texts_are_those_of_a_fresh_load()
 pub fn kept_number_is_handed_on()
     ensures loaded { text_starts keeping_loaded ≡ (1, m, []) ∷ [] }
     ensures replaced { text_starts keeping_replaced ≡ (1, m, []) ∷ (2, m, (codes "n", Num (pos 1)) ∷ []) ∷ [] }
+{}
+
+/// A text sees the constant of another, and its callback assigns the new one. It isn't made anew: its import is
+/// of the old constant still, so that edge is stale.
+pub fn seen_constant_is_updated()
+    ensures loaded { values_in text_page seeing_loaded (1 ∷ 2 ∷ []) ≡ holding (codes "n") 1 ∷ holding (codes "seen") 1 ∷ [] }
+    ensures updated { values_in text_page seeing_updated (1 ∷ 2 ∷ 3 ∷ []) ≡ holding (codes "n") 1 ∷ holding (codes "seen") 2 ∷ holding (codes "n") 2 ∷ [] }
+    ensures fates { text_fates 1 seeing_updated ≡ Some ((1, x, Replaced 3) ∷ (2, m, Live) ∷ (3, x, Live) ∷ []) }
+    ensures stale { text_stale 1 seeing_updated ≡ Some ((m, x) ∷ []) }
+{}
+
+/// A leaf that accepts itself is replaced below its importer, which sees the old constant still: the edge from
+/// the importer to the leaf is stale.
+pub fn self_accepting_leaf_leaves_a_stale_edge()
+    ensures values { values_in text_page leaf_updated (1 ∷ 2 ∷ 3 ∷ []) ≡ holding (codes "n") 1 ∷ holding (codes "seen") 1 ∷ holding (codes "n") 2 ∷ [] }
+    ensures fates { text_fates 1 leaf_updated ≡ Some ((1, x, Replaced 3) ∷ (2, m, Live) ∷ (3, x, Live) ∷ []) }
+    ensures stale { text_stale 1 leaf_updated ≡ Some ((m, x) ∷ []) }
 {}
