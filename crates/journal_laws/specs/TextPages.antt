@@ -12,6 +12,7 @@ use Rattle.module_language.specs.Examples.{m, x, keeper}
 use Rattle.module_language.specs.ModuleLanguage.{module_language}
 use Rattle.world_model.specs.World.{Step, edits, settles, opens, turn}
 use Rattle.world_model.specs.Playing.{Stage}
+use Rattle.world_laws.specs.Quiet.{turns}
 use Rattle.journal_laws.specs.FirstClient.{journal_in}
 use Rattle.journal_laws.specs.KeptCounter.{start_of}
 
@@ -81,3 +82,15 @@ reading = codes "import {n} from './x.js'\nexport let seen = n\n"
 -- the leaf is replaced below its importer, which isn't made anew
 abbrev pub leaf_updated : List Step
 leaf_updated = turn 1 ∷ turn 1 ∷ turn 1 ∷ settles x 3 ∷ edits x (Some leaf_two) ∷ turn 1 ∷ turn 1 ∷ turn 1 ∷ opens 1 [] ∷ settles x 2 ∷ settles m 1 ∷ edits x (Some leaf_one) ∷ edits m (Some reading) ∷ []
+
+-- a constant whose callback on itself invalidates it
+abbrev pub refusing : Text
+refusing = codes "export const n = 1\nimport.meta.hot.accept(m => { import.meta.hot.invalidate('no') })\n"
+
+-- sees the constant, and accepts itself
+abbrev pub self_seeing : Text
+self_seeing = codes "import {n} from './x.js'\nexport let seen = n\nimport.meta.hot.accept()\n"
+
+-- two clients load the page; the constant is replaced, and the first client alone makes turns
+abbrev pub invalidated : List Step
+invalidated = turns 1 9 (settles x 3 ∷ edits x (Some leaf_two) ∷ turns 2 3 (turns 1 3 (opens 1 [] ∷ opens 1 [] ∷ settles x 2 ∷ settles m 1 ∷ edits x (Some refusing) ∷ edits m (Some self_seeing) ∷ [])))

@@ -1,8 +1,9 @@
-// The law on fresh values, of the module language: what it asks of a language holds of it.
+// The module language: the law on fresh values without premises on the language, and pages of module texts,
+// computed from the texts.
 ghost use Rattle.std.specs.Prelude.{◌≡◌, ℕ, List, [], ◌∷◌, codes, pos, Some};
 ghost use Rattle.hmr_types.specs.declared.value.Value.TheVariants.{Num};
 ghost use Rattle.module_language.specs.Examples.{m, x};
-ghost use Rattle.journal_laws.specs.TextPages.{text_page, keeping_loaded, keeping_replaced, text_starts, text_fates, text_stale, seeing_loaded, seeing_updated, leaf_updated};
+ghost use Rattle.journal_laws.specs.TextPages.{text_page, keeping_loaded, keeping_replaced, text_starts, text_fates, text_stale, seeing_loaded, seeing_updated, leaf_updated, invalidated};
 ghost use Rattle.journal_laws.specs.WorkedValues.{values_in, holding};
 ghost use Rattle.output_lines.specs.declared.words.InstanceFate.TheVariants.{Live, Replaced};
 ghost use Rattle.core_model.specs.Names.{Name};
@@ -55,4 +56,11 @@ pub fn self_accepting_leaf_leaves_a_stale_edge()
     ensures values { values_in text_page leaf_updated (1 ∷ 2 ∷ 3 ∷ []) ≡ holding (codes "n") 1 ∷ holding (codes "seen") 1 ∷ holding (codes "n") 2 ∷ [] }
     ensures fates { text_fates 1 leaf_updated ≡ Some ((1, x, Replaced 3) ∷ (2, m, Live) ∷ (3, x, Live) ∷ []) }
     ensures stale { text_stale 1 leaf_updated ≡ Some ((m, x) ∷ []) }
+{}
+
+/// A callback of the old constant invalidates the new one: its importer, which accepts itself, is made anew over
+/// the new constant. The page of a second client, which made no turn since, stays as it is.
+pub fn invalidation_concerns_its_client_alone()
+    ensures first { text_fates 1 invalidated ≡ Some ((1, x, Replaced 3) ∷ (2, m, Replaced 4) ∷ (3, x, Live) ∷ (4, m, Live) ∷ []) }
+    ensures second { text_fates 2 invalidated ≡ Some ((1, x, Live) ∷ (2, m, Live) ∷ []) }
 {}
