@@ -38,22 +38,27 @@ pub fn values_of_texts_are_those_of_a_fresh_load()
 /// the second with what the first one's disposer left.
 pub fn kept_number_is_handed_on()
     ensures loaded { text_starts keeping_loaded ≡ (1, m, []) ∷ [] }
-    ensures replaced { text_starts keeping_replaced ≡ (1, m, []) ∷ (2, m, (codes "n", Num (pos 1)) ∷ []) ∷ [] }
+    ensures replaced { text_starts keeping_replaced ≡
+        (1, m, []) ∷ (2, m, (codes "n", Num (pos 1)) ∷ []) ∷ [] }
 {}
 
 /// A text sees the constant of another, and its callback assigns the new one. It isn't made anew: its import is
 /// of the old constant still, so that edge is stale.
 pub fn seen_constant_is_updated()
-    ensures loaded { values_in text_page seeing_loaded (1 ∷ 2 ∷ []) ≡ holding (codes "n") 1 ∷ holding (codes "seen") 1 ∷ [] }
-    ensures updated { values_in text_page seeing_updated (1 ∷ 2 ∷ 3 ∷ []) ≡ holding (codes "n") 1 ∷ holding (codes "seen") 2 ∷ holding (codes "n") 2 ∷ [] }
-    ensures fates { text_fates 1 seeing_updated ≡ Some ((1, x, Replaced 3) ∷ (2, m, Live) ∷ (3, x, Live) ∷ []) }
+    ensures loaded { values_in text_page seeing_loaded (1 ∷ 2 ∷ []) ≡
+        holding (codes "n") 1 ∷ holding (codes "seen") 1 ∷ [] }
+    ensures updated { values_in text_page seeing_updated (1 ∷ 2 ∷ 3 ∷ []) ≡
+        holding (codes "n") 1 ∷ holding (codes "seen") 2 ∷ holding (codes "n") 2 ∷ [] }
+    ensures fates { text_fates 1 seeing_updated ≡
+        Some ((1, x, Replaced 3) ∷ (2, m, Live) ∷ (3, x, Live) ∷ []) }
     ensures stale { text_stale 1 seeing_updated ≡ Some ((m, x) ∷ []) }
 {}
 
 /// A leaf that accepts itself is replaced below its importer, which sees the old constant still: the edge from
 /// the importer to the leaf is stale.
 pub fn self_accepting_leaf_leaves_a_stale_edge()
-    ensures values { values_in text_page leaf_updated (1 ∷ 2 ∷ 3 ∷ []) ≡ holding (codes "n") 1 ∷ holding (codes "seen") 1 ∷ holding (codes "n") 2 ∷ [] }
+    ensures values { values_in text_page leaf_updated (1 ∷ 2 ∷ 3 ∷ []) ≡
+        holding (codes "n") 1 ∷ holding (codes "seen") 1 ∷ holding (codes "n") 2 ∷ [] }
     ensures fates { text_fates 1 leaf_updated ≡ Some ((1, x, Replaced 3) ∷ (2, m, Live) ∷ (3, x, Live) ∷ []) }
     ensures stale { text_stale 1 leaf_updated ≡ Some ((m, x) ∷ []) }
 {}
@@ -61,6 +66,7 @@ pub fn self_accepting_leaf_leaves_a_stale_edge()
 /// A callback of the old constant invalidates the new one: its importer, which accepts itself, is made anew over
 /// the new constant. The page of a second client, which made no turn since, stays as it is.
 pub fn invalidation_concerns_its_client_alone()
-    ensures first { text_fates 1 invalidated ≡ Some ((1, x, Replaced 3) ∷ (2, m, Replaced 4) ∷ (3, x, Live) ∷ (4, m, Live) ∷ []) }
+    ensures first { text_fates 1 invalidated ≡
+        Some ((1, x, Replaced 3) ∷ (2, m, Replaced 4) ∷ (3, x, Live) ∷ (4, m, Live) ∷ []) }
     ensures second { text_fates 2 invalidated ≡ Some ((1, x, Live) ∷ (2, m, Live) ∷ []) }
 {}
