@@ -163,9 +163,9 @@ module _ (k : ℕ) (n : Name) where
   own_hands (registered j x) seen s hands = absurd s
   own_hands (no_host j m label) seen s hands = absurd s
   own_hands (ran j spot m at before left) seen s hands = λ last e.
-        let test : ((j == k) && is_dispose_place at) ≡ true = ap (λ b. b && is_dispose_place at) (eq-eqb j k s.0) ∙ ap is_dispose_place s.1.1 in
-        fold-append (bag_after n) [] seen (ran j spot m at before left ∷ []) ∙ ap (λ b. if b then left.bag else bag_left seen n) (true_same m n s.1.0)
-        ∙ same_Some left.bag last (sym (ap (λ b. if b then Some left.bag else disposed_left seen k) test) ∙ sym (fold-append (disposed_after k) None seen (ran j spot m at before left ∷ [])) ∙ e)
+      let test : ((j == k) && is_dispose_place at) ≡ true = ap (λ b. b && is_dispose_place at) (eq-eqb j k s.0) ∙ ap is_dispose_place s.1.1 in
+      fold-append (bag_after n) [] seen (ran j spot m at before left ∷ []) ∙ ap (λ b. if b then left.bag else bag_left seen n) (true_same m n s.1.0)
+      ∙ same_Some left.bag last (sym (ap (λ b. if b then Some left.bag else disposed_left seen k) test) ∙ sym (fold-append (disposed_after k) None seen (ran j spot m at before left ∷ [])) ∙ e)
   own_hands (dropped j spot) seen s hands = λ last e. fold-append (bag_after n) [] seen (dropped j spot ∷ []) ∙ hands last (sym (fold-append (disposed_after k) None seen (dropped j spot ∷ [])) ∙ e)
   own_hands (ended j m fate) seen s hands = absurd s
   own_hands (gave_up m) seen s hands = absurd s
@@ -278,7 +278,7 @@ module _ (language : Language) where
   taken = record {
     quiet = λ r did q h empty seen ready. free_handed did.1 (λ n. []) seen (each_line NoneReplaced (ended_calm (λ k n bag. ⊥)).free (λ n. []) did.1 q.lines);
     prunes = λ names r none loaded h empty seen ready. handed_append seen (for_each (prune_instance language) (live_of (has names) r) r).1 []
-      (free_handed (for_each (prune_instance language) (live_of (has names) r) r).1 (λ n. []) seen (free_prunes NoneReplaced (ended_calm (λ k n bag. ⊥)) language (live_of (has names) r) r (λ n. []))) tt;
+        (free_handed (for_each (prune_instance language) (live_of (has names) r) r).1 (λ n. []) seen (free_prunes NoneReplaced (ended_calm (λ k n bag. ⊥)) language (live_of (has names) r) r (λ n. []))) tt;
     applies = λ p r e due counted h empty seen ready. plan_handed p r e due.0 h empty seen ready;
     hears = λ event value r loaded idle h empty seen ready. free_handed (hear_all language event value r).1 (λ n. []) seen (free_hear NoneReplaced (ended_calm (λ k n bag. ⊥)) language event value r (λ n. []));
   }

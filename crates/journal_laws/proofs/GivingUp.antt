@@ -141,10 +141,10 @@ module _ (language : Language) where
       let pruned : Did = and_then disposed (run_each language place.Prune no_arguments prunes i.number) in
       let dropped : Did = and_then pruned (drop_each is_held i.number) in
       let before : Follows dropped.1 = handled.after r pruned (drop_each is_held i.number)
-        (handled.after r disposed (run_each language place.Prune no_arguments prunes i.number)
-        (handled_run_each language Rightly handled place.Dispose no_arguments (λ s h. refl) disposes i.number r)
-        (handled_run_each language Rightly handled place.Prune no_arguments (λ s h. refl) prunes i.number disposed.0))
-        (handled.drop is_held i.number pruned.0) in
+      (handled.after r disposed (run_each language place.Prune no_arguments prunes i.number)
+      (handled_run_each language Rightly handled place.Dispose no_arguments (λ s h. refl) disposes i.number r)
+      (handled_run_each language Rightly handled place.Prune no_arguments (λ s h. refl) prunes i.number disposed.0))
+      (handled.drop is_held i.number pruned.0) in
       subst Follows (sym (append_assoc dropped.1 (gave_up i.name ∷ []) (ended i.number i.name Pruned ∷ [])))
       (follows_append dropped.1 (gave_up i.name ∷ ended i.number i.name Pruned ∷ []) before (record { number = i.number; rest = []; ends = refl }, (tt, tt)))
 

@@ -46,3 +46,4 @@ pub mod GivingUp
 pub mod DataDisposing
 pub mod FreshWorld
 pub mod InWorld
+pub mod OfTexts

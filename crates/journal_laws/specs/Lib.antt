@@ -10,3 +10,5 @@ pub mod FirstClient
 pub mod WorkedValues
 pub mod KeptCounter
 pub mod HandlerRuns
+pub mod Texts
+pub mod TextPages

@@ -28,10 +28,14 @@ pub fn replaced_module_runs_one_disposer()
 
 /// A module that left the page is live until its prune, which runs its disposer and its prune handler.
 pub fn pruned_module_runs_both()
-    ensures before { map (fates_in (journal_in seeing abandoning)) (1 ∷ 2 ∷ 3 ∷ []) ≡ [] ∷ (Replaced 3 ∷ []) ∷ [] ∷ [] }
-    ensures disposals { map (disposals (journal_in seeing (turn 1 ∷ abandoning))) (1 ∷ 2 ∷ 3 ∷ []) ≡ 1 ∷ 0 ∷ 0 ∷ [] }
-    ensures prunings { map (prunings (journal_in seeing (turn 1 ∷ abandoning))) (1 ∷ 2 ∷ 3 ∷ []) ≡ 1 ∷ 0 ∷ 0 ∷ [] }
-    ensures fates { map (fates_in (journal_in seeing (turn 1 ∷ abandoning))) (1 ∷ 2 ∷ 3 ∷ []) ≡ (Pruned ∷ []) ∷ (Replaced 3 ∷ []) ∷ [] ∷ [] }
+    ensures before { map (fates_in (journal_in seeing abandoning)) (1 ∷ 2 ∷ 3 ∷ []) ≡
+        [] ∷ (Replaced 3 ∷ []) ∷ [] ∷ [] }
+    ensures disposals { map (disposals (journal_in seeing (turn 1 ∷ abandoning))) (1 ∷ 2 ∷ 3 ∷ []) ≡
+        1 ∷ 0 ∷ 0 ∷ [] }
+    ensures prunings { map (prunings (journal_in seeing (turn 1 ∷ abandoning))) (1 ∷ 2 ∷ 3 ∷ []) ≡
+        1 ∷ 0 ∷ 0 ∷ [] }
+    ensures fates { map (fates_in (journal_in seeing (turn 1 ∷ abandoning))) (1 ∷ 2 ∷ 3 ∷ []) ≡
+        (Pruned ∷ []) ∷ (Replaced 3 ∷ []) ∷ [] ∷ [] }
 {}
 
 /// A counter's disposer keeps its count, and the counter that replaces it starts with that. Once no module
@@ -56,14 +60,17 @@ pub fn kept_count_is_handed_on()
 /// to main's own variable; its import is of the old counter still.
 pub fn callback_assigns_the_new_count()
     ensures load { values_in counter loaded (1 ∷ 2 ∷ []) ≡ holding count 1 ∷ holding count 1 ∷ [] }
-    ensures update { values_in counter updated (1 ∷ 2 ∷ 3 ∷ []) ≡ holding count 1 ∷ holding count 11 ∷ holding count 11 ∷ [] }
-    ensures held { map (λ (i : Instance). i.values) (client_of counter updated).instances ≡ holding count 11 ∷ holding count 11 ∷ holding count 1 ∷ [] }
+    ensures update { values_in counter updated (1 ∷ 2 ∷ 3 ∷ []) ≡
+        holding count 1 ∷ holding count 11 ∷ holding count 11 ∷ [] }
+    ensures held { map (λ (i : Instance). i.values) (client_of counter updated).instances ≡
+        holding count 11 ∷ holding count 11 ∷ holding count 1 ∷ [] }
     ensures link { imports_in counter updated 2 ≡ Some (holding (codes "c") 1) }
 {}
 
 /// A module throws before it sets its export. Its importer isn't run, and has no variables.
 pub fn importer_of_a_faulted_module_is_not_run()
-    ensures statuses { map (λ (i : Instance). i.status) (client_of faulting faulted).instances ≡ Unrun ∷ Faulted ∷ [] }
+    ensures statuses { map (λ (i : Instance). i.status) (client_of faulting faulted).instances ≡
+        Unrun ∷ Faulted ∷ [] }
     ensures evaluations { evaluations_in faulting faulted (1 ∷ 2 ∷ []) ≡ 1 ∷ 0 ∷ [] }
     ensures values { values_in faulting faulted (1 ∷ 2 ∷ []) ≡ ((codes "n", Unset) ∷ []) ∷ [] ∷ [] }
 {}

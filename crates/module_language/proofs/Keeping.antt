@@ -1,5 +1,5 @@
 -- Each bag that a client of the module language keeps is a bag, whatever came to it.
-use Rattle.std.proofs.Common.{◌≡◌, ℕ, Bool, true, false, List, [], ◌∷◌, refl, ap, ◌∙◌}
+use Rattle.std.proofs.Common.{◌≡◌, Bool, true, false, List, [], ◌∷◌, refl, ap, ◌∙◌}
 use Rattle.std.specs.Prelude.{reverse, Option, None, if◌then◌else◌}
 use Rattle.core_model.specs.Names.{Name, same_name, at, with_row, without}
 use Rattle.core_model.proofs.Tables.{at_without}

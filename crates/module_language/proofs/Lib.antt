@@ -5,3 +5,4 @@ pub mod Texts
 pub mod Reading
 pub mod Keeping
 pub mod Specifiers
+pub mod Bagless

@@ -1,3 +1,4 @@
 pub mod ModuleLanguage
 pub mod Examples
 pub mod Meaning
+pub mod Bagless

@@ -1,7 +1,6 @@
 -- Held handlers by their kind: one that is of a kind is of no other.
-use Rattle.std.proofs.Common.{◌≡◌, Bool, true, false, refl, ap, sym, ◌∙◌}
+use Rattle.std.proofs.Common.{◌≡◌, Bool, true, false, refl, ap, ◌∙◌}
 use Rattle.std.specs.Prelude.{◌&&◌}
-use Rattle.std.proofs.Math.Path.{subst}
 use Rattle.std.proofs.lemmas.Bool.{false≢true}
 use Rattle.hmr_types.specs.declared.words.HandlerKind.{HandlerKind}
 use Rattle.hmr_types.specs.declared.words.HandlerKind.TheVariants as kind

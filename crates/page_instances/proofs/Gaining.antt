@@ -1,13 +1,12 @@
 -- A handler is registered: what it displaces is dropped, and it stands behind the others.
 use Rattle.std.proofs.Common.{◌≡◌, Bool, true, false, List, [], ◌∷◌, ◌++◌, refl, ap, sym, ◌∙◌}
-use Rattle.std.specs.Prelude.{map, filter, cond, Some, if◌then◌else◌}
+use Rattle.std.specs.Prelude.{map, filter, cond, Some}
 use Rattle.std.proofs.Math.Path.{subst}
 use Rattle.std.proofs.lemmas.List.{append-nil, map-append}
 use Rattle.std.proofs.lemmas.Bool.{false≢true}
 use Rattle.module_tree.specs.Tree.{handler_of}
 use Rattle.hmr_types.specs.declared.words.HandlerKind.{HandlerKind}
 use Rattle.hmr_types.specs.declared.words.HandlerKind.TheVariants as kind
-use Rattle.output_lines.specs.declared.words.HandlerEnd.TheVariants.{Dropped}
 use Rattle.core_model.specs.Names.{Name}
 use Rattle.client_model.specs.Instance.{Handler, Deed, code, disposes, prunes, accepts_own, with_dropped, ended_as}
 use Rattle.client_model.specs.Making.{is_displaced_by}
@@ -20,7 +19,7 @@ use Rattle.page_instances.specs.declared.marks.Mark.{Mark}
 use Rattle.page_instances.specs.Seeing.{Sees, Holds, deed_in, dep_in, accepts_some}
 use Rattle.page_instances.specs.Marks.{mark_of, marks_dropped}
 use Rattle.page_instances.specs.Holding.{held_handler, with_held}
-use Rattle.page_instances.proofs.ByKind.{of_kind, apart}
+use Rattle.page_instances.proofs.ByKind.{apart}
 use Rattle.page_instances.proofs.Filters.{AsksHeld, none_left, same_left, marks_are}
 
 filter_more : (test : Handler → Bool) (hs : List Handler) (h : Handler) → filter test (hs ++ h ∷ []) ≡ filter test hs ++ filter test (h ∷ [])

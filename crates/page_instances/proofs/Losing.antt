@@ -8,7 +8,6 @@ use Rattle.client_model.specs.Instance.{Handler, is_held, is_own, disposes, prun
 use Rattle.client_model.specs.Applying.{is_left_behind}
 use Rattle.handler_table.specs.Handlers.{Holdings}
 use Rattle.page_instances.specs.Seeing.{Holds, accepts_some}
-use Rattle.page_instances.specs.Marks.{is_kind}
 use Rattle.page_instances.proofs.ByKind.{of_kind, kind_is, is_held_of_kind}
 use Rattle.page_instances.proofs.Filters.{none_left, same_left}
 

@@ -9,7 +9,6 @@ use Rattle.output_lines.specs.declared.words.HandlerEnd.TheVariants.{Spent}
 use Rattle.client_model.specs.Instance as model
 use Rattle.client_model.specs.Instance.{disposes, prunes, accepts_own, with_end, places_from}
 use Rattle.client_model.specs.Running.{end_after}
-use Rattle.handler_table.specs.Handlers.{Holdings}
 use Rattle.handler_table.specs.declared.handler.Handler.{Handler}
 use Rattle.page_instances.specs.declared.instance.Instance.{Instance}
 use Rattle.page_instances.specs.Seeing.{Sees, Holds, deed_in, deeds_of, listed, accepts_some}

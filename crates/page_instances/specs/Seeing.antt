@@ -1,7 +1,6 @@
 -- How an instance that the code keeps is seen as one of the model.
 use Rattle.std.specs.Prelude.{◌≡◌, Bool, ◌&&◌, List, [], ◌∷◌, map, filter, Option, Some, None}
 use Rattle.module_tree.specs.Tree.{handler_of}
-use Rattle.hmr_types.specs.declared.words.HandlerKind.{HandlerKind}
 use Rattle.core_model.specs.Names.{Name}
 use Rattle.client_model.specs.Language.{Binding}
 use Rattle.client_model.specs.Instance as model

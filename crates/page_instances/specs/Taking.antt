@@ -1,5 +1,5 @@
 -- A handler is taken off an instance to be run.
-use Rattle.std.specs.Prelude.{◌≡◌, ℕ, Bool, true, List, [], ◌∷◌, slice_get, Some}
+use Rattle.std.specs.Prelude.{◌≡◌, ℕ, Bool, [], ◌∷◌, slice_get, Some}
 use Rattle.output_lines.specs.declared.words.HandlerEnd.TheVariants.{Spent}
 use Rattle.client_model.specs.Instance as model
 use Rattle.client_model.specs.Instance.{places_from, with_end}

@@ -31,6 +31,7 @@ impl<F: FnOnce(Bag) -> Result<Ran, AllocError> + Drop> Instance<F> {
         ensures sees { (i : model.Instance) → Sees i self.old
             → OnOk result (Sees (with_held kind.Dispose [] (deed_in handler) i) self.new) }
         ensures word { KeepTheirWord F.post self.old.held → OnOk result (KeepTheirWord F.post self.new.held) }
+        ensures rest { OnOk result (self.new ≡ record self.old { marks = self.new.marks; held = self.new.held }) }
     {
         tables_keep_their_word::<F>();
         drop_marks(&mut self.marks, Those::Kind(HandlerKind::Dispose));
@@ -50,6 +51,7 @@ impl<F: FnOnce(Bag) -> Result<Ran, AllocError> + Drop> Instance<F> {
         ensures sees { (i : model.Instance) → Sees i self.old
             → OnOk result (Sees (with_held kind.Prune [] (deed_in handler) i) self.new) }
         ensures word { KeepTheirWord F.post self.old.held → OnOk result (KeepTheirWord F.post self.new.held) }
+        ensures rest { OnOk result (self.new ≡ record self.old { marks = self.new.marks; held = self.new.held }) }
     {
         tables_keep_their_word::<F>();
         drop_marks(&mut self.marks, Those::Kind(HandlerKind::Prune));
@@ -69,6 +71,7 @@ impl<F: FnOnce(Bag) -> Result<Ran, AllocError> + Drop> Instance<F> {
         ensures sees { (i : model.Instance) → Sees i self.old
             → OnOk result (Sees (with_held kind.Own [] (deed_in handler) i) self.new) }
         ensures word { KeepTheirWord F.post self.old.held → OnOk result (KeepTheirWord F.post self.new.held) }
+        ensures rest { OnOk result (self.new ≡ record self.old { marks = self.new.marks; held = self.new.held }) }
     {
         tables_keep_their_word::<F>();
         if let Err(e) = add_mark(&mut self.marks, HandlerKind::Own, handled) {
@@ -88,6 +91,7 @@ impl<F: FnOnce(Bag) -> Result<Ran, AllocError> + Drop> Instance<F> {
         ensures sees { (i : model.Instance) → Sees i self.old
             → OnOk result (Sees (with_held kind.Dep deps.items (code (handler_of what)) i) self.new) }
         ensures word { KeepTheirWord F.post self.old.held → OnOk result (KeepTheirWord F.post self.new.held) }
+        ensures rest { OnOk result (self.new ≡ record self.old { marks = self.new.marks; held = self.new.held }) }
     {
         tables_keep_their_word::<F>();
         add_mark(&mut self.marks, HandlerKind::Dep, Handled::Code)?;

@@ -75,7 +75,7 @@ impl<F> Instance<F> {
     /// Gives it its fate. It takes no memory.
     pub fn end(&mut self, fate: InstanceFate)
         ensures sees { (i : model.Instance) → Sees i self.old → Sees (record i { fate = fate }) self.new }
-        ensures held { self.new.held ≡ self.old.held }
+        ensures rest { self.new ≡ record self.old { fate = fate } }
     {
         self.fate = fate;
     }

@@ -35,6 +35,7 @@ impl<F: FnOnce(Bag) -> Result<Ran, AllocError> + Drop> Instance<F> {
         ensures sees { (i : model.Instance) → Sees i self.old
             → Sees (record i { handlers = with_dropped is_left_behind i.handlers }) self.new }
         ensures word { KeepTheirWord F.post self.old.held → KeepTheirWord F.post self.new.held }
+        ensures rest { self.new ≡ record self.old { marks = self.new.marks; held = self.new.held } }
     {
         tables_keep_their_word::<F>();
         discard_one(self.held.take_dispose());
@@ -48,6 +49,7 @@ impl<F: FnOnce(Bag) -> Result<Ran, AllocError> + Drop> Instance<F> {
         ensures sees { (i : model.Instance) → Sees i self.old
             → Sees (record i { handlers = with_dropped is_held i.handlers }) self.new }
         ensures word { KeepTheirWord F.post self.old.held → KeepTheirWord F.post self.new.held }
+        ensures rest { self.new ≡ record self.old { marks = self.new.marks; held = self.new.held } }
     {
         tables_keep_their_word::<F>();
         discard_one(self.held.take_dispose());

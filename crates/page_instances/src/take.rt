@@ -1,5 +1,5 @@
 // A handler is taken off an instance to be run. It counts as run from then on, whatever its run comes to.
-ghost use Rattle.std.specs.Prelude.{◌≡◌, None, [], IfSome, IfNone};
+ghost use Rattle.std.specs.Prelude.{◌≡◌, None, IfSome, IfNone, drop, slice_get};
 ghost use Rattle.client_model.specs.Instance as model;
 ghost use Rattle.client_model.specs.Instance.{disposes, prunes, accepts_own};
 ghost use Rattle.handler_table.specs.Handler.{KeepsItsWord};
@@ -22,7 +22,7 @@ impl<F: FnOnce(Bag) -> Result<Ran, AllocError> + Drop> Instance<F> {
         ensures none { IfNone result ((i : model.Instance) → Sees i self.old → Lacks disposes i self.new) }
         ensures word { KeepTheirWord F.post self.old.held → IfSome result (KeepsItsWord F.post) }
         ensures left { KeepTheirWord F.post self.old.held → KeepTheirWord F.post self.new.held }
-        ensures name { self.new.name ≡ self.old.name }
+        ensures rest { self.new ≡ record self.old { marks = self.new.marks; held = self.new.held } }
         ensures empty { self.new.held.dispose ≡ None }
     {
         tables_keep_their_word::<F>();
@@ -41,7 +41,7 @@ impl<F: FnOnce(Bag) -> Result<Ran, AllocError> + Drop> Instance<F> {
         ensures none { IfNone result ((i : model.Instance) → Sees i self.old → Lacks prunes i self.new) }
         ensures word { KeepTheirWord F.post self.old.held → IfSome result (KeepsItsWord F.post) }
         ensures left { KeepTheirWord F.post self.old.held → KeepTheirWord F.post self.new.held }
-        ensures name { self.new.name ≡ self.old.name }
+        ensures rest { self.new ≡ record self.old { marks = self.new.marks; held = self.new.held } }
         ensures empty { self.new.held.prune ≡ None }
     {
         tables_keep_their_word::<F>();
@@ -61,7 +61,9 @@ impl<F: FnOnce(Bag) -> Result<Ran, AllocError> + Drop> Instance<F> {
         ensures none { IfNone result ((i : model.Instance) → Sees i self.old → Lacks accepts_own i self.new) }
         ensures word { KeepTheirWord F.post self.old.held → IfSome result (KeepsItsWord F.post) }
         ensures left { KeepTheirWord F.post self.old.held → KeepTheirWord F.post self.new.held }
-        ensures name { self.new.name ≡ self.old.name }
+        ensures earliest { result ≡ slice_get self.old.held.own 0 }
+        ensures fewer { self.new.held.own ≡ drop 1 self.old.held.own }
+        ensures rest { self.new ≡ record self.old { marks = self.new.marks; held = self.new.held } }
     {
         tables_keep_their_word::<F>();
         match self.held.next_own() {

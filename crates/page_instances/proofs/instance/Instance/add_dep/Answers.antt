@@ -4,7 +4,6 @@ use Rattle.output_lines.specs.declared.words.Handled.TheVariants as handled
 use Rattle.output_lines.specs.declared.words.HandlerEnd.TheVariants.{Held}
 use Rattle.module_tree.specs.Tree.{handler_of}
 use Rattle.client_model.specs.Instance.{code}
-use Rattle.page_instances.specs.Seeing.{deed_in}
 use Rattle.page_instances.proofs.Gaining.{gains, all_marks, dep_held}
 use Rattle.page_instances.proofs.instance.Instance.add_dep.Goals as goal
 

@@ -1,0 +1,26 @@
+-- Texts of the module language that use data in handlers alone don't hang on their bags.
+use Rattle.std.proofs.Common.{◌≡◌, refl, ap, sym, ◌∙◌}
+use Rattle.std.specs.Prelude.{true, [], Result, Ok, Err}
+use Rattle.module_tree.specs.Syntax.{ModuleTree}
+use Rattle.hmr_types.specs.declared.analysis.TextFault.{TextFault}
+use Rattle.module_semantics.specs.ModuleText.{parsing}
+use Rattle.core_model.specs.Names.{Name}
+use Rattle.core_model.specs.Sources.{Text}
+use Rattle.core_model.specs.FreshLoad.{Served}
+use Rattle.client_model.specs.Language.{Slots, Bag, Evaluated}
+use Rattle.module_language.specs.Bagless.{is_bagless_module}
+use Rattle.module_language.specs.ModuleLanguage.{module_language, module_in, evaluation_of}
+use Rattle.module_language.proofs.Bagless.{bagless_evaluations}
+use Rattle.journal_laws.specs.FreshValues.{AreWithoutBag}
+use Rattle.journal_laws.specs.Texts.{UseDataInHandlersAlone}
+
+-- but for the bag that is left, it is the evaluation with the empty bag
+same_evaluation : (n : Name) (t : Text) (r : Result ModuleTree TextFault) → parsing t ≡ r → ((m : ModuleTree) → parsing t ≡ Ok m → is_bagless_module m ≡ true) → (slots : Slots) (bag : Bag) → module_language.evaluated n t slots bag ≡ record (module_language.evaluated n t slots []) { bag = bag }
+same_evaluation n t (Ok m) e h slots bag = bagless_evaluations n t m slots bag e (h m e)
+same_evaluation n t (Err fault) e h slots bag = ap (λ r. evaluation_of n (module_in r) slots bag) e ∙ ap (λ r. record (evaluation_of n (module_in r) slots []) { bag = bag }) (sym e)
+
+pub are_without_bag : (served : Served) → UseDataInHandlersAlone served → AreWithoutBag module_language served
+are_without_bag served h n s e = record {
+  vars = λ slots bag. ap (λ (x : Evaluated). x.vars) (same_evaluation n s.text (parsing s.text) refl (λ m p. h n s m e p) slots bag);
+  fault = λ slots bag. ap (λ (x : Evaluated). x.fault) (same_evaluation n s.text (parsing s.text) refl (λ m p. h n s m e p) slots bag);
+}

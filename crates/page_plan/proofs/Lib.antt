@@ -1,0 +1,7 @@
+pub mod Sets
+pub mod Making
+pub mod Comparing
+pub mod Walks
+pub mod Moments
+pub mod Same
+pub mod Numbering

@@ -1,0 +1,6 @@
+pub mod Plans
+pub mod Applied
+pub mod Views
+pub mod Walking
+pub mod Turns
+pub mod Numbers

@@ -1,0 +1,26 @@
+//! A plan under way: a load, a reload or an update for which modules are being fetched.
+//!
+//! Stands on the modules of a page and on the definitions of the core and of a client. Keeps: a
+//! [`Plan`] has for each module the entry that the definitions have, whatever the order in which it was
+//! fetched. Knows nothing of who fetches, of messages or of instances.
+#![tactic(auto)]
+
+mod apply;
+pub mod laws;
+mod name_set;
+mod numbers;
+mod plan;
+mod tasks;
+mod versions;
+mod view;
+mod walk;
+mod walker;
+
+pub use apply::Applied;
+pub use name_set::NameSet;
+pub use numbers::{Numbers, new_names};
+pub use plan::Plan;
+pub use tasks::Task;
+pub use versions::table_of;
+pub use view::made_view;
+pub use walker::Walker;

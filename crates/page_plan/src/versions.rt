@@ -1,0 +1,115 @@
+// The table that a client tells, against the versions of a view.
+ghost use Rattle.std.specs.Prelude.{◌≡◌, ◌==◌, ◌++◌, filter, not, option_map, true, IfOk};
+ghost use Rattle.core_model.specs.Names.{first_of, names_of, sorted};
+ghost use Rattle.core_model.specs.Requests.{version_at};
+ghost use Rattle.core_model.specs.View.{table_of};
+ghost use Rattle.hmr_types.specs.Table.{is_table};
+ghost use Rattle.page_plan.specs.Applied.{IsCompared};
+
+use crate::apply::Applied;
+use crate::name_set::copy_name;
+use hmr_types::{ModName, Table, Ver};
+use module_graph::{View, rising};
+use std::alloc::{AllocError, Global};
+
+/// The table of a view: its modules with their versions. The names have to rise, and the versions have to
+/// be those of counted edits.
+pub fn table_of(alloc: Global, view: &View) -> Result<Table, AllocError>
+    requires { is_table (table_of view.now) ≡ true }
+    ensures { IfOk result (λ table. table ≡ table_of view.now) }
+{
+    let rows = rows_of(alloc, view)?;
+    Ok(Table::of(rows).unwrap())
+}
+
+// The modules with their versions.
+fn rows_of(alloc: Global, view: &View) -> Result<Vec<(ModName, Ver)>, AllocError>
+    ensures { IfOk result (λ rows. rows.items ≡ table_of view.now) }
+{
+    let mut rows = Vec::new(alloc);
+    loop {
+        match view.at(rows.len()) {
+            Some((name, version, _)) => rows.push((copy_name(name)?, version))?,
+            None => return Ok(rows),
+        }
+    }
+}
+
+/// The view, where each of its modules is told at its version and no other is told; else the least name
+/// with two versions.
+pub(crate) fn compared(alloc: Global, told: &Table, made: View) -> Result<Applied, AllocError>
+    ensures { IfOk result (IsCompared told.now made) }
+{
+    let names = told_and_kept(alloc, told.as_slice(), &made)?;
+    match first_differing(told.as_slice(), &made, &names) {
+        Some(name) => Ok(Applied::Mismatch {
+            name: name.clone()?,
+            told: version_told(told.as_slice(), name),
+            kept: version_kept(&made, name),
+        }),
+        None => Ok(Applied::Done(made)),
+    }
+}
+
+// The names that are told or kept, rising by bytes.
+fn told_and_kept(
+    alloc: Global,
+    told: &[(ModName, Ver)],
+    kept: &View,
+) -> Result<Vec<ModName>, AllocError>
+    ensures { IfOk result (λ names. names.items ≡ sorted (names_of told.now ++ names_of (table_of kept.now))) }
+{
+    let mut names = names_told(alloc, told)?;
+    let mut more = kept.names(alloc)?;
+    names.append(&mut more)?;
+    let names = rising(names)?;
+    Ok(names)
+}
+
+fn names_told(alloc: Global, told: &[(ModName, Ver)]) -> Result<Vec<ModName>, AllocError>
+    ensures { IfOk result (λ names. names.items ≡ names_of told.now) }
+{
+    let mut names = Vec::new(alloc);
+    for row in told {
+        names.push(row.0.clone()?)?;
+    }
+    Ok(names)
+}
+
+// The first of these names that is told at another version than it is kept at.
+fn first_differing<'a>(
+    told: &[(ModName, Ver)],
+    kept: &View,
+    names: &'a [ModName],
+) -> Option<&'a ModName>
+    ensures { option_map (λ n. n.now) result ≡ first_of (filter (λ n. not (version_at told.now n == version_at (table_of kept.now) n)) names.now) }
+{
+    for name in names {
+        if version_told(told, name) != version_kept(kept, name) {
+            return Some(name);
+        }
+    }
+    None
+}
+
+// The version that is told of a name, 0 for none.
+fn version_told(told: &[(ModName, Ver)], name: &ModName) -> Ver
+    ensures { result ≡ version_at told.now name.now }
+{
+    for row in told {
+        if row.0 == *name {
+            return row.1;
+        }
+    }
+    0
+}
+
+// The version that a view has of a name, 0 for none.
+fn version_kept(kept: &View, name: &ModName) -> Ver
+    ensures { result ≡ version_at (table_of kept.now) name.now }
+{
+    match kept.get(name) {
+        Some((version, _)) => version,
+        None => 0,
+    }
+}
