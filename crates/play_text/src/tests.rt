@@ -385,26 +385,71 @@ fn value_of_text(alloc: Global) -> Result<OutLine, AllocError> {
     })
 }
 
-/// The line of a group's row.
-fn line_of(alloc: Global, group: usize, row: usize) -> Result<OutLine, AllocError> {
-    match group {
-        0 => Ok(plain(row)),
-        1 => Ok(of_sources(row, name(alloc, "/m.js")?)),
-        2 => Ok(of_pages(row, name(alloc, "/m.js")?)),
-        3 => Ok(of_paths(row, path(alloc)?)),
-        4 => of_pairs(alloc, row, name(alloc, "/m.js")?, name(alloc, "/a.js")?),
-        5 => Ok(of_texts(row, name(alloc, "/m.js")?, escaped_text(alloc)?)),
-        6 => Ok(of_exports(row, name(alloc, "/m.js")?, export(alloc)?)),
-        _ => others(alloc, row),
+// Each group is rendered in a function of its own, so that none holds more than one line.
+
+fn plain_text(alloc: Global, row: usize) -> Result<Vec<u8>, AllocError> {
+    render(alloc, &plain(row))
+}
+
+fn sources_text(alloc: Global, row: usize) -> Result<Vec<u8>, AllocError> {
+    let name = name(alloc, "/m.js")?;
+    render(alloc, &of_sources(row, name))
+}
+
+fn pages_text(alloc: Global, row: usize) -> Result<Vec<u8>, AllocError> {
+    let name = name(alloc, "/m.js")?;
+    render(alloc, &of_pages(row, name))
+}
+
+fn paths_text(alloc: Global, row: usize) -> Result<Vec<u8>, AllocError> {
+    let names = path(alloc)?;
+    render(alloc, &of_paths(row, names))
+}
+
+fn made_text(alloc: Global, line: Result<OutLine, AllocError>) -> Result<Vec<u8>, AllocError> {
+    match line {
+        Ok(line) => render(alloc, &line),
+        Err(refused) => Err(refused),
     }
 }
 
-/// Whether the line of a group's row is rendered as it is written here, with LF behind it.
-fn is_rendered(alloc: Global, group: usize, row: usize, want: &str) -> Result<bool, AllocError> {
-    let is = render(alloc, &line_of(alloc, group, row)?)?;
-    match is.as_slice() {
-        [line @ .., b'\n'] => Ok(line == want.as_bytes()),
-        _ => Ok(false),
+fn pairs_text(alloc: Global, row: usize) -> Result<Vec<u8>, AllocError> {
+    let importer = name(alloc, "/m.js")?;
+    let dependency = name(alloc, "/a.js")?;
+    made_text(alloc, of_pairs(alloc, row, importer, dependency))
+}
+
+fn texts_text(alloc: Global, row: usize) -> Result<Vec<u8>, AllocError> {
+    let name = name(alloc, "/m.js")?;
+    let text = escaped_text(alloc)?;
+    render(alloc, &of_texts(row, name, text))
+}
+
+fn exports_text(alloc: Global, row: usize) -> Result<Vec<u8>, AllocError> {
+    let name = name(alloc, "/m.js")?;
+    let export = export(alloc)?;
+    render(alloc, &of_exports(row, name, export))
+}
+
+/// The text of a group's row.
+fn text_of(alloc: Global, group: usize, row: usize) -> Result<Vec<u8>, AllocError> {
+    match group {
+        0 => plain_text(alloc, row),
+        1 => sources_text(alloc, row),
+        2 => pages_text(alloc, row),
+        3 => paths_text(alloc, row),
+        4 => pairs_text(alloc, row),
+        5 => texts_text(alloc, row),
+        6 => exports_text(alloc, row),
+        _ => made_text(alloc, others(alloc, row)),
+    }
+}
+
+/// Whether these bytes are the line as it is written here, with LF behind it.
+fn is_line(bytes: &[u8], want: &str) -> bool {
+    match bytes {
+        [line @ .., b'\n'] => line == want.as_bytes(),
+        _ => false,
     }
 }
 
@@ -417,7 +462,8 @@ fn lines_are_rendered_as_the_rows_say(rt: HostRuntime) -> Result<(), Fail> {
     let mut rendered: u32 = 0;
     for (group, rows) in groups.iter().enumerate() {
         for (row, want) in rows.lines().enumerate() {
-            assert!(rt; is_rendered(alloc, group, row, want)?);
+            let text = text_of(alloc, group, row)?;
+            assert!(rt; is_line(text.as_slice(), want), "{want}");
             rendered = rendered.wrapping_add(1);
         }
     }

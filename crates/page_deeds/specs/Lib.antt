@@ -1,0 +1,4 @@
+pub mod Live
+pub mod Standing
+pub mod Settling
+pub mod Telling

@@ -1,0 +1,46 @@
+// A module left the page: its disposer and its prune handler are run, its other handlers are dropped, and
+// its data is given up.
+ghost use Rattle.std.specs.Prelude.{◌≡◌, ◌<◌, suc, Some, length, OnOk};
+ghost use Rattle.client_model.specs.Applying.{prune_instance};
+ghost use Rattle.client_model.specs.Instance as model;
+ghost use Rattle.module_language.specs.ModuleLanguage.{module_language};
+ghost use Rattle.page_deeds.specs.Standing.{Follows, KeepWords, name_at};
+
+use crate::page::Page;
+use const_eval::Ran;
+use output_lines::{InstanceFate, OutLine};
+use retained_data::Bag;
+use std::alloc::{AllocError, Global};
+
+impl<F: FnOnce(Bag) -> Result<Ran, AllocError> + Drop> Page<F> {
+    /// The instance at a place is pruned. Adds its lines, that of the prune last. Only want of memory
+    /// refuses; the page is then of no more use. It takes time in proportion to what its two handlers do
+    /// and to the number of its handlers.
+    pub fn prune_instance(
+        &mut self,
+        alloc: Global,
+        place: usize,
+        lines: &mut Vec<OutLine>,
+    ) -> Result<(), AllocError>
+        requires place { place < length self.old.instances.items }
+        requires callable { (f : F) → F.IsAlwaysCallable f }
+        requires words { KeepWords F.post self.old }
+        ensures count { OnOk result (length self.new.instances.items ≡ length self.old.instances.items) }
+        ensures words { OnOk result (KeepWords F.post self.new) }
+        ensures follows { (i : model.Instance) → i.number ≡ suc place → name_at self.old place ≡ Some i.name
+            → OnOk result (Follows (prune_instance module_language i)
+            self.old self.new lines.old.items lines.new.items) }
+    {
+        self.run_disposer(alloc, place, lines)?;
+        self.run_prune(alloc, place, lines)?;
+        self.drop_held(place);
+        self.give_up_bag(place);
+        self.end_instance(place, InstanceFate::Pruned);
+        let name = self.instances[place].name.clone()?;
+        lines.push(OutLine::Pruned {
+            client: self.client,
+            name,
+        })?;
+        Ok(())
+    }
+}
