@@ -15,8 +15,8 @@ use crate::first_script::Script;
 use crate::stop::Stop;
 use hmr_base::{Sink, write_all};
 use hmr_types::{ModName, Ver};
-use output_lines::OutLine;
 use hmr_world::{Step, World};
+use output_lines::OutLine;
 use play_text::render;
 use std::alloc::{AllocError, Global};
 

@@ -1,5 +1,5 @@
 //! Laws of all that happens in a client: how the handlers of its instances end, what of a module's data
-//! reaches which instance, and what variables hold.
+//! reaches which instance, and what variables hold. `headline` has what the product promises, in one place.
 //!
 //! Each law is the clause of a public function with an empty body; nothing here runs. It holds of what a
 //! client is, and of the journal of all that happened in it, whatever came to it, messages and fired events;
@@ -11,6 +11,7 @@
 pub mod data;
 pub mod fresh_values;
 pub mod handlers;
+pub mod headline;
 pub mod runs;
 pub mod texts;
 pub mod values;

@@ -1,7 +1,6 @@
 //! Laws of a client and of the world: what a caught-up client holds, and where an import of it isn't
 //! exported; of which versions its instances are, what they are linked to and what that exports; at which
-//! edges it is stale, and how far it is from caught up. `headline` has what the product promises, in one
-//! place.
+//! edges it is stale, and how far it is from caught up.
 //!
 //! Each law is the clause of a public function with an empty body; nothing here runs. Stands on the
 //! models of the core, the client and the world, whose definitions it speaks of, and on the module
@@ -11,7 +10,6 @@
 
 pub mod catching_up;
 pub mod fresh;
-pub mod headline;
 pub mod instances;
 pub mod kept;
 pub mod modules;

@@ -2,8 +2,10 @@
 use Rattle.std.specs.Prelude.{ℕ, true, false, List, [], ◌∷◌, Some, None, codes}
 use Rattle.module_tree.specs.Syntax.{num, text, name, bag, member, binary, log, bag_set, throw, invalidate, code, host, ItemTree, declare, act, own, deps, dispose, prune}
 use Rattle.module_tree.specs.declared.tree.Op.TheVariants.{Add}
+use Rattle.hmr_types.specs.declared.value.Value.TheVariants.{Str}
+use Rattle.core_model.specs.Names.{Name}
 use Rattle.core_model.specs.Sources.{Text}
-use Rattle.world_model.specs.World.{opens, show, values, fates}
+use Rattle.world_model.specs.World.{opens, turn, fires, show, values, fates}
 use Rattle.world_model.specs.Playing.{Command, step, settle_all, turns, Stage}
 use Rattle.world_model.specs.SmallPages.{m, a, x, importing, exporting, accepting, self_accepting, binding, module_of, page_of, callback, log_text, edited}
 
@@ -155,3 +157,29 @@ asking = page_of ((asking_m, module_of (importing []) [] (dispose (host (codes "
 
 abbrev pub asking_script : List Command
 asking_script = edited m asking_m ∷ settle_all ∷ step (opens 1 []) ∷ turns 1 9 ∷ step (fates 1) ∷ []
+
+-- An event that is fired at a page: before its load is done, at rest, and with a change that waits.
+
+abbrev pub ping : Name
+ping = codes "/event/my/ping"
+
+abbrev pub e : Name
+e = codes "e"
+
+abbrev pub hearing_m : Text
+hearing_m = codes "import.meta.hot.on(\"my:ping\", (e) => { console.log(\"got\", e.data); });\nimport.meta.hot.accept();"
+
+abbrev pub hearing : Stage
+hearing = page_of ((
+  hearing_m,
+  module_of (self_accepting (importing [])) [] (
+      deps false (ping ∷ []) (Some (callback (e ∷ []) (log (text (codes "got") ∷ (member 0 false (codes "data") ∷ []))))) ∷
+      own None ∷ []),
+) ∷ ([], module_of (self_accepting (importing [])) [] (own None ∷ [])) ∷ [])
+
+abbrev pub hearing_script : List Command
+hearing_script =
+    edited m hearing_m ∷ settle_all ∷ step (opens 1 []) ∷ step (fires 1 ping (Str (codes "early"))) ∷ turns 1 9 ∷
+    step (fires 1 ping (Str (codes "one"))) ∷ step (fires 1 x (Str (codes "other"))) ∷ step (fires 2 ping (Str (codes "one"))) ∷
+    edited m [] ∷ settle_all ∷ step (turn 1) ∷ step (fires 1 ping (Str (codes "two"))) ∷ turns 1 9 ∷
+    step (fires 1 ping (Str (codes "three"))) ∷ []

@@ -17,7 +17,7 @@ ghost use Rattle.output_lines.specs.declared.out_line.OutLine.TheVariants as lin
 ghost use Rattle.output_lines.specs.declared.words.Handled.TheVariants as handled;
 ghost use Rattle.world_model.specs.Playing.{play, quiet_play};
 ghost use Rattle.world_model.specs.SmallPages.{m, a, x};
-ghost use Rattle.world_model.specs.HandlerScripts.{seeing, seeing_script, hosting, hosting_script, label, invalidating, invalidating_script, second_client_script, invalid_root_page, invalid_root_script, faulting, faulting_script, watching_script, asking, asking_script};
+ghost use Rattle.world_model.specs.HandlerScripts.{seeing, seeing_script, hosting, hosting_script, label, invalidating, invalidating_script, second_client_script, invalid_root_page, invalid_root_script, faulting, faulting_script, watching_script, asking, asking_script, hearing, hearing_script};
 ghost use Rattle.output_lines.specs.declared.words.FaultPlace.TheVariants as place;
 ghost use Rattle.hmr_types.specs.declared.value.EvalFault.TheVariants.{Thrown};
 ghost use Rattle.hmr_types.specs.declared.value.Slot.TheVariants.{Unset};
@@ -166,4 +166,16 @@ pub fn missing_closure_registers_nothing()
         line.Applied 1 Load ∷
         line.Fates 1 ∷
         line.Instance 1 m 1 Done fate.Live ∷ [] }
+{}
+
+/// An event that is fired runs the callbacks of live instances that list it, with the value as the export
+/// `data`; a client that isn't loaded, has a plan under way or isn't open hears nothing, and an instance
+/// that was replaced neither.
+pub fn event_is_heard_at_rest()
+    ensures { quiet_play hearing hearing_script ≡
+        line.Applied 1 Load ∷
+        line.Log 1 m (codes "got one") ∷
+        line.Update 1 (m ∷ []) ∷
+        line.Accept 1 m m ∷
+        line.Applied 1 Update ∷ [] }
 {}

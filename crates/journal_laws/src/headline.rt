@@ -6,8 +6,7 @@
 //     its held disposer once, its data reaching only its successor; a full reload is sent exactly where an
 //     unaccepted path reaches a root or a module that declines.
 //
-// Each part is a clause below, of every run: any list of steps of the world, in the module language. The
-// parts on disposers and on data speak of all that happened in a client, and stand with the laws of journals.
+// Each part is a clause below, of every run: any list of steps of the world, in the module language.
 ghost use Rattle.std.specs.Prelude.{◌≡◌, ◌↔◌, ℕ, [], Contains};
 ghost use Rattle.core_model.specs.Names.{Name};
 ghost use Rattle.core_model.specs.FreshLoad.{fresh_table, missing_of};
@@ -16,11 +15,14 @@ ghost use Rattle.core_model.specs.Client.{Client};
 ghost use Rattle.core_laws.specs.Reloading.{IsFullReload};
 ghost use Rattle.client_model.specs.Runtime.{Runtime};
 ghost use Rattle.client_model.specs.Stale.{IsStale};
+ghost use Rattle.client_model.specs.Past.{journal_of};
 ghost use Rattle.module_language.specs.ModuleLanguage.{module_language};
 ghost use Rattle.world_model.specs.CaughtUp.{IsCaughtUp, largest_debt};
 ghost use Rattle.world_laws.specs.Instances.{IsLiveAs};
 ghost use Rattle.world_laws.specs.Stops.{IsStopped};
 ghost use Rattle.world_laws.specs.Quiet.{IsSettled, AreQuiet, IsUpAmongLooks};
+ghost use Rattle.journal_laws.specs.Counts.{AreDisposedOnce};
+ghost use Rattle.journal_laws.specs.Data.{SuccessorsInherit, DisposersHandOn, OthersInheritNothing};
 ghost use Rattle.world_laws.specs.Runs.{Run, sources_of, served_of, life_in, HasClient, next_reply, IsReloadTurn};
 
 /// The headline, part by part, of every run and of each client that is open in it. `r` is the client, and
@@ -37,6 +39,13 @@ ghost use Rattle.world_laws.specs.Runs.{Run, sources_of, served_of, life_in, Has
 ///
 /// `stale_bindings`: the client is stale exactly at the edges at which applied updates stopped: each such
 /// update made a new instance of the dependency in place of a live one, and left the importer's as it was.
+///
+/// `held_disposers`: of each instance that registered a disposer, one ran where it was replaced or pruned,
+/// the one that was held; none ran of an instance that is live or was reloaded.
+///
+/// `data_to_the_successor`: an instance that took another's place started with the data that was left when
+/// that one ended, and so (`data_of_disposers`) with what its disposer left. `data_to_no_other`: any other
+/// instance started with none.
 ///
 /// `full_reload`: the server answers the client's next request by a full reload exactly where the client
 /// asks what there is to do, its page is loaded, it isn't held, it is to be told no fault and to prune
@@ -59,6 +68,14 @@ pub fn headline()
     ensures stale_bindings { (run : Run) (i : ℕ) (c : Client) (r : Runtime) → let life = life_in run i in
         HasClient run i c r →
         (b x : Name) → IsStale r b x ↔ IsStopped module_language life.opening life.past b x }
+    ensures held_disposers { (run : Run) (i : ℕ) (c : Client) (r : Runtime) → let life = life_in run i in
+        HasClient run i c r → AreDisposedOnce r (journal_of module_language life.opening life.past) }
+    ensures data_to_the_successor { (run : Run) (i : ℕ) (c : Client) (r : Runtime) → let life = life_in run i in
+        HasClient run i c r → SuccessorsInherit r (journal_of module_language life.opening life.past) }
+    ensures data_of_disposers { (run : Run) (i : ℕ) (c : Client) (r : Runtime) → let life = life_in run i in
+        HasClient run i c r → DisposersHandOn r (journal_of module_language life.opening life.past) }
+    ensures data_to_no_other { (run : Run) (i : ℕ) (c : Client) (r : Runtime) → let life = life_in run i in
+        HasClient run i c r → OthersInheritNothing r (journal_of module_language life.opening life.past) }
     ensures full_reload { (run : Run) (i : ℕ) (c : Client) (r : Runtime) →
         HasClient run i c r → IsFullReload (next_reply run i r) ↔ IsReloadTurn run c r }
     ensures catches_up { (run : Run) (i : ℕ) (c : Client) (r : Runtime) →
