@@ -1,6 +1,0 @@
-pub mod Fields
-pub mod Loops
-pub mod Said
-pub mod Told
-pub mod Back
-pub mod Written

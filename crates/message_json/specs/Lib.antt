@@ -1,4 +1,0 @@
-pub mod Reading
-pub mod Words
-pub mod ClientText
-pub mod ServerText
