@@ -5,7 +5,7 @@ ghost use Rattle.std.specs.Cmp.Lexicographic.{slice_cmp};
 ghost use Rattle.std.specs.List.Sorted.{IsStrictlySortedBy};
 ghost use Rattle.std.specs.Ordering.{nat_cmp};
 ghost use Rattle.core_model.specs.Names.{Name, at, first_of, has, names_of, put_name, same_name, without};
-ghost use Rattle.client_queue.specs.Queue.{MarkIs, is_clear, is_marked, mark_where_known, put_row};
+ghost use Rattle.client_queue.specs.Queue.{MarkIs, is_clear, is_marked, mark_where_known, marked_of, put_row};
 
 use crate::marks;
 use crate::sorted::{first, put_name, put_row, without_name, without_row};
@@ -104,7 +104,8 @@ impl ClientQueue {
 
     /// Whether nothing is marked, forced or waiting as a notice. It takes no memory.
     pub fn is_clear(&self) -> bool
-        ensures { result ≡ is_clear self.now }
+        ensures clear { result ≡ is_clear self.now }
+        ensures marked { (n : Name) → has (marked_of self.now.known) n ≡ is_marked self.now n }
     {
         self.forced.is_empty() && self.notices.is_empty() && !marks::is_any_marked(&self.known)
     }

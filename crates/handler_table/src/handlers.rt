@@ -1,6 +1,6 @@
 // The handlers of one instance. There is at most one disposer and one prune handler; callbacks stand in
 // the order in which they registered.
-ghost use Rattle.std.specs.Prelude.{◌≡◌, ◌++◌, ◌∷◌, [], IfErr, OnOk, OnErr, None, Some, drop, slice_get};
+ghost use Rattle.std.specs.Prelude.{◌≡◌, ◌++◌, ◌∷◌, [], IfErr, OnOk, OnErr, None, Some, drop, length, slice_get};
 ghost use Rattle.std.specs.Option.{option_map};
 
 use crate::dep::Dep;
@@ -115,6 +115,13 @@ impl<F> Handlers<F> {
         ensures { option_map (λ d. d.now) result ≡ slice_get self.now.deps place }
     {
         self.deps.get(place)
+    }
+
+    /// How many callbacks on dependencies are held. It takes no memory.
+    pub fn dep_count(&self) -> usize
+        ensures { result ≡ length self.now.deps }
+    {
+        self.deps.len()
     }
 
     /// Drops the callbacks on dependencies. It takes no memory.

@@ -1,4 +1,8 @@
-// What is known of each JSON reading: its size, and the order of its keys.
+//! Laws of the JSON values that texts read as: their size, and the order of their keys.
+//!
+//! Stands on the toolchain's `serde_json` and `json`, whose reading is meant, and has no code but the two
+//! laws. Keeps: a law speaks of the library's own reading, never of a copy of it. Knows nothing of
+//! messages.
 #![tactic(auto)]
 
 ghost use Rattle.std.specs.Prelude.{◌≡◌, ◌≤◌, ℕ, List, length, Some};

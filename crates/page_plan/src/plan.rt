@@ -3,6 +3,7 @@ ghost use Rattle.std.specs.Prelude.{◌≡◌, [], option_map, IfOk, OnErr, OnOk
 ghost use Rattle.hmr_types.specs.declared.words.PlanKind.TheVariants.{Update};
 ghost use Rattle.core_model.specs.Names.{at, has, with_row};
 ghost use Rattle.core_model.specs.Page.{Plan, entry_at, new_plan};
+ghost use Rattle.module_graph.specs.Entries.{put_entry};
 ghost use Rattle.page_plan.specs.Plans.{IsSamePlan, keeps};
 
 use crate::name_set::NameSet;
@@ -76,6 +77,7 @@ impl Plan {
         analysis: Analysis,
     ) -> Result<(), AllocError>
         ensures ok { (p : Plan) → IsSamePlan p self.old → OnOk result (IsSamePlan (record p { staged = with_row name (record { version = version; analysis = analysis }) p.staged }) self.new) }
+        ensures staged { OnOk result (self.new ≡ record self.old { staged = put_entry name (record { version = version; analysis = analysis }) self.old.staged }) }
         ensures err { OnErr result (self.new ≡ self.old) }
     {
         self.staged.put(name, version, analysis)?;

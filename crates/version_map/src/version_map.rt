@@ -142,7 +142,8 @@ impl VersionMap {
         }
     }
 
-    fn take_away(&mut self, name: &ModName) -> Result<EditOutcome, EditFault>
+    /// Takes the name's source away, as an `edit` without a text does. It takes no memory.
+    pub fn take_away(&mut self, name: &ModName) -> Result<EditOutcome, EditFault>
         ensures stands { (past : List Change) → StandsFor past self.old → Answered result (StandsFor (changes.edit name.now None ∷ past) self.new) }
         ensures answer { Answers result (edit_answer self.old name.now None) }
         ensures unchanged { OnErr result (self.new ≡ self.old) }
@@ -208,6 +209,13 @@ impl VersionMap {
             Some(entry) => entry.served(),
             None => None,
         }
+    }
+
+    /// How often something was served, or removed. It takes no memory.
+    pub fn served_no(&self) -> u64
+        ensures { result ≡ self.now.served_no }
+    {
+        self.served_no
     }
 
     /// Whether the name has a source for which no result came yet. It takes no memory.
