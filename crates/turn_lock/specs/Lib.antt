@@ -1,0 +1,6 @@
+pub mod Calls
+pub mod Histories
+pub mod Passes
+pub mod Rule
+pub mod Steps
+pub mod Views
