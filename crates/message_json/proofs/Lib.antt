@@ -1,0 +1,6 @@
+pub mod Fields
+pub mod Loops
+pub mod Said
+pub mod Told
+pub mod Back
+pub mod Ranged

@@ -1,0 +1,30 @@
+-- What bytes stand for, and the JSON values of the parts of messages.
+use Rattle.std.specs.Prelude.{◌≡◌, ℕ, List, Option, Some, None, IsUtf8, map}
+use Rattle.serde_json.specs.Data.{Data, null, number, unsigned, string, array, no_items, item}
+use Rattle.serde_json.specs.Read.{read}
+use Rattle.serde_json.specs.View.{items_of}
+
+-- what the bytes stand for
+pub record HasReading (bytes : List ℕ) (d : Data) : Type 0 where
+  pub utf8 : IsUtf8 bytes
+  pub value : read bytes ≡ Some d
+
+abbrev pub whole : ℕ → Data
+whole n = number (unsigned n)
+
+-- null where there is no text
+abbrev pub or_null : Option (List ℕ) → Data
+or_null None = null
+or_null (Some s) = string s
+
+-- null where there is no number
+abbrev pub number_or_null : Option ℕ → Data
+number_or_null None = null
+number_or_null (Some n) = whole n
+
+abbrev pub list : {X : Type 0} → (X → Data) → List X → Data
+list w xs = array (items_of (map w xs))
+
+-- a list of a name and a version
+abbrev pub row : List ℕ × ℕ → Data
+row r = array (item (string r.0) (item (whole r.1) no_items))

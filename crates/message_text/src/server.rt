@@ -1,0 +1,221 @@
+// The messages of a server, as they are written in a format.
+ghost use Rattle.std.specs.Prelude.{◌≡◌, ◌∷◌, [], codes, Some, IfOk, map};
+ghost use Rattle.serde_json.specs.Data.{string};
+ghost use Rattle.serde_json.specs.View.{view};
+ghost use Rattle.json_readings.specs.Object.{entries};
+ghost use Rattle.play_text.specs.Words.{cause_word, fault_word};
+ghost use Rattle.update_msgs.specs.Writable.{IsFormat, IsWritable};
+ghost use Rattle.message_text.specs.Values.{HasReading, list, whole};
+ghost use Rattle.message_text.specs.ServerText.{in_second, js_update, server_text, tell};
+
+use crate::parts::{name_or_null, names_value, number_or_null};
+use hmr_types::{FaultWord, ModName, ReloadCause};
+use play_text::{cause_str, fault_str};
+use serde_json::{Value, json};
+use std::alloc::{AllocError, Global};
+use update_msgs::{JsUpdate, ServerMsg};
+
+/// The text of a server's message in a format, 1 or 2, in which it can be written: compact, with its keys in
+/// byte order. It reads as the message in that format. It takes time and memory in proportion to the text.
+pub fn encode(alloc: Global, msg: &ServerMsg, format: u8) -> Result<Vec<u8>, AllocError>
+    requires format { IsFormat format }
+    requires ranged { IsWritable format msg.now }
+    ensures text { IfOk result (λ v. v.items ≡ server_text format msg.now) }
+    ensures reads { IfOk result (λ v. HasReading v.items (tell format msg.now)) }
+{
+    let value = value_of(alloc, msg, format)?;
+    value.to_vec(alloc)
+}
+
+fn value_of(alloc: Global, msg: &ServerMsg, format: u8) -> Result<Value, AllocError>
+    ensures { IfOk result (λ v. view v ≡ tell format msg.now) }
+{
+    match msg {
+        ServerMsg::Connected { client, roots } => {
+            let roots = names_value(alloc, roots.as_slice())?;
+            connected_value(alloc, u64::from(*client), &roots)
+        }
+        ServerMsg::Update {
+            replaced,
+            updates,
+            batch,
+            triggered,
+        } => {
+            let replaced = names_value(alloc, replaced.as_slice())?;
+            let updates = updates_value(alloc, updates.as_slice())?;
+            let triggered = names_value(alloc, triggered.as_slice())?;
+            update_value(alloc, format, &replaced, &updates, *batch, &triggered)
+        }
+        ServerMsg::Prune { paths } => {
+            let paths = names_value(alloc, paths.as_slice())?;
+            json!(in alloc; {"paths": &paths, "type": "prune"})
+        }
+        ServerMsg::FullReload {
+            cause,
+            path,
+            batch,
+            triggered,
+        } => {
+            let path = names_value(alloc, path.as_slice())?;
+            let triggered = names_value(alloc, triggered.as_slice())?;
+            reload_value(alloc, format, *cause, &path, *batch, &triggered)
+        }
+        ServerMsg::Error {
+            path,
+            line,
+            column,
+            kind,
+        } => fault_value(alloc, "error", path, *line, *column, *kind),
+        ServerMsg::Broken {
+            path,
+            line,
+            column,
+            kind,
+        } => fault_value(alloc, "broken", path, *line, *column, *kind),
+        ServerMsg::Idle => json!(in alloc; {"type": "idle"}),
+        ServerMsg::Done => json!(in alloc; {"type": "done"}),
+        ServerMsg::Text {
+            path,
+            version,
+            text,
+        } => json!(in alloc; {
+            "path": path.as_str(),
+            "text": text.as_str(),
+            "type": "text",
+            "version": *version,
+        }),
+        ServerMsg::Missing { path } => json!(in alloc; {"path": path.as_str(), "type": "missing"}),
+        ServerMsg::NotYet { path } => json!(in alloc; {"path": path.as_str(), "type": "not-yet"}),
+        ServerMsg::Refused {
+            code,
+            path,
+            told,
+            kept,
+        } => {
+            let path = name_or_null(alloc, path)?;
+            let told = number_or_null(alloc, told)?;
+            let kept = number_or_null(alloc, kept)?;
+            refused_value(alloc, u64::from(*code), &path, &told, &kept)
+        }
+    }
+}
+
+fn connected_value(alloc: Global, client: u64, roots: &Value) -> Result<Value, AllocError>
+    ensures { IfOk result (λ v. view v ≡ entries (
+        (codes "client", Some (whole client)) ∷ (codes "roots", Some (view roots.now))
+        ∷ (codes "type", Some (string (codes "connected"))) ∷ [])) }
+{
+    json!(in alloc; {"client": client, "roots": roots, "type": "connected"})
+}
+
+fn update_value(
+    alloc: Global,
+    format: u8,
+    replaced: &Value,
+    updates: &Value,
+    batch: u64,
+    triggered: &Value,
+) -> Result<Value, AllocError>
+    ensures { IfOk result (λ v. view v ≡ entries (
+        (codes "batch", in_second format (whole batch)) ∷ (codes "replaced", Some (view replaced.now))
+        ∷ (codes "triggeredBy", in_second format (view triggered.now)) ∷ (codes "type", Some (string (codes "update")))
+        ∷ (codes "updates", Some (view updates.now)) ∷ [])) }
+{
+    if format == 2 {
+        json!(in alloc; {
+            "batch": batch,
+            "replaced": replaced,
+            "triggeredBy": triggered,
+            "type": "update",
+            "updates": updates,
+        })
+    } else {
+        json!(in alloc; {"replaced": replaced, "type": "update", "updates": updates})
+    }
+}
+
+fn reload_value(
+    alloc: Global,
+    format: u8,
+    cause: ReloadCause,
+    path: &Value,
+    batch: u64,
+    triggered: &Value,
+) -> Result<Value, AllocError>
+    ensures { IfOk result (λ v. view v ≡ entries (
+        (codes "batch", in_second format (whole batch)) ∷ (codes "cause", Some (string (cause_word cause)))
+        ∷ (codes "path", Some (view path.now)) ∷ (codes "triggeredBy", in_second format (view triggered.now))
+        ∷ (codes "type", Some (string (codes "full-reload"))) ∷ [])) }
+{
+    let cause = cause_str(cause);
+    if format == 2 {
+        json!(in alloc; {
+            "batch": batch,
+            "cause": cause,
+            "path": path,
+            "triggeredBy": triggered,
+            "type": "full-reload",
+        })
+    } else {
+        json!(in alloc; {"cause": cause, "path": path, "type": "full-reload"})
+    }
+}
+
+fn fault_value(
+    alloc: Global,
+    kind_of_message: &str,
+    path: &ModName,
+    line: u64,
+    column: u64,
+    kind: FaultWord,
+) -> Result<Value, AllocError>
+    ensures { IfOk result (λ v. view v ≡ entries (
+        (codes "column", Some (whole column)) ∷ (codes "kind", Some (string (fault_word kind)))
+        ∷ (codes "line", Some (whole line)) ∷ (codes "path", Some (string path.now))
+        ∷ (codes "type", Some (string kind_of_message.now)) ∷ [])) }
+{
+    let word = fault_str(kind);
+    json!(in alloc; {
+        "column": column,
+        "kind": word,
+        "line": line,
+        "path": path.as_str(),
+        "type": kind_of_message,
+    })
+}
+
+fn refused_value(
+    alloc: Global,
+    code: u64,
+    path: &Value,
+    told: &Value,
+    kept: &Value,
+) -> Result<Value, AllocError>
+    ensures { IfOk result (λ v. view v ≡ entries (
+        (codes "code", Some (whole code)) ∷ (codes "kept", Some (view kept.now))
+        ∷ (codes "path", Some (view path.now)) ∷ (codes "told", Some (view told.now))
+        ∷ (codes "type", Some (string (codes "refused"))) ∷ [])) }
+{
+    json!(in alloc; {"code": code, "kept": kept, "path": path, "told": told, "type": "refused"})
+}
+
+fn js_update_value(alloc: Global, update: &JsUpdate) -> Result<Value, AllocError>
+    ensures { IfOk result (λ v. view v ≡ js_update update.now) }
+{
+    json!(in alloc; {
+        "acceptedPath": update.accepted_path.as_str(),
+        "path": update.path.as_str(),
+        "timestamp": update.timestamp,
+        "type": "js-update",
+    })
+}
+
+fn updates_value(alloc: Global, updates: &[JsUpdate]) -> Result<Value, AllocError>
+    ensures { IfOk result (λ v. view v ≡ list js_update updates.now) }
+{
+    let mut items = Vec::new(alloc);
+    for update in updates.iter() {
+        items.push(js_update_value(alloc, update)?)?;
+    }
+    Ok(Value::Array(items))
+}
