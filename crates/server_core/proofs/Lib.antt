@@ -1,4 +1,14 @@
+mod Alike
+mod Changing
+mod Hearing
+mod Keeping
+mod Known
+mod Linking
+mod Looking
+mod Numbers
 mod Reaching
+mod Reloads
 mod Rows
 mod Same
-mod Saying
+mod Stepping
+mod Upto

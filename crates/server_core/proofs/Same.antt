@@ -15,7 +15,7 @@ same_collected : {X : Type 0} (f g : Name → Option X) (names : List Name) → 
 same_collected f g [] e = refl
 same_collected f g (n ∷ names) e = ap (λ o. with_entry n o (collect f names)) (e n) ∙ ap (with_entry n (g n)) (same_collected f g names e)
 
-same_filtered : (p q : Name → Bool) (names : List Name) → ((n : Name) → p n ≡ q n) → filter p names ≡ filter q names
+pub same_filtered : (p q : Name → Bool) (names : List Name) → ((n : Name) → p n ≡ q n) → filter p names ≡ filter q names
 same_filtered p q [] e = refl
 same_filtered p q (n ∷ names) e = ap (λ b. cond b (n ∷ filter p names) (filter p names)) (e n) ∙ ap (λ l. cond (q n) (n ∷ l) l) (same_filtered p q names e)
 

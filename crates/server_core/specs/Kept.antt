@@ -1,56 +1,69 @@
--- What the core keeps of the events so far, and what it says.
-use Rattle.std.specs.Prelude.{◌≡◌, ◌≤◌, Bool, true, not, ◌&&◌, List, [], ◌∷◌, length, Option, Some, None}
-use Rattle.std.specs.Option.{option_map}
-use Rattle.hmr_types.specs.declared.limits.TheConstants.{ROOTS}
-use Rattle.core_model.specs.Names.{Name, has}
-use Rattle.core_model.specs.Sources.{Sources, edit, result, EditAnswer, job, same, removed, refused}
-use Rattle.core_model.specs.Requests as reply
+-- What the core keeps, and when that is what the events so far give.
+use Rattle.std.specs.Prelude.{◌≡◌, ℕ, ◌==◌, Bool, true, false, not, ◌||◌, List, ◌∷◌, Result, IfOk, IsOk, OnOk, OnErr, Option, Some, None}
+use Rattle.std.specs.declared.alloc.AllocError.{AllocError}
+use Rattle.core_model.specs.Names.{Name}
+use Rattle.core_model.specs.Roots.{are_bad}
+use Rattle.core_model.specs.Sources.{Sources, edit, result, EditAnswer, job, same, removed, refused, edit_answer}
+use Rattle.core_model.specs.Client.{Client}
+use Rattle.core_model.specs.Requests.{Request, ask, fetch, applied_as, aborted, invalidate}
 use Rattle.core_model.specs.Core as model
-use Rattle.core_model.specs.Core.{changes_of}
+use Rattle.core_model.specs.Core.{changes_of, core_after, client_at}
 use Rattle.version_map.specs.Standing as sources
-use Rattle.version_map.specs.Standing.{settled_as}
-use Rattle.version_map.specs.declared.outcome.EditOutcome.TheVariants as edits
-use Rattle.server_core.specs.declared.event.Event.{Event}
-use Rattle.server_core.specs.declared.event.Event.TheVariants as events
+use Rattle.client_records.specs.Record as client
 use Rattle.server_core.specs.declared.event.Reply.{Reply}
-use Rattle.server_core.specs.declared.event.Reply.TheVariants as replies
+use Rattle.server_core.specs.Clients.{Clients, AreClients}
+use Rattle.server_core.specs.Said.{said, IsWritten}
 
--- the roots of the page, and the sources
+-- what the core keeps
 pub record Kept : Type 0 where
-  pub roots : List Name
+  pub roots : List Name  -- the server's
   pub sources : Sources
-
--- no two of the names are equal
-abbrev pub are_different : List Name → Bool
-are_different [] = true
-are_different (n ∷ names) = not (has names n) && are_different names
-
--- what the roots of a page are
-pub record AreRoots (roots : List Name) : Type 0 where
-  pub some : 1 ≤ length roots
-  pub few : length roots ≤ ROOTS
-  pub different : are_different roots ≡ true
+  pub clients : Clients
+  pub given : ℕ  -- the last client number given, 0 before any
 
 -- the core has what these events give, the newest first
 pub record StandsFor (past : List model.Event) (core : Kept) : Type 0 where
   pub sources : sources.StandsFor (changes_of past) core.sources
+  pub given : core.given ≡ (core_after core.roots past).given
+  pub clients : AreClients core.sources (core_after core.roots past).clients core.clients
 
--- an event, as the definitions have it
-abbrev pub event_of : Event → model.Event
-event_of (events.Edit n t) = model.change (edit n (option_map (λ v. v.items) t))
-event_of (events.Settle t v) = model.change (result t.name t.text t.outcome v)
+-- the event leaves the client of this number as it is, whatever it is
+abbrev pub leaves : ℕ → model.Event → Bool
+leaves j (model.change ch) = false
+leaves j (model.connect names) = true
+leaves j (model.request i r) = not (i == j)
+leaves j (model.disconnect i) = not (i == j)
 
--- the answer to an edit, as the core says it
-abbrev pub edit_said : EditAnswer → Reply
-edit_said (job v) = replies.Edited (edits.Job v)
-edit_said same = replies.Edited edits.Same
-edit_said (removed v) = replies.Edited (edits.Removed v)
-edit_said (refused refusal) = replies.EditRefused refusal
+abbrev pub is_job : EditAnswer → Bool
+is_job (job v) = true
+is_job same = false
+is_job (removed v) = false
+is_job (refused w) = false
 
--- a reply to an edit or a result, as the core says it
-abbrev pub said : reply.Reply → Option Reply
-said (reply.edited answer) = Some (edit_said answer)
-said (reply.settled answer) = Some (replies.Settled (settled_as answer))
-said (reply.to_client msg) = None
-said (reply.refused refusal) = None
-said reply.gone = None
+-- a request of a connected client takes memory, but for one that gives the plan up
+abbrev pub is_free_request : Option Client → Request → Bool
+is_free_request None r = true
+is_free_request (Some c) ask = false
+is_free_request (Some c) (fetch n) = false
+is_free_request (Some c) (applied_as table) = false
+is_free_request (Some c) aborted = true
+is_free_request (Some c) (invalidate n v) = false
+
+-- the event takes no memory: an edit that is no job, a client that isn't taken, that gives its plan up or
+-- goes, and a request of a client that isn't connected
+abbrev pub is_free : model.Core → model.Event → Bool
+is_free core (model.change (edit n t)) = not (is_job (edit_answer core.sources n t))
+is_free core (model.change (result n t o v)) = false
+is_free core (model.connect names) = are_bad names || model.is_full core
+is_free core (model.request i r) = is_free_request (client_at core.clients i) r
+is_free core (model.disconnect i) = true
+
+-- an event comes: afterwards the core stands for the events with this one, and the reply is the step's
+pub record IsStep (event : model.Event) (old new : Kept) (result : Result Reply AllocError) : Type 0 where
+  pub roots : new.roots ≡ old.roots
+  pub stands : (past : List model.Event) → StandsFor past old → OnOk result (StandsFor (event ∷ past) new)
+  pub reply : (past : List model.Event) → StandsFor past old → IfOk result (λ reply. said (model.step old.roots (core_after old.roots past) event).1 ≡ reply)
+  pub written : (past : List model.Event) → StandsFor past old → IfOk result IsWritten
+  pub kept : (past : List model.Event) → StandsFor past old → OnErr result (StandsFor past new)
+  pub free : (past : List model.Event) → StandsFor past old → is_free (core_after old.roots past) event ≡ true → IsOk result
+  pub others : (j : ℕ) (k : client.Kept) → leaves j event ≡ true → client_at old.clients j ≡ Some k → client_at new.clients j ≡ Some k

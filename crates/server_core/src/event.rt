@@ -1,6 +1,14 @@
 // What the core is told, and what it answers.
-use hmr_types::{EditRefusal, ModName, Ver};
+ghost use Rattle.std.specs.Prelude.{◌≡◌, IfOk};
+ghost use Rattle.std.specs.Option.{option_map};
+ghost use Rattle.server_core.specs.Said.{event_of};
+
+use core_model::Refusal;
+use hmr_types::{ClientId, EditRefusal, ModName, Table, Ver};
 use import_scan::Transformed;
+use module_graph::copy_of;
+use std::alloc::{AllocError, Global};
+use update_msgs::ServerMsg;
 use version_map::{EditOutcome, Settled};
 
 /// An event of the core.
@@ -10,10 +18,24 @@ pub enum Event {
     Edit(ModName, Option<Vec<u8>>),
     /// The result for a version of its module comes.
     Settle(Transformed, Ver),
+    /// A client comes, and names the roots of its page; where it names none, they are the server's.
+    Connect(Vec<ModName>),
+    /// A client asks what there is to do.
+    Ask(ClientId),
+    /// A client fetches a module for the plan under way.
+    Fetch(ClientId, ModName),
+    /// A client applied the plan under way, and has these modules now.
+    Applied(ClientId, Table),
+    /// A client gave the plan under way up.
+    Aborted(ClientId),
+    /// A module of a client's page invalidated itself, at this version.
+    Invalidate(ClientId, ModName, Ver),
+    /// A client goes.
+    Disconnect(ClientId),
 }
 
 /// What the core answers to an event.
-#[derive(Clone, Copy, Debug, PartialEq, Eq)]
+#[derive(Drop)]
 pub enum Reply {
     /// What an edit brought.
     Edited(EditOutcome),
@@ -21,6 +43,12 @@ pub enum Reply {
     EditRefused(EditRefusal),
     /// What a result brought.
     Settled(Settled),
+    /// The client is told this.
+    To(ServerMsg),
+    /// The client's request is refused; nothing has changed.
+    Refused(Refusal),
+    /// The client is connected no more.
+    Gone,
 }
 
 /// Why there is no core of these roots.
@@ -32,4 +60,34 @@ pub enum NewFault {
     TooManyRoots,
     /// A name is among them twice.
     DuplicateRoot,
+}
+
+impl Event {
+    /// An equal event, as the definitions have it.
+    pub fn copy(&self, alloc: Global) -> Result<Event, AllocError>
+        ensures { IfOk result (λ copy. event_of copy ≡ event_of self.now) }
+    {
+        match self {
+            Event::Edit(name, text) => Ok(Event::Edit(name.clone()?, copy_text(alloc, text)?)),
+            Event::Settle(transformed, ver) => Ok(Event::Settle(transformed.copy(alloc)?, *ver)),
+            Event::Connect(names) => Ok(Event::Connect(copy_of(alloc, names)?)),
+            Event::Ask(client) => Ok(Event::Ask(*client)),
+            Event::Fetch(client, name) => Ok(Event::Fetch(*client, name.clone()?)),
+            Event::Applied(client, table) => Ok(Event::Applied(*client, table.clone()?)),
+            Event::Aborted(client) => Ok(Event::Aborted(*client)),
+            Event::Invalidate(client, name, ver) => {
+                Ok(Event::Invalidate(*client, name.clone()?, *ver))
+            }
+            Event::Disconnect(client) => Ok(Event::Disconnect(*client)),
+        }
+    }
+}
+
+fn copy_text(alloc: Global, text: &Option<Vec<u8>>) -> Result<Option<Vec<u8>>, AllocError>
+    ensures { IfOk result (λ copy. option_map (λ t. t.items) copy ≡ option_map (λ t. t.items) text.now) }
+{
+    match text {
+        Some(text) => Ok(Some(Vec::from_slice(alloc, text)?)),
+        None => Ok(None),
+    }
 }

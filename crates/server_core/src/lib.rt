@@ -1,19 +1,25 @@
-//! The server core: the sources of modules and what is served of them, and what a page loads of that.
+//! The server core: the sources of modules, what is served of them, the connected clients, and what a
+//! page loads anew.
 //!
-//! Stands on the version map, on the search along imports and on the definitions of the core. Keeps:
-//! a [`Core`] has what its events so far give, by the definitions. Knows nothing of messages on a
-//! wire, of threads or of time. The clients of the core aren't here yet.
+//! Stands on the version map, on the records of clients and on the definitions of the core. Keeps: a
+//! [`Core`] has what its events so far give, by the definitions; an event of one client leaves the
+//! records of the others; want of memory changes nothing. Knows nothing of messages on a wire, of
+//! threads or of time.
 #![tactic(auto)]
 
+mod change;
+mod clients;
+mod connect;
 mod event;
+mod exports;
 mod fresh;
+mod linked;
 mod page_core;
 mod reach;
+mod reads;
+mod requests;
 mod unlinked;
 
 pub use event::{Event, NewFault, Reply};
 pub use fresh::Fresh;
 pub use page_core::Core;
-
-#[cfg(test)]
-mod tests;

@@ -1,38 +1,51 @@
 // The core and its step.
-ghost use Rattle.std.specs.Prelude.{◌≡◌, ◌↔◌, ◌<◌, ◌≤◌, [], ◌∷◌, List, IfOk, IsErrOf, OnErr, OnOk, Some, false, length};
+ghost use Rattle.std.specs.Prelude.{◌≡◌, ◌↔◌, ◌<◌, ◌≤◌, [], ◌∷◌, ℕ, List, IfOk, IsErrOf, IsOk, OnErr, OnOk, Some, false, length, true};
 ghost use Rattle.hmr_types.specs.declared.limits.TheConstants.{ROOTS};
 ghost use Rattle.core_model.specs.Core as model;
 ghost use Rattle.core_model.specs.FreshLoad.{fresh_load};
 ghost use Rattle.import_scan.specs.Links.{links};
 ghost use Rattle.server_core.specs.Fresh.{load_of};
-ghost use Rattle.server_core.specs.Kept.{StandsFor, are_different, event_of, said};
+ghost use Rattle.core_model.specs.Roots.{are_distinct};
+ghost use Rattle.core_model.specs.Client.{Client};
+ghost use Rattle.core_model.specs.Names.{Name};
+ghost use Rattle.core_model.specs.Requests.{ask};
+ghost use Rattle.core_model.specs.Sent.{IsReloadSent};
+ghost use Rattle.client_records.specs.Record as client;
+ghost use Rattle.server_core.specs.Kept.{StandsFor, is_free, leaves};
+ghost use Rattle.server_core.specs.Said.{IsWritten, event_of, reload_path, said};
 ghost use Rattle.server_core.specs.declared.event.NewFault.TheVariants.{DuplicateRoot, NoRoots, TooManyRoots};
 
+use crate::clients::Row;
+use crate::connect::are_distinct;
 use crate::event::{Event, NewFault, Reply};
 use crate::fresh::{Fresh, fresh_load};
+use crate::requests::{aborted, applied, ask, fetch, invalidate};
 use hmr_types::limits::ROOTS;
-use hmr_types::{ModName, Sequence};
-use module_graph::has_name;
+use hmr_types::{ClientId, ModName, Sequence};
 use std::alloc::{AllocError, Global};
 use std::marker::Model;
-use version_map::{EditFault, VersionMap};
+use version_map::VersionMap;
 
-/// The core of a server. Contracts see the roots of its page and its sources; that the sources are
-/// what the events so far give is the relation `StandsFor`.
+/// The core of a server. Contracts see the roots of its page, its sources, the connected clients by
+/// number and the last number given; that these are what the events so far give is the relation
+/// `StandsFor`.
 #[derive(Drop)]
 pub struct Core {
-    roots: Sequence<ModName>,
-    versions: VersionMap,
+    pub(crate) roots: Sequence<ModName>,
+    pub(crate) versions: VersionMap,
+    pub(crate) clients: Vec<Row>,
+    pub(crate) given: ClientId,
 }
 
 impl Model for Core {
-    ghost use Rattle.server_core.specs.Kept.{AreRoots, Kept};
+    ghost use Rattle.server_core.specs.Inside.{IsSoundInside, kept_of};
+    ghost use Rattle.server_core.specs.Kept.{Kept};
 
     ghost Value = { Kept };
 
-    ghost view = { λ c. record { roots = c.roots; sources = c.versions } };
+    ghost view = { kept_of };
 
-    ghost invariant = { λ c. AreRoots c.roots };
+    ghost invariant = { IsSoundInside };
 }
 
 impl Core {
@@ -44,7 +57,7 @@ impl Core {
         ensures stands { IfOk result (StandsFor []) }
         ensures none { IsErrOf result NoRoots ↔ (roots.items ≡ []) }
         ensures many { IsErrOf result TooManyRoots ↔ (ROOTS < length roots.items) }
-        ensures twice { IsErrOf result DuplicateRoot ↔ (length roots.items ≤ ROOTS) × (are_different roots.items ≡ false) }
+        ensures twice { IsErrOf result DuplicateRoot ↔ (length roots.items ≤ ROOTS) × (are_distinct roots.items ≡ false) }
     {
         if roots.is_empty() {
             return Err(NewFault::NoRoots);
@@ -52,31 +65,48 @@ impl Core {
         if roots.len() > ROOTS {
             return Err(NewFault::TooManyRoots);
         }
-        if !are_different(&roots) {
+        if !are_distinct(&roots) {
             return Err(NewFault::DuplicateRoot);
         }
         Ok(Core {
             roots: Sequence::from_vec(roots),
             versions: VersionMap::new(alloc),
+            clients: Vec::new(alloc),
+            given: 0,
         })
     }
 
-    /// The core's step for an event, and its reply. After an error the core is as it was.
-    pub fn step(&mut self, event: Event) -> Result<Reply, AllocError>
+    /// The core's step for an event, and its reply. After a want of memory the core stands for the same
+    /// events as before. An edit that is no job takes none, nor does a Connect that is refused, an
+    /// Aborted, a Disconnect, or a request of a client that isn't connected. An event of one client
+    /// leaves the record of every other as it was. An Ask is answered by a full reload exactly where one
+    /// is to be sent, and each message that is answered can be written.
+    pub fn step(&mut self, alloc: Global, event: Event) -> Result<Reply, AllocError>
         ensures stands { (past : List model.Event) → StandsFor past self.old → OnOk result (StandsFor (event_of event ∷ past) self.new) }
-        ensures reply { (past : List model.Event) → StandsFor past self.old → IfOk result (λ reply. said (model.step self.old.roots (model.core_after self.old.roots past) (event_of event)).1 ≡ Some reply) }
+        ensures reply { (past : List model.Event) → StandsFor past self.old → IfOk result (λ reply. said (model.step self.old.roots (model.core_after self.old.roots past) (event_of event)).1 ≡ reply) }
         ensures roots { self.new.roots ≡ self.old.roots }
-        ensures unchanged { OnErr result (self.new ≡ self.old) }
+        ensures kept { (past : List model.Event) → StandsFor past self.old → OnErr result (StandsFor past self.new) }
+        ensures free { (past : List model.Event) → StandsFor past self.old → is_free (model.core_after self.old.roots past) (event_of event) ≡ true → IsOk result }
+        ensures written { (past : List model.Event) → StandsFor past self.old → IfOk result IsWritten }
+        ensures others { (j : ℕ) (k : client.Kept) → leaves j (event_of event) ≡ true → model.client_at self.old.clients j ≡ Some k → model.client_at self.new.clients j ≡ Some k }
+        ensures reload { (past : List model.Event) (i : ℕ) (c : Client) (path : List Name) → StandsFor past self.old → event_of event ≡ model.request i ask → model.client_at (model.core_after self.old.roots past).clients i ≡ Some c → IfOk result (λ reply. (reload_path reply ≡ Some path) ↔ IsReloadSent (model.core_after self.old.roots past).sources c path) }
     {
         match event {
-            Event::Edit(name, text) => match self.versions.edit(name, text) {
-                Ok(outcome) => Ok(Reply::Edited(outcome)),
-                Err(EditFault::Refused(refusal)) => Ok(Reply::EditRefused(refusal)),
-                Err(EditFault::NoMemory) => Err(AllocError),
-            },
-            Event::Settle(transformed, ver) => {
-                Ok(Reply::Settled(self.versions.settle(transformed, ver)))
+            Event::Edit(name, text) => self.edit(name, text),
+            Event::Settle(transformed, ver) => self.settle(alloc, transformed, ver),
+            Event::Connect(names) => self.connect(alloc, names),
+            Event::Ask(client) => ask(alloc, &mut self.clients, &self.versions, client),
+            Event::Fetch(client, name) => {
+                fetch(alloc, &mut self.clients, &self.versions, client, name)
             }
+            Event::Applied(client, table) => {
+                applied(alloc, &mut self.clients, &self.versions, client, &table)
+            }
+            Event::Aborted(client) => Ok(aborted(&mut self.clients, &self.versions, client)),
+            Event::Invalidate(client, name, ver) => {
+                invalidate(&mut self.clients, &self.versions, client, name, ver)
+            }
+            Event::Disconnect(client) => Ok(self.disconnect(client)),
         }
     }
 
@@ -87,15 +117,5 @@ impl Core {
         ensures stands { (past : List model.Event) → StandsFor past self.now → IfOk result (λ fresh. load_of fresh ≡ fresh_load links (model.core_after self.now.roots past).sources.served self.now.roots) }
     {
         fresh_load(alloc, &self.versions, self.roots.as_slice())
-    }
-}
-
-// Whether no two of the roots are equal. It recurses over the roots, of which there are at most 16.
-fn are_different(roots: &[ModName]) -> bool
-    ensures { result ≡ are_different roots.now }
-{
-    match roots {
-        [] => true,
-        [first, rest @ ..] => !has_name(rest, first) && are_different(rest),
     }
 }

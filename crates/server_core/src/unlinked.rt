@@ -1,10 +1,13 @@
 // The imports that no export answers. Which names a served text imports from which dependency is read
 // from the text again, since an analysis keeps the dependencies alone.
 ghost use Rattle.std.specs.Prelude.{◌≡◌, ◌++◌, IfOk, OnOk, filter, flat_map, map, not};
-ghost use Rattle.core_model.specs.Names.{at, has, same_name, sorted};
-ghost use Rattle.core_model.specs.FreshLoad.{linked_from, unlinked_edge, unlinked_module};
+ghost use Rattle.core_model.specs.Names.{at, has, sorted};
+ghost use Rattle.core_model.specs.FreshLoad.{Served, imports_in, unlinked_edge, unlinked_module};
 ghost use Rattle.import_scan.specs.Links.{links};
+ghost use Rattle.server_core.specs.Searching.{AreClosed, HaveExports, kept_or_none, unlinked_by};
 
+use crate::exports::{ExportSet, Exports};
+use crate::linked::Linked;
 use hmr_types::{ModName, Name};
 use import_scan::{Link, links};
 use module_graph::{copy_of, rising};
@@ -15,17 +18,19 @@ use version_map::VersionMap;
 pub(crate) type Unlinked = (ModName, ModName, Name);
 
 /// The imports of these modules from served ones that don't export them. It reads the served text of
-/// each of the names once.
+/// each of the names once, and takes the time of a sort of what they import and export.
 pub(crate) fn unlinked_names(
     alloc: Global,
     versions: &VersionMap,
     names: &[ModName],
 ) -> Result<Vec<Unlinked>, AllocError>
+    requires { AreClosed versions.now.served names.now }
     ensures { IfOk result (λ found. found.items ≡ flat_map (λ n. unlinked_module links versions.now.served n (at versions.now.served n)) names.now) }
 {
+    let exports = Exports::of(alloc, versions, names)?;
     let mut found = Vec::new(alloc);
     for name in names {
-        add_module(&mut found, alloc, versions, name)?;
+        add_module(&mut found, alloc, versions, &exports, name)?;
     }
     Ok(found)
 }
@@ -34,32 +39,53 @@ fn add_module(
     found: &mut Vec<Unlinked>,
     alloc: Global,
     versions: &VersionMap,
+    exports: &Exports,
     name: &ModName,
 ) -> Result<(), AllocError>
+    requires { HaveExports versions.now.served (imports_in (at versions.now.served name.now)) exports.now }
     ensures { OnOk result (found.new.items ≡ found.old.items ++ unlinked_module links versions.now.served name.now (at versions.now.served name.now)) }
 {
     let Some(served) = versions.served(name) else {
         return Ok(());
     };
-    let links = links(alloc, name, served.text.as_slice())?;
-    let imports = copy_of(alloc, served.analysis.imports.as_slice())?;
+    let text = served.text.as_slice();
+    let links = links(alloc, name, text)?;
+    let imports = served.analysis.imports.as_slice();
+    add_imports(found, alloc, exports, name, imports, &links)?;
+    Ok(())
+}
+
+// What a module of these imports and links imports and isn't exported.
+fn add_imports(
+    found: &mut Vec<Unlinked>,
+    alloc: Global,
+    exports: &Exports,
+    name: &ModName,
+    imports: &[ModName],
+    links: &[Link],
+) -> Result<(), AllocError>
+    ensures { (served : Served) → HaveExports served imports.now exports.now → OnOk result (found.new.items ≡ found.old.items ++ flat_map (λ m. unlinked_edge links.now (at served m) name.now m) (sorted imports.now)) }
+{
+    let linked = Linked::of(alloc, links)?;
+    let imports = copy_of(alloc, imports)?;
     let dependencies = rising(imports)?;
-    add_edges(found, alloc, versions, name, &dependencies, &links)
+    add_edges(found, alloc, exports, name, &dependencies, &linked)?;
+    Ok(())
 }
 
 // What a module imports from these dependencies and they don't export.
 fn add_edges(
     found: &mut Vec<Unlinked>,
     alloc: Global,
-    versions: &VersionMap,
+    exports: &Exports,
     name: &ModName,
     dependencies: &[ModName],
-    links: &[Link],
+    linked: &Linked,
 ) -> Result<(), AllocError>
-    ensures { OnOk result (found.new.items ≡ found.old.items ++ flat_map (λ m. unlinked_edge links.now (at versions.now.served m) name.now m) dependencies.now) }
+    ensures { OnOk result (found.new.items ≡ found.old.items ++ flat_map (unlinked_by exports.now linked.now name.now) dependencies.now) }
 {
     for dependency in dependencies {
-        add_edge(found, alloc, versions, name, dependency, links)?;
+        add_edge(found, alloc, exports, name, dependency, linked)?;
     }
     Ok(())
 }
@@ -67,18 +93,20 @@ fn add_edges(
 fn add_edge(
     found: &mut Vec<Unlinked>,
     alloc: Global,
-    versions: &VersionMap,
+    exports: &Exports,
     name: &ModName,
     dependency: &ModName,
-    links: &[Link],
+    linked: &Linked,
 ) -> Result<(), AllocError>
-    ensures { OnOk result (found.new.items ≡ found.old.items ++ unlinked_edge links.now (at versions.now.served dependency.now) name.now dependency.now) }
+    ensures { OnOk result (found.new.items ≡ found.old.items ++ unlinked_by exports.now linked.now name.now dependency.now) }
 {
-    let Some(served) = versions.served(dependency) else {
+    let Some(set) = exports.get(dependency) else {
         return Ok(());
     };
-    let names = unexported(alloc, dependency, links, served.analysis.exports.as_slice())?;
-    add_names(found, name, dependency, &names)
+    let taken = linked.get(dependency);
+    let names = unexported(alloc, taken, set)?;
+    add_names(found, name, dependency, &names)?;
+    Ok(())
 }
 
 fn add_names(
@@ -95,40 +123,24 @@ fn add_names(
     Ok(())
 }
 
-// The names that are imported from the dependency and aren't among its exports, rising, each once.
-fn unexported(
-    alloc: Global,
-    dependency: &ModName,
-    links: &[Link],
-    exports: &[Name],
-) -> Result<Vec<Name>, AllocError>
-    ensures { IfOk result (λ names. names.items ≡ sorted (filter (λ x. not (has exports.now x)) (linked_from links.now dependency.now))) }
+// The names that aren't in the set, rising, each once.
+fn unexported(alloc: Global, names: &[Name], set: &ExportSet) -> Result<Vec<Name>, AllocError>
+    ensures { IfOk result (λ left. left.items ≡ sorted (filter (λ x. not (has set.now x)) names.now)) }
 {
-    let mut names = taken(alloc, dependency, links, exports)?;
-    names.sort()?;
-    names.dedup();
-    Ok(names)
+    let mut left = without(alloc, names, set)?;
+    left.sort()?;
+    left.dedup();
+    Ok(left)
 }
 
-fn taken(
-    alloc: Global,
-    dependency: &ModName,
-    links: &[Link],
-    exports: &[Name],
-) -> Result<Vec<Name>, AllocError>
-    ensures { IfOk result (λ names. names.items ≡ filter (λ x. not (has exports.now x)) (linked_from links.now dependency.now)) }
+fn without(alloc: Global, names: &[Name], set: &ExportSet) -> Result<Vec<Name>, AllocError>
+    ensures { IfOk result (λ left. left.items ≡ filter (λ x. not (has set.now x)) names.now) }
 {
-    let mut names = Vec::new(alloc);
-    for link in links {
-        if link.dependency() == dependency && !has_export(exports, link.name()) {
-            names.push(link.name().clone()?)?;
+    let mut left = Vec::new(alloc);
+    for name in names {
+        if !set.has(name) {
+            left.push(name.clone()?)?;
         }
     }
-    Ok(names)
-}
-
-fn has_export(exports: &[Name], name: &Name) -> bool
-    ensures { result ≡ has exports.now name.now }
-{
-    exports.iter().any(|x| x == name)
+    Ok(left)
 }

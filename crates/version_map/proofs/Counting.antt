@@ -1,14 +1,16 @@
 -- The counts of the names, of the bytes and of the awaited results, through each change.
 use Rattle.std.proofs.Common.{◌≡◌, ℕ, ◌+◌, ◌≤◌, Bool, true, false, List, ◌∷◌, length, refl, ap, sym, ◌∙◌, arith}
-use Rattle.std.specs.Prelude.{IfSome, ◌-◌, Option, Some, None, if◌then◌else◌}
+use Rattle.std.specs.Prelude.{IfSome, IsUtf8, ◌-◌, Option, Some, None, if◌then◌else◌}
 use Rattle.std.specs.Option.{option_map}
 use Rattle.std.specs.BTreeMap.{BTreeMap}
 use Rattle.std.proofs.Math.Path.{subst}
+use Rattle.hmr_types.specs.declared.analysis.Analysis.{Analysis}
 use Rattle.hmr_types.specs.declared.analysis.Outcome.{Outcome}
+use Rattle.hmr_types.specs.declared.analysis.Outcome.TheVariants.{Good, Bad}
 use Rattle.core_model.specs.Names.{Name, same_name, at}
-use Rattle.core_model.specs.Sources.{Text, Source, Serving, Sources, job, removed, edit, result, Change, edit_answer, result_answer, ResultAnswer, serve, refuse, late, outstanding, text_length}
+use Rattle.core_model.specs.Sources.{Text, Source, Serving, Sources, job, removed, edit, result, Change, edit_answer, result_answer, ResultAnswer, serve, refuse, late, outstanding, text_length, is_awaited, answer_of}
 use Rattle.version_map.specs.Changes.{ChangesAt}
-use Rattle.version_map.specs.Entries.{answer_at, current_rows, served_rows, entry_at, source_in, served_in, settled_source, settled_serving, waiting}
+use Rattle.version_map.specs.Entries.{IsGood, answer_at, current_rows, served_rows, entry_at, source_in, served_in, settled_source, settled_serving, waiting}
 use Rattle.version_map.specs.Inside.{Fits, IsCounted, sources_of}
 use Rattle.version_map.specs.declared.entry.Entry.{Entry}
 use Rattle.version_map.specs.declared.version_map.VersionMap.TheInside.{Inside}
@@ -63,6 +65,26 @@ module _ (a : Inside) (i : IsCounted a) (n : Name) where
   servings_after : (x : Option Source) (o : Option Serving) (es : BTreeMap Name Entry) → ChangesAt n x o a.entries.entries es.entries → ServingFits o → (m : Name) → ServingFits (served_in (entry_at es.entries m))
   servings_after x o es c h m = subst ServingFits (sym (c.servings m)) (either_fits (λ s. Fits s.version s.text) (same_name n m) o (served_in (entry_at a.entries.entries m)) h (i.servings_fit m))
 
+  -- a text that is UTF-8
+  abbrev TextReads : Option Serving → Type 0
+  TextReads x = IfSome x (λ s. IsUtf8 s.text)
+
+  text_reads_now : (m : Name) → TextReads (at (served_rows a.entries.entries) m)
+  text_reads_now m = subst TextReads (sym (at_served a.entries.entries m i.ordered)) (i.servings_read m)
+
+  texts_after : (x : Option Source) (o : Option Serving) (es : BTreeMap Name Entry) → ChangesAt n x o a.entries.entries es.entries → TextReads o → (m : Name) → TextReads (served_in (entry_at es.entries m))
+  texts_after x o es c h m = subst TextReads (sym (c.servings m)) (either_fits (λ s. IsUtf8 s.text) (same_name n m) o (served_in (entry_at a.entries.entries m)) h (i.servings_read m))
+
+  good_served : (b : Bool) (o : Outcome) (x : Analysis) → (if b then answer_of o else late) ≡ serve x → IsGood o
+  good_served true (Good y) x e = tt
+  good_served true (Bad f) x e = absurd cc
+  good_served false o x e = absurd cc
+
+  text_settled : (old : Option Source) (was : Option Serving) (t : Text) (o : Outcome) (v : ℕ) (ans : ResultAnswer) → (IsGood o → IsUtf8 t) → answer_at old t o v ≡ ans → TextReads was → TextReads (settled_serving ans t v was)
+  text_settled old was t o v (serve x) r e k = r (good_served (is_awaited old t v) o x e)
+  text_settled old was t o v (refuse f) r e k = k
+  text_settled old was t o v late r e k = k
+
   -- what a result is of fits as its source does
   result_fits : (old : Option Source) (t : Text) (v : ℕ) → IsOfSource old t v → SourceFits old → Fits v t
   result_fits old t v s h = subst (λ k. Fits k t) (sym s.version) (subst (λ u. Fits s.source.version u) (sym s.text) (subst SourceFits s.is h))
@@ -97,6 +119,7 @@ module _ (a : Inside) (i : IsCounted a) (n : Name) where
         counted_fits = room.number_fits;
         sources_fit = sources_after x o es c (omega (arith, room.number), room.number_fits, room.text_fits);
         servings_fit = servings_after x o es c (i.servings_fit n);
+        servings_read = texts_after x o es c (i.servings_read n);
         enough = omega (arith, i.enough, waits, room.number);
       }
 
@@ -113,6 +136,7 @@ module _ (a : Inside) (i : IsCounted a) (n : Name) where
         counted_fits = room.1;
         sources_fit = sources_after None None es c tt;
         servings_fit = servings_after None None es c tt;
+        servings_read = texts_after None None es c tt;
         enough = omega (arith, i.enough, waits, room.0, l);
       }
 
@@ -141,9 +165,9 @@ module _ (a : Inside) (i : IsCounted a) (n : Name) where
   added (refuse f) k = omega arith
   added late k = omega arith
 
-  pub settled_counted : (t : Text) (o : Outcome) (v served_no : ℕ) (ans : ResultAnswer) (es : BTreeMap Name Entry) → result_answer (sources_of a) n t o v ≡ ans → served_no ≡ served_no_after ans a.served_no
+  pub settled_counted : (t : Text) (o : Outcome) (v served_no : ℕ) (ans : ResultAnswer) (es : BTreeMap Name Entry) → (IsGood o → IsUtf8 t) → result_answer (sources_of a) n t o v ≡ ans → served_no ≡ served_no_after ans a.served_no
       → ChangesAt n (option_map (settled_source ans t v) (at (sources_of a).current n)) (settled_serving ans t v (at (sources_of a).served n)) a.entries.entries es.entries → IsCounted (record { entries = es; total = a.total; counted = a.counted; served_no = served_no })
-  settled_counted t o v served_no ans es e l c =
+  settled_counted t o v served_no ans es r e l c =
       let old = at (current_rows a.entries.entries) n in
       let x : Option Source = option_map (settled_source ans t v) old in
       let w : Weighs old t v ans = weighs old t o v ans e in
@@ -156,6 +180,7 @@ module _ (a : Inside) (i : IsCounted a) (n : Name) where
         counted_fits = i.counted_fits;
         sources_fit = sources_after x _ es c (source_settled old t o v ans e (source_fits_now n));
         servings_fit = servings_after x _ es c (serving_settled old (at (served_rows a.entries.entries) n) t o v ans e (source_fits_now n) (serving_fits_now n));
+        servings_read = texts_after x _ es c (text_settled old (at (served_rows a.entries.entries) n) t o v ans r e (text_reads_now n));
         enough = omega (arith, i.enough, waits, w.waits, l, added ans a.served_no);
       }
 
@@ -187,8 +212,8 @@ module _ (a : Inside) (i : IsCounted a) (n : Name) where
       (subst (λ s. Settles t o v (source_in (entry_at a.entries.entries n)) s new) (sym (at_served a.entries.entries n i.ordered)) c)
 
   module _ (t : Text) (o : Outcome) (v served_no : ℕ) (es : BTreeMap Name Entry) (l : served_no ≡ served_no_after (result_answer (sources_of a) n t o v) a.served_no) (c : Settles t o v (source_in (entry_at a.entries.entries n)) (served_in (entry_at a.entries.entries n)) es.entries) where
-    pub counted_on : IsCounted (record { entries = es; total = a.total; counted = a.counted; served_no = served_no })
-    counted_on = settled_counted t o v served_no (result_answer (sources_of a) n t o v) es refl l (settled_change t o v es.entries c)
+    pub counted_on : (IsGood o → IsUtf8 t) → IsCounted (record { entries = es; total = a.total; counted = a.counted; served_no = served_no })
+    counted_on r = settled_counted t o v served_no (result_answer (sources_of a) n t o v) es r refl l (settled_change t o v es.entries c)
 
     pub settled : (past : List Change) → StandsFor past (sources_of a) → StandsFor (result n t o v ∷ past) (sources_of (record { entries = es; total = a.total; counted = a.counted; served_no = served_no }))
     settled past h =

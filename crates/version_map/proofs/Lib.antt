@@ -2,3 +2,4 @@ mod Counting
 mod Onces
 mod Rows
 mod Standing
+mod Reading

@@ -1,11 +1,12 @@
 -- What an entry says of its name: the current source, and what is served.
-use Rattle.std.specs.Prelude.{ℕ, List, [], ◌∷◌, map, Option, Some, None, if◌then◌else◌}
+use Rattle.std.specs.Prelude.{ℕ, List, [], ◌∷◌, map, Option, Some, None, if◌then◌else◌, ⊤}
 use Rattle.std.specs.Option.{option_map}
 use Rattle.std.specs.Cmp.Lexicographic.{slice_cmp}
 use Rattle.std.specs.Ordering.{nat_cmp}
 use Rattle.std.specs.BTreeMap.{is_at}
 use Rattle.std.specs.Map.{lookup}
 use Rattle.hmr_types.specs.declared.analysis.Outcome.{Outcome}
+use Rattle.hmr_types.specs.declared.analysis.Outcome.TheVariants.{Good, Bad}
 use Rattle.hmr_types.specs.declared.analysis.TextFault.{TextFault}
 use Rattle.core_model.specs.Names.{Name, with_entry}
 use Rattle.core_model.specs.Sources.{Text, Verdict, outstanding, good, bad, Source, Serving, is_outstanding, is_awaited, ResultAnswer, serve, refuse, late, answer_of}
@@ -60,6 +61,11 @@ current_rows es = map (λ e. (e.0, source_of e.1)) es
 abbrev pub served_rows : List (Name × Entry) → List (Name × Serving)
 served_rows [] = []
 served_rows (e ∷ es) = with_entry e.0 (served_of e.1) (served_rows es)
+
+-- the text is a module
+abbrev pub IsGood : Outcome → Type 0
+IsGood (Good a) = ⊤
+IsGood (Bad f) = ⊥
 
 -- what a result answers, by the current source
 abbrev pub answer_at : Option Source → Text → Outcome → ℕ → ResultAnswer

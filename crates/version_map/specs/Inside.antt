@@ -1,5 +1,5 @@
 -- What the code keeps, as the definitions see it, and what holds of it always.
-use Rattle.std.specs.Prelude.{◌≡◌, ℕ, ◌+◌, ◌≤◌, List, length, sum_by, IfSome}
+use Rattle.std.specs.Prelude.{◌≡◌, ℕ, ◌+◌, ◌≤◌, List, length, sum_by, IfSome, IsUtf8}
 use Rattle.std.specs.BTreeMap.{IsOrdered}
 use Rattle.std.specs.Cmp.Lexicographic.{slice_cmp}
 use Rattle.std.specs.Ordering.{nat_cmp}
@@ -22,7 +22,7 @@ abbrev pub Fits : ℕ → Text → Type 0
 Fits v t = (1 ≤ v) × (v ≤ LARGEST_NUMBER) × (length t ≤ TEXT_BYTES)
 
 -- The bytes are counted. Each counted edit leads to one serving or to one removal at most, so all
--- numbers fit.
+-- numbers fit. What is served is UTF-8, since it reads as a module.
 pub record IsCounted (a : Inside) : Type 0 where
   pub ordered : IsOrdered (slice_cmp nat_cmp) a.entries
   pub total : a.total ≡ total_of (sources_of a)
@@ -30,4 +30,5 @@ pub record IsCounted (a : Inside) : Type 0 where
   pub counted_fits : a.counted ≤ LARGEST_NUMBER
   pub sources_fit : (n : Name) → IfSome (source_in (entry_at a.entries.entries n)) (λ s. Fits s.version s.text)
   pub servings_fit : (n : Name) → IfSome (served_in (entry_at a.entries.entries n)) (λ s. Fits s.version s.text)
+  pub servings_read : (n : Name) → IfSome (served_in (entry_at a.entries.entries n)) (λ s. IsUtf8 s.text)
   pub enough : a.served_no + awaited (current_rows a.entries.entries) ≤ a.counted

@@ -1,5 +1,5 @@
 // The map from names to sources and to what is served.
-ghost use Rattle.std.specs.Prelude.{◌≡◌, ◌+◌, ◌≤◌, [], ◌∷◌, List, OnErr, OnOk, IfOk, IfErr, IfSome, Some, None, length};
+ghost use Rattle.std.specs.Prelude.{◌≡◌, ◌+◌, ◌≤◌, [], ◌∷◌, List, OnErr, OnOk, IfOk, IfErr, IfSome, Some, None, length, IsUtf8};
 ghost use Rattle.std.specs.Option.{option_map, option_copied};
 ghost use Rattle.core_model.specs.Names.{at};
 ghost use Rattle.core_model.specs.Sources as changes;
@@ -7,7 +7,7 @@ ghost use Rattle.core_model.specs.Sources.{Change, answer_for, edit_answer, job,
 ghost use Rattle.hmr_types.specs.declared.limits.TheConstants.{LARGEST_NUMBER};
 ghost use Rattle.hmr_types.specs.declared.words.EditRefusal.TheVariants.{NumbersSpent};
 ghost use Rattle.version_map.specs.Changes.{ChangesAt};
-ghost use Rattle.version_map.specs.Entries.{answer_at, entry_at, served_in, serving_of, settled_serving, settled_source, source_in, unserved_source};
+ghost use Rattle.version_map.specs.Entries.{IsGood, answer_at, entry_at, served_in, serving_of, settled_serving, settled_source, source_in, unserved_source};
 ghost use Rattle.version_map.specs.Inside.{Fits};
 ghost use Rattle.version_map.specs.Standing.{Answered, Answers, StandsFor, answer_in, refused_in, settled_as, outstanding_in};
 
@@ -182,6 +182,7 @@ impl VersionMap {
     }
 
     fn settle_parts(&mut self, name: &ModName, ver: Ver, text: Vec<u8>, outcome: Outcome) -> Settled
+        requires { IsGood outcome → IsUtf8 text.items }
         ensures stands { (past : List Change) → StandsFor past self.old → StandsFor (changes.result name.now text.items outcome ver ∷ past) self.new }
         ensures answer { result ≡ settled_as (result_answer self.old name.now text.items outcome ver) }
     {
@@ -196,6 +197,7 @@ impl VersionMap {
         ensures source { source_in (option_copied result) ≡ at self.now.current name.now }
         ensures serving { served_in (option_copied result) ≡ at self.now.served name.now }
         ensures fits { IfSome (served_in (option_copied result)) (λ s. Fits s.version s.text) }
+        ensures utf8 { IfSome (served_in (option_copied result)) (λ s. IsUtf8 s.text) }
     {
         self.entries.get(name)
     }
@@ -204,6 +206,7 @@ impl VersionMap {
     pub fn served(&self, name: &ModName) -> Option<&Served>
         ensures value { option_map (λ s. serving_of s.now) result ≡ at self.now.served name.now }
         ensures fits { IfSome result (λ s. Fits s.now.ver s.now.text) }
+        ensures utf8 { IfSome result (λ s. IsUtf8 s.now.text) }
     {
         match self.entry(name) {
             Some(entry) => entry.served(),

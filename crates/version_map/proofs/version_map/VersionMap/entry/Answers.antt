@@ -1,5 +1,5 @@
 use Rattle.std.proofs.Common.{sym, ◌∙◌, ap}
-use Rattle.std.specs.Prelude.{IfSome}
+use Rattle.std.specs.Prelude.{IfSome, IsUtf8}
 use Rattle.std.proofs.Math.Path.{subst}
 use Rattle.version_map.specs.Inside.{Fits}
 use Rattle.version_map.specs.Entries.{served_in, source_in}
@@ -14,3 +14,6 @@ returns-clause-serving c = rw (← c.self.view_is) (ap served_in c.get.ensures.v
 
 pub returns-clause-fits : goal.returns-clause-fits
 returns-clause-fits c = subst (λ o. IfSome (served_in o) (λ s. Fits s.version s.text)) (sym c.get.ensures.value) (c.self.invariant.servings_fit c.args.name.now)
+
+pub returns-clause-utf8 : goal.returns-clause-utf8
+returns-clause-utf8 c = subst (λ o. IfSome (served_in o) (λ s. IsUtf8 s.text)) (sym c.get.ensures.value) (c.self.invariant.servings_read c.args.name.now)

@@ -1,0 +1,11 @@
+pub mod Noticing
+pub mod Changes
+pub mod Fetching
+pub mod Invalidating
+pub mod Rows
+pub mod Beginning
+pub mod Asking
+pub mod Pruning
+pub mod Tabling
+pub mod Renewing
+pub mod Applying

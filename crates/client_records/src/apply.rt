@@ -1,0 +1,98 @@
+// A client tells that it applied the plan under way, and what is now on its page. Where that is what the
+// plan makes of the page, the page has these modules from now on. All that takes memory comes before
+// any change that counts: a name that is known and unmarked is as good as one that isn't known.
+ghost use Rattle.std.specs.Prelude.{◌≡◌, ◌++◌, ℕ, IfOk, OnErr, OnOk, filter, not};
+ghost use Rattle.std.specs.Cmp.Lexicographic.{slice_cmp};
+ghost use Rattle.std.specs.List.Sorted.{IsStrictlySortedBy};
+ghost use Rattle.std.specs.Ordering.{nat_cmp};
+ghost use Rattle.core_model.specs.Client.{Client};
+ghost use Rattle.core_model.specs.Names.{has, names_of};
+ghost use Rattle.core_model.specs.Requests.{applied_as, heard};
+ghost use Rattle.core_model.specs.Sources.{Sources};
+ghost use Rattle.client_records.specs.Answers.{IsWritten, reply_of};
+ghost use Rattle.client_records.specs.Inside.{AreCounted};
+ghost use Rattle.client_records.specs.Made.{HasMade};
+ghost use Rattle.client_records.specs.Record.{IsRecord};
+
+use crate::answer::Answer;
+use crate::client_record::ClientRecord;
+use crate::marks::{enter_all, renew_all};
+use client_queue::ClientQueue;
+use core_model::Refusal;
+use hmr_types::{ModName, Sequence, Table};
+use module_graph::View;
+use page_plan::Applied;
+use prune_list::unreached;
+use std::alloc::{AllocError, Global};
+use update_msgs::ServerMsg;
+use version_map::VersionMap;
+
+impl ClientRecord {
+    /// The plan under way is applied, where the table told is what it makes of the page. A want of
+    /// memory changes nothing. It walks the plan's modules and those of the page.
+    pub fn applied(
+        &mut self,
+        alloc: Global,
+        sources: &VersionMap,
+        table: &Table,
+    ) -> Result<Answer, AllocError>
+        ensures stands { (i : ℕ) (c : Client) → IsRecord sources.now c self.old → OnOk result (IsRecord sources.now (heard i sources.now c (applied_as table.now)).0 self.new) }
+        ensures reply { (i : ℕ) (c : Client) → IsRecord sources.now c self.old → IfOk result (λ answer. reply_of answer ≡ (heard i sources.now c (applied_as table.now)).1) }
+        ensures written { IfOk result IsWritten }
+        ensures unchanged { (s : Sources) (c : Client) → IsRecord s c self.old → OnErr result (IsRecord s c self.new) }
+    {
+        let Some(plan) = &self.plan else {
+            return Ok(Answer::Refused(Refusal::OutOfTurn));
+        };
+        match plan.apply(alloc, self.roots.as_slice(), &self.view, table)? {
+            Applied::Unfetched(name) => Ok(Answer::Refused(Refusal::Unfetched(name))),
+            Applied::Mismatch { name, told, kept } => {
+                Ok(Answer::Refused(Refusal::Mismatch { name, told, kept }))
+            }
+            Applied::Done(made) => {
+                self.take(alloc, sources, made)?;
+                Ok(Answer::To(ServerMsg::Done))
+            }
+        }
+    }
+
+    // The page has these modules from now on, and no plan is under way.
+    fn take(&mut self, alloc: Global, sources: &VersionMap, made: View) -> Result<(), AllocError>
+        requires rising { IsStrictlySortedBy (slice_cmp nat_cmp) (names_of made) }
+        requires counted { AreCounted made }
+        ensures made { OnOk result (HasMade sources.now made self.old self.new) }
+        ensures unchanged { (s : Sources) (c : Client) → IsRecord s c self.old → OnErr result (IsRecord s c self.new) }
+    {
+        let dropped = unreached(alloc, &made, self.roots.as_slice())?;
+        let names = both_names(alloc, &self.view, &made)?;
+        let forced = self.queue.forced(alloc)?;
+        enter_all(&mut self.queue, &names)?;
+        renew_all(&mut self.queue, &names, &made, sources);
+        unforce_all(&mut self.queue, &forced);
+        self.queue.release();
+        self.loaded = true;
+        self.view = made;
+        self.plan = None;
+        self.dropped = Sequence::from_vec(dropped);
+        Ok(())
+    }
+}
+
+// The names of the modules of both views.
+fn both_names(alloc: Global, view: &View, made: &View) -> Result<Vec<ModName>, AllocError>
+    ensures { IfOk result (λ names. names.items ≡ names_of view.now ++ names_of made.now) }
+{
+    let mut names = view.names(alloc)?;
+    let mut more = made.names(alloc)?;
+    names.append(&mut more)?;
+    Ok(names)
+}
+
+// None of the names is forced any more. It takes no memory.
+fn unforce_all(queue: &mut ClientQueue, names: &[ModName])
+    ensures { queue.new ≡ record queue.old { forced = filter (λ m. not (has names.now m)) queue.old.forced } }
+{
+    for name in names {
+        queue.unforce(name);
+    }
+}
