@@ -5,3 +5,12 @@ pub mod Standing
 pub mod Following
 pub mod Runs
 pub mod Words
+pub mod Listing
+pub mod Shown
+pub mod Turns
+pub mod Each
+pub mod Meant
+pub mod Registrations
+pub mod Shelves
+pub mod Registering
+pub mod Births

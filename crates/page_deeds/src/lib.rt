@@ -1,21 +1,32 @@
 //! What happens to the instances of a page: one deed of the model, one function.
 //!
-//! It stands on `page_instances`, on the model of a client and on the module language. Keeps: a page stands
-//! for a runtime of the model by number and by name; each deed here follows the deed of the same name there,
-//! so the page then stands for what that makes of the runtime, and the lines are those that it tells. Knows
-//! nothing of plans, of messages, or of which deed is due.
+//! It stands on `page_instances`, on the model of a client, on the module language, and on the sets of names
+//! and the new numbers of `page_plan`. Keeps: a page stands for a runtime of the model by number and by name;
+//! each deed here follows the deed of the same name there, so the page then stands for what that makes of the
+//! runtime, and the lines are those that it tells. Knows nothing of messages, or of which deed is due.
 #![tactic(auto)]
 
+mod birth;
+mod callbacks;
+mod dep;
+mod given;
+mod hear;
+mod imports;
 mod lines;
 mod live;
+mod make;
 mod own;
 mod page;
+mod places;
 mod prune;
+mod register;
 mod reload;
 mod replace;
 mod run;
 mod settle;
+mod showing;
 mod steps;
 
+pub use birth::Birth;
 pub use live::LiveNumbers;
 pub use page::{Invalidation, Page};

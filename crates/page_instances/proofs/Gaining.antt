@@ -58,31 +58,31 @@ module _ (hs : List Handler) (k : HandlerKind) (new : Handler) where
       ∙ ap (λ fs. fs ++ new ∷ []) (same_left test (is_displaced_by k) asks others hs)
 
 module _ {F : Type 0} (hs : List Handler) (held after : Holdings F) (holds : Holds hs held) where
-  pub disposer_held : (h : table.Handler F) → after ≡ record held { dispose = Some h }
-      → Holds (with_dropped (is_displaced_by kind.Dispose) hs ++ held_handler kind.Dispose [] (deed_in h) ∷ []) after
-  disposer_held h is = subst (Holds (gained hs kind.Dispose (held_handler kind.Dispose [] (deed_in h)))) (sym is) (record {
+  pub disposer_held : (deps : List Name) (h : table.Handler F) → after ≡ record held { dispose = Some h }
+      → Holds (with_dropped (is_displaced_by kind.Dispose) hs ++ held_handler kind.Dispose deps (deed_in h) ∷ []) after
+  disposer_held deps h is = subst (Holds (gained hs kind.Dispose (held_handler kind.Dispose deps (deed_in h)))) (sym is) (record {
     dispose = ap (map (λ h. h.deed)) (alone hs kind.Dispose _ disposes (λ h. refl) (λ h t. t) refl);
     prune = ap (map (λ h. h.deed)) (unseen hs kind.Dispose _ prunes (λ h. refl) (apart kind.Dispose kind.Prune refl) refl) ∙ holds.prune;
     own = ap (map (λ h. h.deed)) (unseen hs kind.Dispose _ accepts_own (λ h. refl) (apart kind.Dispose kind.Own refl) refl) ∙ holds.own;
     deps = ap (map (λ h. (h.deps, h.deed))) (unseen hs kind.Dispose _ accepts_some (λ h. refl) (apart kind.Dispose kind.Dep refl) refl) ∙ holds.deps;
   })
 
-  pub prune_held : (h : table.Handler F) → after ≡ record held { prune = Some h }
-      → Holds (with_dropped (is_displaced_by kind.Prune) hs ++ held_handler kind.Prune [] (deed_in h) ∷ []) after
-  prune_held h is = subst (Holds (gained hs kind.Prune (held_handler kind.Prune [] (deed_in h)))) (sym is) (record {
+  pub prune_held : (deps : List Name) (h : table.Handler F) → after ≡ record held { prune = Some h }
+      → Holds (with_dropped (is_displaced_by kind.Prune) hs ++ held_handler kind.Prune deps (deed_in h) ∷ []) after
+  prune_held deps h is = subst (Holds (gained hs kind.Prune (held_handler kind.Prune deps (deed_in h)))) (sym is) (record {
     dispose = ap (map (λ h. h.deed)) (unseen hs kind.Prune _ disposes (λ h. refl) (apart kind.Prune kind.Dispose refl) refl) ∙ holds.dispose;
     prune = ap (map (λ h. h.deed)) (alone hs kind.Prune _ prunes (λ h. refl) (λ h t. t) refl);
     own = ap (map (λ h. h.deed)) (unseen hs kind.Prune _ accepts_own (λ h. refl) (apart kind.Prune kind.Own refl) refl) ∙ holds.own;
     deps = ap (map (λ h. (h.deps, h.deed))) (unseen hs kind.Prune _ accepts_some (λ h. refl) (apart kind.Prune kind.Dep refl) refl) ∙ holds.deps;
   })
 
-  pub own_held : (h : table.Handler F) → after ≡ record held { own = held.own ++ h ∷ [] }
-      → Holds (with_dropped (is_displaced_by kind.Own) hs ++ held_handler kind.Own [] (deed_in h) ∷ []) after
-  own_held h is = subst (Holds (gained hs kind.Own (held_handler kind.Own [] (deed_in h)))) (sym is) (record {
+  pub own_held : (deps : List Name) (h : table.Handler F) → after ≡ record held { own = held.own ++ h ∷ [] }
+      → Holds (with_dropped (is_displaced_by kind.Own) hs ++ held_handler kind.Own deps (deed_in h) ∷ []) after
+  own_held deps h is = subst (Holds (gained hs kind.Own (held_handler kind.Own deps (deed_in h)))) (sym is) (record {
     dispose = ap (map (λ h. h.deed)) (unseen hs kind.Own _ disposes (λ h. refl) (λ h t. absurd (false≢true t)) refl) ∙ holds.dispose;
     prune = ap (map (λ h. h.deed)) (unseen hs kind.Own _ prunes (λ h. refl) (λ h t. absurd (false≢true t)) refl) ∙ holds.prune;
     own = ap (map (λ h. h.deed)) (behind hs kind.Own _ accepts_own (λ h. refl) (λ h t. absurd (false≢true t)) refl)
-        ∙ map-append (λ h. h.deed) (filter accepts_own hs) (held_handler kind.Own [] (deed_in h) ∷ [])
+        ∙ map-append (λ h. h.deed) (filter accepts_own hs) (held_handler kind.Own deps (deed_in h) ∷ [])
         ∙ ap (λ ds. ds ++ deed_in h ∷ []) holds.own ∙ sym (map-append deed_in held.own (h ∷ []));
     deps = ap (map (λ h. (h.deps, h.deed))) (unseen hs kind.Own _ accepts_some (λ h. refl) (λ h t. absurd (false≢true t)) refl) ∙ holds.deps;
   })

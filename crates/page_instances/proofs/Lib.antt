@@ -4,3 +4,4 @@ pub mod Places
 pub mod Taking
 pub mod Gaining
 pub mod Losing
+pub mod Shown

@@ -3,3 +3,4 @@ pub mod Seeing
 pub mod Scopes
 pub mod Taking
 pub mod Holding
+pub mod Showing

@@ -1,8 +1,9 @@
 // Handlers are registered. A module has one disposer and one prune handler, so a later one displaces an
 // earlier one, which is dropped unrun; callbacks stand beside one another, in the order in which they came.
-ghost use Rattle.std.specs.Prelude.{◌≡◌, ◌++◌, ◌∷◌, [], OnOk};
+ghost use Rattle.std.specs.Prelude.{◌≡◌, List, false, OnOk};
+ghost use Rattle.core_model.specs.Names.{Name};
 ghost use Rattle.client_model.specs.Instance as model;
-ghost use Rattle.client_model.specs.Instance.{code};
+ghost use Rattle.client_model.specs.Instance.{code, is_dep};
 ghost use Rattle.handler_table.specs.Handler.{KeepsItsWord};
 ghost use Rattle.handler_table.specs.Handlers.{KeepTheirWord};
 ghost use Rattle.hmr_types.specs.declared.words.HandlerKind.TheVariants as kind;
@@ -28,8 +29,8 @@ impl<F: FnOnce(Bag) -> Result<Ran, AllocError> + Drop> Instance<F> {
     pub fn hold_disposer(&mut self, handler: Handler<F>, handled: Handled) -> Result<(), AllocError>
         requires handled { handled ≡ handled_of (deed_in handler) }
         requires word { KeepsItsWord F.post handler }
-        ensures sees { (i : model.Instance) → Sees i self.old
-            → OnOk result (Sees (with_held kind.Dispose [] (deed_in handler) i) self.new) }
+        ensures sees { (deps : List Name) (i : model.Instance) → Sees i self.old
+            → OnOk result (Sees (with_held kind.Dispose deps (deed_in handler) i) self.new) }
         ensures word { KeepTheirWord F.post self.old.held → OnOk result (KeepTheirWord F.post self.new.held) }
         ensures rest { OnOk result (self.new ≡ record self.old { marks = self.new.marks; held = self.new.held }) }
     {
@@ -48,8 +49,8 @@ impl<F: FnOnce(Bag) -> Result<Ran, AllocError> + Drop> Instance<F> {
     pub fn hold_prune(&mut self, handler: Handler<F>, handled: Handled) -> Result<(), AllocError>
         requires handled { handled ≡ handled_of (deed_in handler) }
         requires word { KeepsItsWord F.post handler }
-        ensures sees { (i : model.Instance) → Sees i self.old
-            → OnOk result (Sees (with_held kind.Prune [] (deed_in handler) i) self.new) }
+        ensures sees { (deps : List Name) (i : model.Instance) → Sees i self.old
+            → OnOk result (Sees (with_held kind.Prune deps (deed_in handler) i) self.new) }
         ensures word { KeepTheirWord F.post self.old.held → OnOk result (KeepTheirWord F.post self.new.held) }
         ensures rest { OnOk result (self.new ≡ record self.old { marks = self.new.marks; held = self.new.held }) }
     {
@@ -68,8 +69,8 @@ impl<F: FnOnce(Bag) -> Result<Ran, AllocError> + Drop> Instance<F> {
     pub fn add_own(&mut self, handler: Handler<F>, handled: Handled) -> Result<(), AllocError>
         requires handled { handled ≡ handled_of (deed_in handler) }
         requires word { KeepsItsWord F.post handler }
-        ensures sees { (i : model.Instance) → Sees i self.old
-            → OnOk result (Sees (with_held kind.Own [] (deed_in handler) i) self.new) }
+        ensures sees { (deps : List Name) (i : model.Instance) → Sees i self.old
+            → OnOk result (Sees (with_held kind.Own deps (deed_in handler) i) self.new) }
         ensures word { KeepTheirWord F.post self.old.held → OnOk result (KeepTheirWord F.post self.new.held) }
         ensures rest { OnOk result (self.new ≡ record self.old { marks = self.new.marks; held = self.new.held }) }
     {
@@ -83,6 +84,30 @@ impl<F: FnOnce(Bag) -> Result<Ran, AllocError> + Drop> Instance<F> {
             return Err(AllocError);
         }
         Ok(())
+    }
+
+    /// Holds a handler of this kind, as the method of the kind does. Only want of memory refuses; the
+    /// handler is then gone.
+    pub fn hold(
+        &mut self,
+        kind: HandlerKind,
+        handler: Handler<F>,
+        handled: Handled,
+    ) -> Result<(), AllocError>
+        requires kind { is_dep kind ≡ false }
+        requires handled { handled ≡ handled_of (deed_in handler) }
+        requires word { KeepsItsWord F.post handler }
+        ensures sees { (deps : List Name) (i : model.Instance) → Sees i self.old
+            → OnOk result (Sees (with_held kind deps (deed_in handler) i) self.new) }
+        ensures word { KeepTheirWord F.post self.old.held → OnOk result (KeepTheirWord F.post self.new.held) }
+        ensures rest { OnOk result (self.new ≡ record self.old { marks = self.new.marks; held = self.new.held }) }
+    {
+        match kind {
+            HandlerKind::Dispose => self.hold_disposer(handler, handled),
+            HandlerKind::Prune => self.hold_prune(handler, handled),
+            HandlerKind::Own => self.add_own(handler, handled),
+            HandlerKind::Dep => unreachable!(),
+        }
     }
 
     /// Holds one more callback on these dependencies. Only want of memory refuses; the callback is then

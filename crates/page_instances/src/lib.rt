@@ -11,6 +11,7 @@ mod leave;
 mod marks;
 mod module;
 mod scope;
+mod showing;
 mod take;
 mod values;
 
@@ -18,4 +19,5 @@ pub use instance::{Bound, Instance};
 pub use marks::Mark;
 pub use module::exports_in;
 pub use scope::{instance_at, scope_in, slots_bound};
+pub use showing::{tell_fate, tell_values};
 pub use values::assign_all;

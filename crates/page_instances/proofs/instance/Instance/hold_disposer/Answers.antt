@@ -7,7 +7,7 @@ use Rattle.page_instances.proofs.Gaining.{gains, disposer_held}
 use Rattle.page_instances.proofs.instance.Instance.hold_disposer.Goals as goal
 
 pub returns-clause-sees : goal.returns-clause-sees
-returns-clause-sees g c = λ i s. gains kind.Dispose [] (deed_in c.args.handler) (is_held_of (is_kind kind.Dispose)) (λ h. refl) i c.args.self.now _ s refl
+returns-clause-sees g c = λ deps i s. gains kind.Dispose deps (deed_in c.args.handler) (is_held_of (is_kind kind.Dispose)) (λ h. refl) i c.args.self.now _ s refl
     (c.in_default.ensures ∙ ap (λ ms. ms ++ record { kind = kind.Dispose; handled = c.args.handled; end = Held } ∷ []) c.drop_marks.ensures
     ∙ ap (λ handled. marks_dropped (is_held_of (is_kind kind.Dispose)) c.args.self.now.marks.items ++ record { kind = kind.Dispose; handled = handled; end = Held } ∷ []) c.requires.handled)
-    (disposer_held i.handlers c.args.self.now.held c.set_dispose.new.self s.held c.args.handler c.set_dispose.ensures.held)
+    (disposer_held i.handlers c.args.self.now.held c.set_dispose.new.self s.held deps c.args.handler c.set_dispose.ensures.held)
