@@ -6,6 +6,8 @@
 #![tactic(auto)]
 
 #[cfg(test)]
+mod pages_tests;
+#[cfg(test)]
 mod requests_tests;
 #[cfg(test)]
 mod roots_tests;
