@@ -1,9 +1,5 @@
 // Pages that are loaded, updated, loaded anew and pruned, by what their clients tell.
-use crate::rows::{named, names, new_core, right};
-use hmr_types::Table;
-use import_scan::transform;
-use server_core::{Core, Event, Reply};
-use std::alloc::{AllocError, Global};
+use crate::rows::{new_core, right};
 use std::test::Fail;
 
 /// A client that tells tables of modules it didn't fetch, or at other versions; and one that invalidates
@@ -173,74 +169,5 @@ fn an_invalidation_is_of_one_client(rt: HostRuntime) -> Result<(), Fail> {
     let alloc = rt.alloc();
     let mut core = new_core(alloc)?;
     assert_eq!(rt; right(alloc, &mut core, INVALIDATION)?, 22);
-    Ok(())
-}
-
-// The name of a module of a long chain; names of one length rise with their numbers.
-fn link(alloc: Global, number: u32) -> Result<String, AllocError> {
-    let number = number.wrapping_add(10_000);
-    format!(in alloc; "{number}.js")
-}
-
-// The text of a module that imports the next one of a chain of so many.
-fn link_text(alloc: Global, number: u32, count: u32) -> Result<Vec<u8>, AllocError> {
-    let next = number.wrapping_add(1);
-    if next == count {
-        return Ok(Vec::new(alloc));
-    }
-    let file = link(alloc, next)?;
-    Ok(format!(in alloc; "import './{file}';")?.into_bytes())
-}
-
-// One module of the chain is edited and served.
-fn serve_link(alloc: Global, core: &mut Core, number: u32, count: u32) -> Result<(), AllocError> {
-    let file = link(alloc, number)?;
-    let path = format!(in alloc; "/{file}")?;
-    let text = link_text(alloc, number, count)?;
-    core.step(alloc, Event::Edit(named(alloc, path.as_str())?, Some(text)))?;
-    let text = link_text(alloc, number, count)?;
-    if text.len() > 100 {
-        return Err(AllocError);
-    }
-    let done = transform(alloc, named(alloc, path.as_str())?, text)?;
-    core.step(
-        alloc,
-        Event::Settle(done, u64::from(number).wrapping_add(1)),
-    )?;
-    Ok(())
-}
-
-fn is_done(reply: &Reply) -> bool {
-    matches!(reply, Reply::To(update_msgs::ServerMsg::Done))
-}
-
-// A client fetches a chain of so many modules, and tells that it has them.
-fn load_chain(alloc: Global, core: &mut Core, count: u32) -> Result<bool, AllocError> {
-    for number in 0..count {
-        serve_link(alloc, core, number, count)?;
-    }
-    core.step(alloc, Event::Connect(names(alloc, "/10000.js")?))?;
-    let mut rows = Vec::new(alloc);
-    for number in 0..count {
-        let file = link(alloc, number)?;
-        let path = format!(in alloc; "/{file}")?;
-        core.step(alloc, Event::Fetch(1, named(alloc, path.as_str())?))?;
-        rows.push((
-            named(alloc, path.as_str())?,
-            u64::from(number).wrapping_add(1),
-        ))?;
-    }
-    match Table::of(rows) {
-        Some(table) => Ok(is_done(&core.step(alloc, Event::Applied(1, table))?)),
-        None => Ok(false),
-    }
-}
-
-#[test]
-fn a_chain_of_1024_modules_is_applied(rt: HostRuntime) -> Result<(), Fail> {
-    let alloc = rt.alloc();
-    let mut core = new_core(alloc)?;
-    assert!(rt; load_chain(alloc, &mut core, 1024)?);
-    assert!(rt; core.at_rest(1));
     Ok(())
 }
