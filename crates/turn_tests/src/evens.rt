@@ -3,17 +3,17 @@ ghost use Rattle.std.specs.Prelude.{◌≡◌, ⊤, [], IfOk, true};
 ghost use Rattle.turn_tests.specs.Evens.{IsTaken};
 
 use std::alloc::{AllocError, Global};
-use std::test::Fail;
-use turn_lock::{Keeps, TurnLock};
+use turn_lock::Keeps;
 
 /// Keeps even numbers. It answers whether a number was taken.
 #[derive(Drop)]
-struct Evens {
+pub struct Evens {
     entries: Vec<(u64, u64)>,
 }
 
 impl Evens {
-    fn with_room(alloc: Global, room: usize) -> Result<Evens, AllocError>
+    /// Room for so many numbers.
+    pub fn with_room(alloc: Global, room: usize) -> Result<Evens, AllocError>
         ensures { IfOk result (λ evens. evens.entries.items ≡ []) }
     {
         Ok(Evens {
@@ -41,15 +41,4 @@ impl Keeps for Evens {
         }
         (true, true)
     }
-}
-
-#[test]
-fn every_second_entry_is_refused(rt: HostRuntime) -> Result<(), Fail> {
-    let evens = Evens::with_room(rt.alloc(), 8)?;
-    let (lock, mut pass) = TurnLock::new(rt.alloc(), evens)?;
-    assert_eq!(rt; lock.call(&rt, &mut pass, 0), true);
-    assert_eq!(rt; lock.call(&rt, &mut pass, 1), false);
-    assert_eq!(rt; lock.call(&rt, &mut pass, 2), true);
-    assert_eq!(rt; lock.call(&rt, &mut pass, 3), false);
-    Ok(())
 }

@@ -1,13 +1,16 @@
-//! The tests of the turn lock, through its public calls alone.
+//! Callers of the turn lock, and its tests, through its public calls alone.
 //!
-//! Each file is an area: threads whose passes meet again, numbers of passes, and entries that aren't
-//! recorded. Stands on the lock, and no crate stands on it. Keeps: how many entries a joined pass has seen
-//! is said by contracts, and what was answered by the tests. Knows nothing of what is private in the lock.
+//! Each file is an area: a value that adds up, a value that records some entries alone, and threads whose
+//! passes meet again. Stands on the lock, and no crate stands on it. Keeps: how many entries a joined pass has
+//! seen is said by contracts, and what was answered by the tests. Knows nothing of what is private in the lock.
 #![tactic(auto)]
 
-#[cfg(test)]
 mod evens;
-#[cfg(test)]
 mod meet;
-#[cfg(test)]
 mod tally;
+#[cfg(test)]
+mod tests;
+
+pub use evens::Evens;
+pub use meet::{add, eight_hundred, four_hundred, hundred, two_hundred};
+pub use tally::{Ask, Tally};
