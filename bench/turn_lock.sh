@@ -113,18 +113,29 @@ fn two<R: Threads + Wait + Sync>(
     thread::join(rt, || add(rt, lock, pass, calls), || add(rt, lock, half, calls));
 }
 
-pub fn four<R: Threads + Wait + Sync>(rt: &R, alloc: Global, calls: u64) -> bool {
-    let Ok((lock, mut pass)) = TurnLock::new(alloc, Sum { total: 0 }) else {
-        return false;
-    };
+fn halves<R: Threads + Wait + Sync>(
+    rt: &R,
+    lock: &TurnLock<Sum>,
+    mut pass: Pass<Sum, u64>,
+    calls: u64,
+)
+    requires { IsPassOf lock.now pass }
+{
     let Ok(half) = lock.split(rt, &mut pass) else {
-        return false;
+        return;
     };
     thread::join(
         rt,
-        || requires { IsPassOf lock.now pass } { two(rt, &lock, pass, calls) },
-        || requires { IsPassOf lock.now half } { two(rt, &lock, half, calls) },
+        || requires { IsPassOf lock.now pass } { two(rt, lock, pass, calls) },
+        || requires { IsPassOf lock.now half } { two(rt, lock, half, calls) },
     );
+}
+
+pub fn four<R: Threads + Wait + Sync>(rt: &R, alloc: Global, calls: u64) -> bool {
+    let Ok((lock, pass)) = TurnLock::new(alloc, Sum { total: 0 }) else {
+        return false;
+    };
+    halves(rt, &lock, pass, calls);
     true
 }
 END
