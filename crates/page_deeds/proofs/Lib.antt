@@ -14,3 +14,6 @@ pub mod Registrations
 pub mod Shelves
 pub mod Registering
 pub mod Births
+pub mod Tellings
+pub mod EachBirth
+pub mod Gone

@@ -5,3 +5,5 @@ pub mod Settling
 pub mod Telling
 pub mod Showing
 pub mod Each
+pub mod Tellings
+pub mod EachBirth

@@ -15,6 +15,7 @@ mod imports;
 mod lines;
 mod live;
 mod make;
+mod make_all;
 mod own;
 mod page;
 mod places;
@@ -26,7 +27,9 @@ mod run;
 mod settle;
 mod showing;
 mod steps;
+mod tell;
 
 pub use birth::Birth;
 pub use live::LiveNumbers;
 pub use page::{Invalidation, Page};
+pub use tell::{Telling, Told};

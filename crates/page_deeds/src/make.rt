@@ -1,7 +1,7 @@
 // A new instance is made: it isn't run where an instance that it is linked to failed, else it is evaluated
 // with the data of its name, and what it registers is registered. It stands on the page, without handlers,
 // before the first of them is registered.
-ghost use Rattle.std.specs.Prelude.{◌≡◌, ◌<◌, ◌+◌, ◌++◌, ◌^◌, [], suc, None, length, map, IfOk, OnOk};
+ghost use Rattle.std.specs.Prelude.{◌≡◌, ◌<◌, ◌+◌, ◌++◌, ◌^◌, [], suc, None, Some, length, map, IfOk, OnOk};
 ghost use Rattle.client_model.specs.Journal.{fault_lines, log_lines};
 ghost use Rattle.client_model.specs.Making as model;
 ghost use Rattle.client_model.specs.Making.{make, make_run, make_unrun};
@@ -11,7 +11,7 @@ ghost use Rattle.module_semantics.specs.Modules.{module_run};
 ghost use Rattle.module_tree.specs.Tree.{module_of};
 ghost use Rattle.output_lines.specs.declared.words.FaultPlace.TheVariants as fault_place;
 ghost use Rattle.page_deeds.specs.Births.{Adds, IsBirth, has_failed_link, is_failed};
-ghost use Rattle.page_deeds.specs.Live.{number_of};
+ghost use Rattle.page_deeds.specs.Live.{HasNumber, number_of};
 ghost use Rattle.page_deeds.specs.Standing.{Follows, KeepWords};
 ghost use Rattle.page_instances.specs.Scopes.{bound_slots, kept_at};
 ghost use Rattle.page_instances.specs.Seeing.{binding_of};
@@ -79,6 +79,8 @@ impl<F: FnOnce(Bag) -> Result<Ran, AllocError> + Drop> Page<F> {
         requires words { KeepWords F.post self.old }
         ensures count { OnOk result (length self.new.instances.items ≡ suc (length self.old.instances.items)) }
         ensures words { OnOk result (KeepWords F.post self.new) }
+        ensures live { OnOk result (HasNumber birth.name (Some (suc (length self.old.instances.items)))
+            self.old.live self.new.live) }
         ensures follows { (b : model.Birth) → IsBirth b birth self.old → number_of self.old.live birth.name ≡ None
             → OnOk result (Follows (make module_language b)
             self.old self.new lines.old.items lines.new.items) }
@@ -105,6 +107,8 @@ impl<F: FnOnce(Bag) -> Result<Ran, AllocError> + Drop> Page<F> {
         requires words { KeepWords F.post self.old }
         ensures count { OnOk result (length self.new.instances.items ≡ suc (length self.old.instances.items)) }
         ensures words { OnOk result (KeepWords F.post self.new) }
+        ensures live { OnOk result (HasNumber birth.name (Some (suc (length self.old.instances.items)))
+            self.old.live self.new.live) }
         ensures follows { (b : model.Birth) → IsBirth b birth self.old → number_of self.old.live birth.name ≡ None
             → OnOk result (Follows (make_unrun b) self.old self.new lines.old.items lines.new.items) }
     {
@@ -130,6 +134,8 @@ impl<F: FnOnce(Bag) -> Result<Ran, AllocError> + Drop> Page<F> {
         requires words { KeepWords F.post self.old }
         ensures count { OnOk result (length self.new.instances.items ≡ suc (length self.old.instances.items)) }
         ensures words { OnOk result (KeepWords F.post self.new) }
+        ensures live { OnOk result (HasNumber birth.name (Some (suc (length self.old.instances.items)))
+            self.old.live self.new.live) }
         ensures follows { (b : model.Birth) → IsBirth b birth self.old → number_of self.old.live birth.name ≡ None
             → OnOk result (Follows (make_run module_language b)
             self.old self.new lines.old.items lines.new.items) }

@@ -1,10 +1,13 @@
 // The page is loaded anew: each live instance ends, and no handler of it is run. All data is given up.
-ghost use Rattle.std.specs.Prelude.{◌≡◌, ◌<◌, suc, length, OnOk};
+ghost use Rattle.std.specs.Prelude.{◌≡◌, ◌<◌, suc, None, length, OnOk};
 ghost use Rattle.std.specs.List.{All};
+ghost use Rattle.core_model.specs.Names.{Name};
 ghost use Rattle.client_model.specs.Applying.{reload_all, reload_instance};
 ghost use Rattle.client_model.specs.Instance as model;
+ghost use Rattle.client_model.specs.Runtime.{Runtime};
 ghost use Rattle.page_deeds.specs.Each.{FollowsEach};
-ghost use Rattle.page_deeds.specs.Standing.{Follows, KeepWords};
+ghost use Rattle.page_deeds.specs.Live.{number_of};
+ghost use Rattle.page_deeds.specs.Standing.{Follows, KeepWords, StandsFor};
 
 use crate::page::Page;
 use crate::places::Whose;
@@ -44,6 +47,8 @@ impl<F: FnOnce(Bag) -> Result<Ran, AllocError> + Drop> Page<F> {
     pub fn reload_all(&mut self, alloc: Global) -> Result<(), AllocError>
         ensures count { OnOk result (length self.new.instances.items ≡ length self.old.instances.items) }
         ensures words { KeepWords F.post self.old → OnOk result (KeepWords F.post self.new) }
+        ensures gone { (r : Runtime) → StandsFor r self.old → (n : Name)
+            → OnOk result (number_of self.new.live n ≡ None) }
         ensures follows { (lines : _) → OnOk result (Follows reload_all self.old self.new lines lines) }
     {
         let whose = Whose::All;

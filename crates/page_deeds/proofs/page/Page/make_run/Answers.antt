@@ -1,4 +1,5 @@
-use Rattle.std.proofs.Common.{rules, ◌≡◌, suc, length, ap, sym, ◌∙◌, arith}
+use Rattle.std.proofs.Common.{rules, ◌≡◌, suc, length, ap, sym, ◌∙◌, arith, Some, if◌then◌else◌}
+use Rattle.std.specs.Prelude.{bytes_eq}
 use Rattle.std.specs.List.{All}
 use Rattle.std.proofs.Math.Path.{subst}
 use Rattle.module_semantics.specs.Modules.{module_run}
@@ -6,6 +7,8 @@ use Rattle.module_tree.specs.Tree.{module_of, once_of}
 use Rattle.page_instances.specs.Scopes.{bound_slots}
 use Rattle.retained_data.specs.Bags.{bag_of}
 use Rattle.page_deeds.specs.Births.{IsCodeForDeps}
+use Rattle.page_deeds.specs.Live.{number_of}
+use Rattle.page_deeds.specs.declared.page.Page.{Page}
 use Rattle.page_deeds.proofs.Births.{Parts, made_count, made_follows, parts_lines, parts_made, pushed_length}
 use Rattle.page_deeds.proofs.Registrations.{registered_codes}
 use Rattle.page_deeds.proofs.page.Page.make_run.Goals as goal
@@ -66,3 +69,12 @@ returns-clause-follows g c = λ b is none.
     b c.args.bindings c.args.lines.now.items is none c.requires.bindings
     (c.in_ok-evaluated.ensures.evaluation ∙ ap (λ bs. module_run (module_of c.args.birth.tree) (bound_slots c.args.self.now.instances.items c.args.birth.links bs) (bag_of c.args.self.now.bags c.args.birth.name)) c.as_slice.ensures)
     (parts_lines c.args.birth c.in_ok-evaluated.evaluated c.len-place.result c.args.self.now c.evaluate.new.self c.settle_evaluation.new.self c.add_instance.new.self c.register_all.new.self c.args.lines.now.items c.settle_evaluation.new.lines.items c.register_all.new.lines.items c.in_ok-name.name c.as_slice-2.result.now c.status_after-status.result c.into_vec.result.items c.into_vec-2.result.items parts)
+
+pub returns-clause-live : goal.returns-clause-live
+returns-clause-live g c = λ n.
+    let same = c.in_ok-settle_evaluation.ensures.rest in
+    let taken = c.evaluate.ensures.rest in
+    ap (λ p. number_of p.live n) c.in_ok-register_all.ensures.registers.rest
+    ∙ c.in_ok-add_instance.ensures.adds.live n
+    ∙ ap (λ p. if bytes_eq n c.args.birth.name then Some (suc (length p.instances.items)) else number_of p.live n) same
+    ∙ ap (λ p. if bytes_eq n c.args.birth.name then Some (suc (length p.instances.items)) else number_of p.live n) taken

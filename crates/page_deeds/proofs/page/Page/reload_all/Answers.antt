@@ -1,4 +1,4 @@
-use Rattle.std.proofs.Common.{◌<◌, length, arith, ◌∙◌, true, refl, sym}
+use Rattle.std.proofs.Common.{◌<◌, length, arith, ◌∙◌, [], true, refl, sym}
 use Rattle.std.specs.List.{All}
 use Rattle.std.proofs.Math.Path.{subst}
 use Rattle.client_model.specs.Applying.{reload_instance, live_of, give_up_all_bags}
@@ -6,6 +6,7 @@ use Rattle.client_model.specs.Runtime.{for_each}
 use Rattle.page_deeds.specs.Each.{StandAt}
 use Rattle.page_deeds.proofs.Each.{falling_within, follows_each, live_stand}
 use Rattle.page_deeds.proofs.Following.{follows_then}
+use Rattle.page_deeds.proofs.Gone.{none_meant, reload_loses}
 use Rattle.page_deeds.proofs.Meant.{give_up_all_follows}
 use Rattle.page_deeds.proofs.page.Page.reload_all.Goals as goal
 
@@ -21,3 +22,11 @@ pub reload_each-requires : goal.reload_each-requires
 reload_each-requires g c =
     let items = c.args.self.now.instances.items in
     subst (All (λ k. k < length items)) (sym (c.deref.ensures.value ∙ c.in_ok-places.ensures)) (falling_within (λ n. true) items (length items) (omega arith))
+
+pub returns-clause-gone : goal.returns-clause-gone
+returns-clause-gone g c = λ r s n.
+    let before = c.args.self.now in
+    none_meant reload_instance (λ m. true) before c.reload_each.new.self [] []
+    (follows_each reload_instance c.deref.result.now (live_of (λ m. true)) before c.reload_each.new.self [] [] (c.reload_each.ensures.each [])
+    (λ q t. subst (λ ks. StandAt before ks (live_of (λ m. true) q)) (sym (c.deref.ensures.value ∙ c.in_ok-places.ensures)) (live_stand (λ m. true) before q t)))
+    (λ i t q. reload_loses i q) r s n refl

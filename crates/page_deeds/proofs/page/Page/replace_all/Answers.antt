@@ -8,6 +8,7 @@ use Rattle.page_plan.specs.Numbers.{new_number}
 use Rattle.page_deeds.specs.Each.{HasNew, StandAt}
 use Rattle.page_deeds.specs.Standing.{name_at}
 use Rattle.page_deeds.proofs.Each.{all_new, falling_within, follows_each, live_stand}
+use Rattle.page_deeds.proofs.Gone.{none_meant, none_stays, replace_loses}
 use Rattle.page_deeds.proofs.Meant.{replacing_follows}
 use Rattle.page_deeds.proofs.page.Page.replace_all.Goals as goal
 
@@ -35,3 +36,19 @@ returns-clause-follows g c = λ number test is.
     replacing_follows c.args.replaced c.args.numbers.now before c.replace_each.new.self number test c.args.lines.now.items c.replace_each.new.lines.items is
     (follows_each (replace_instance module_language (new_number c.args.numbers.now)) c.deref.result.now (live_of (has c.args.replaced)) before c.replace_each.new.self c.args.lines.now.items c.replace_each.new.lines.items c.in_ok-replace_each.ensures.each
     (λ r s. subst (λ ks. StandAt before ks (live_of (has c.args.replaced) r)) (sym (c.deref.ensures.value ∙ c.in_ok-places.ensures)) (live_stand (has c.args.replaced) before r s)))
+
+pub returns-clause-gone : goal.returns-clause-gone
+returns-clause-gone g c = λ r s n t.
+    let before = c.args.self.now in
+    none_meant (replace_instance module_language (new_number c.args.numbers.now)) (has c.args.replaced) before c.replace_each.new.self c.args.lines.now.items c.replace_each.new.lines.items
+    (follows_each (replace_instance module_language (new_number c.args.numbers.now)) c.deref.result.now (live_of (has c.args.replaced)) before c.replace_each.new.self c.args.lines.now.items c.replace_each.new.lines.items c.in_ok-replace_each.ensures.each
+    (λ q u. subst (λ ks. StandAt before ks (live_of (has c.args.replaced) q)) (sym (c.deref.ensures.value ∙ c.in_ok-places.ensures)) (live_stand (has c.args.replaced) before q u)))
+    (λ i u q. replace_loses (new_number c.args.numbers.now) i (c.requires.numbers i.name u) q) r s n t
+
+pub returns-clause-fewer : goal.returns-clause-fewer
+returns-clause-fewer g c = λ r s n none.
+    let before = c.args.self.now in
+    none_stays (replace_instance module_language (new_number c.args.numbers.now)) (has c.args.replaced) before c.replace_each.new.self c.args.lines.now.items c.replace_each.new.lines.items
+    (follows_each (replace_instance module_language (new_number c.args.numbers.now)) c.deref.result.now (live_of (has c.args.replaced)) before c.replace_each.new.self c.args.lines.now.items c.replace_each.new.lines.items c.in_ok-replace_each.ensures.each
+    (λ q u. subst (λ ks. StandAt before ks (live_of (has c.args.replaced) q)) (sym (c.deref.ensures.value ∙ c.in_ok-places.ensures)) (live_stand (has c.args.replaced) before q u)))
+    (λ i u q. replace_loses (new_number c.args.numbers.now) i (c.requires.numbers i.name u) q) r s n none

@@ -1,0 +1,32 @@
+-- A plan under way hangs on the roots, the modules and what was fetched alone.
+use Rattle.std.proofs.Common.{ℕ, Bool, List}
+use Rattle.std.specs.Prelude.{Option, Some, None}
+use Rattle.core_model.specs.Names.{Name}
+use Rattle.core_model.specs.Sources.{Text}
+use Rattle.core_model.specs.Page.{Plan}
+use Rattle.client_model.specs.Instance.{Instance}
+use Rattle.client_model.specs.Language.{Bag}
+use Rattle.client_model.specs.Runtime.{Runtime, Invalidation}
+use Rattle.hot_runtime.specs.UnderWay.{IsNext, IsUnderWay}
+use Rattle.hot_runtime.specs.Standing.{IsPlan}
+use Rattle.hot_runtime.specs.declared.under_way.Next.{Next}
+use Rattle.hot_runtime.specs.declared.under_way.Next.TheVariants.{Fetch, Finish}
+use Rattle.hot_runtime.specs.declared.under_way.UnderWay.{UnderWay}
+
+module _ (r : Runtime) (loaded : Bool) (forced : List Name) (plan : Option Plan) (instances : List Instance) (bags : List (Name × Bag)) (unsent : List Invalidation) (shelf : List (Text × ℕ)) (stopped : Bool) where
+  -- the runtime with these
+  abbrev pub moved : Runtime
+  moved = record r { page = record r.page { loaded = loaded; forced = forced; plan = plan }; instances = instances; bags = bags; unsent = unsent; shelf = shelf; stopped = stopped }
+
+  next_moved : (p : Plan) (next : Next) → IsNext r p next → IsNext moved p next
+  next_moved p (Fetch n) i = i
+  next_moved p (Finish ready) i = record { none_needed = i.none_needed; view = i.view; table = i.table; names = i.names; link = i.link }
+
+  under_way_moved : (p : Plan) (u : UnderWay) → IsUnderWay r p u → IsUnderWay moved p u
+  under_way_moved p u i = record { plan = i.plan; walk = i.walk; next = next_moved p u.next i.next; texts = i.texts; pairs = i.pairs; cause = i.cause }
+
+  pub plan_moved : (o : Option Plan) (u : Option UnderWay) → IsPlan r o u → IsPlan moved o u
+  plan_moved None None i = tt
+  plan_moved None (Some u) i = i
+  plan_moved (Some p) None i = i
+  plan_moved (Some p) (Some u) i = under_way_moved p u i

@@ -1,0 +1,88 @@
+-- A plan that has begun: a load, a reload or an update, with its lines.
+use Rattle.std.proofs.Common.{◌≡◌, ℕ, false, List, [], ◌∷◌, ◌++◌, refl, ap, sym, ◌∙◌}
+use Rattle.std.specs.Prelude.{None}
+use Rattle.std.proofs.Math.Path.{subst}
+use Rattle.std.proofs.lemmas.List.{append_assoc}
+use Rattle.hmr_types.specs.declared.words.PlanKind.TheVariants.{Load, Reload, Update}
+use Rattle.hmr_types.specs.declared.words.ReloadCause.{ReloadCause}
+use Rattle.output_lines.specs.declared.out_line.OutLine.{OutLine}
+use Rattle.output_lines.specs.declared.out_line.OutLine.TheVariants as line
+use Rattle.core_model.specs.Names.{Name, in_order}
+use Rattle.client_model.specs.Answering.{begin, connect, start_reload, start_update, write_batch}
+use Rattle.client_model.specs.Runtime.{Runtime, and_then}
+use Rattle.hot_runtime.specs.Becoming.{Becomes}
+use Rattle.hot_runtime.specs.Standing.{IsSound, Keeps}
+use Rattle.hot_runtime.specs.Telling.{accept_lines, batch_lines}
+use Rattle.hot_runtime.specs.declared.runtime.HotRuntime.{HotRuntime}
+use Rattle.hot_runtime.proofs.Begun.{batch_lines_then, batch_then, update_begins, update_told}
+use Rattle.hot_runtime.proofs.Keeping.{becomes_of}
+
+-- the client with its number and its roots, and no plan under way
+abbrev pub numbered_run : ℕ → List Name → Runtime → Runtime
+numbered_run client roots r = record r { client = client; roots = roots; page = record r.page { plan = None } }
+
+-- the code's
+abbrev pub numbered_hot : {F : Type 0} → ℕ → List Name → HotRuntime F → HotRuntime F
+numbered_hot client roots h = record h { page = record h.page { client = client }; roots = roots; plan = None }
+
+pub numbered_keeps : {F : Type 0} (client : ℕ) (roots : List Name) (r : Runtime) (h : HotRuntime F) → Keeps r h → Keeps (numbered_run client roots r) (numbered_hot client roots h)
+numbered_keeps client roots r h k = record {
+  format = k.format;
+  named = k.named;
+  roots = refl;
+  loaded = k.loaded;
+  view = k.view;
+  forced = k.forced;
+  plan = tt;
+  page = record { client = refl; instances = k.page.instances; bags = k.page.bags; unsent = k.page.unsent; shelf = k.page.shelf };
+  stopped = k.stopped;
+}
+
+-- all is sound as before, where the page isn't loaded
+pub numbered_sound : {F : Type 0} (client : ℕ) (roots : List Name) (h : HotRuntime F) → h.loaded ≡ false → IsSound h → IsSound (numbered_hot client roots h)
+numbered_sound client roots h fresh s = record {
+  format = s.format;
+  versions = s.versions;
+  unsent = s.unsent;
+  view = s.view;
+  plan = tt;
+  on_page = s.on_page;
+  unloaded = s.unloaded;
+  unnumbered = λ none. fresh;
+}
+
+pub connect_becomes : {F : Type 0} (client : ℕ) (roots : List Name) (pairs : List (Name × Name)) (r : Runtime) (after : HotRuntime F) (tells : List OutLine)
+    → pairs ≡ [] → tells ≡ [] → IsSound after → Keeps (begin Load [] pairs (numbered_run client roots r)) after → Becomes (connect client roots r) after tells
+connect_becomes client roots pairs r after tells none silent sound keeps = record {
+  sound = sound;
+  keeps = subst (λ ps. Keeps (begin Load [] ps (numbered_run client roots r)) after) none keeps;
+  lines = silent;
+}
+
+pub reload_becomes : {F : Type 0} (cause : ReloadCause) (path : List Name) (batch : ℕ) (triggered : List Name) (pairs : List (Name × Name)) (r : Runtime) (client : ℕ) (after : HotRuntime F) (tells : List OutLine) → r.client ≡ client
+    → pairs ≡ [] → tells ≡ batch_lines client batch triggered ++ line.Reload client cause path ∷ [] → IsSound after → Keeps (begin Reload [] pairs r) after
+    → Becomes (and_then (write_batch batch triggered r) (start_reload (line.Reload r.client cause path))) after tells
+reload_becomes cause path batch triggered pairs r client after tells here none told sound keeps =
+    becomes_of (and_then (write_batch batch triggered r) (start_reload (line.Reload r.client cause path))) (begin Reload [] [] r) after tells
+    (batch_then batch triggered (start_reload (line.Reload r.client cause path)) r)
+    sound
+    (subst (λ ps. Keeps (begin Reload [] ps r) after) none keeps)
+    (told ∙ ap (λ c. batch_lines c batch triggered ++ line.Reload c cause path ∷ []) (sym here) ∙ sym (batch_lines_then batch triggered (start_reload (line.Reload r.client cause path)) r r.client))
+
+-- the lines of an update, one after another
+pub update_lines : (client batch : ℕ) (triggered replaced put : List Name) (pairs : List (Name × Name)) (first more all : List OutLine) → first ≡ batch_lines client batch triggered → put ≡ in_order replaced
+    → more ≡ first ++ line.Update client put ∷ [] → all ≡ more ++ accept_lines client pairs → all ≡ batch_lines client batch triggered ++ line.Update client (in_order replaced) ∷ accept_lines client pairs
+update_lines client batch triggered replaced put pairs first more all one two three four =
+    four ∙ ap (λ ls. ls ++ accept_lines client pairs) (three ∙ ap (λ ls. ls ++ line.Update client put ∷ []) one ∙ ap (λ ns. batch_lines client batch triggered ++ line.Update client ns ∷ []) two)
+    ∙ append_assoc (batch_lines client batch triggered) (line.Update client (in_order replaced) ∷ []) (accept_lines client pairs)
+
+pub update_becomes : {F : Type 0} (replaced : List Name) (batch : ℕ) (triggered : List Name) (pairs : List (Name × Name)) (r : Runtime) (client : ℕ) (after : HotRuntime F) (tells : List OutLine) → r.client ≡ client
+    → tells ≡ batch_lines client batch triggered ++ line.Update client (in_order replaced) ∷ accept_lines client pairs → IsSound after → Keeps (begin Update replaced pairs r) after
+    → Becomes (and_then (write_batch batch triggered r) (start_update replaced pairs)) after tells
+update_becomes replaced batch triggered pairs r client after tells here told sound keeps =
+    becomes_of (and_then (write_batch batch triggered r) (start_update replaced pairs)) (begin Update replaced pairs r) after tells
+    (batch_then batch triggered (start_update replaced pairs) r ∙ update_begins replaced pairs r)
+    sound
+    keeps
+    (told ∙ ap (λ c. batch_lines c batch triggered ++ line.Update c (in_order replaced) ∷ accept_lines c pairs) (sym here)
+    ∙ ap (λ ls. batch_lines r.client batch triggered ++ ls) (sym (update_told replaced pairs r r.client)) ∙ sym (batch_lines_then batch triggered (start_update replaced pairs) r r.client))
