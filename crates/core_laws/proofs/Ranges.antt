@@ -49,7 +49,7 @@ next_fits counted e = record { least = omega arith; most = low }
 short : (t : Text) → nat_lt TEXT_BYTES (length t) ≡ false → length t ≤ TEXT_BYTES
 short t e = ltb-false TEXT_BYTES (length t) e
 
-answer_fits : (old : Option Source) (s : Sources) (t : Option Text) → Fitting t (answer_for old s t)
+pub answer_fits : (old : Option Source) (s : Sources) (t : Option Text) → Fitting t (answer_for old s t)
 answer_fits old s None = fitting_if None (is_some old) (numbered removed s.counted) same (fitting_if None (nat_le LARGEST_NUMBER s.counted) (refused _) (removed (s.counted + 1)) tt (next_fits s.counted)) (λ e. tt)
 answer_fits old s (Some t) = fitting_if (Some t) (nat_lt TEXT_BYTES (length t)) (refused _) _ tt (λ low.
     fitting_if (Some t) (has_text old t) same _ tt (λ e.

@@ -97,29 +97,29 @@ one_prune_handler = one_held is_prune DisposerSpent prunes_displace prune_held 0
 
 -- Runs at the places of disposers and of prune handlers.
 
-abbrev runs_at : (FaultPlace → Bool) → List Word → ℕ
+abbrev pub runs_at : (FaultPlace → Bool) → List Word → ℕ
 runs_at test ws = count_of (is_use_at test) ws
 
 module _ (test : FaultPlace → Bool) where
   run_adds : (at : FaultPlace) (of : Handler → Bool) (x : Shape) (ws : List Word) → runs_at test (ws ++ run_words at of x) ≡ runs_at test ws + (if test at then length (places_from 0 of x.handlers) else 0)
   run_adds at of x ws = count_then (is_use_at test) ws (run_words at of x) ∙ ap (λ m. runs_at test ws + m) (uses_used_at x.name at test (places_from 0 of x.handlers))
 
-  run_adds_none : (at : FaultPlace) → test at ≡ false → (of : Handler → Bool) (x : Shape) (ws : List Word) → runs_at test (ws ++ run_words at of x) ≡ runs_at test ws
+  pub run_adds_none : (at : FaultPlace) → test at ≡ false → (of : Handler → Bool) (x : Shape) (ws : List Word) → runs_at test (ws ++ run_words at of x) ≡ runs_at test ws
   run_adds_none at e of x ws = run_adds at of x ws ∙ ap (λ b. runs_at test ws + (if b then length (places_from 0 of x.handlers) else 0)) e ∙ omega arith
 
-  drop_adds_none : (of : Handler → Bool) (x : Shape) (ws : List Word) → runs_at test (ws ++ drop_words of x) ≡ runs_at test ws
+  pub drop_adds_none : (of : Handler → Bool) (x : Shape) (ws : List Word) → runs_at test (ws ++ drop_words of x) ≡ runs_at test ws
   drop_adds_none of x ws = omega (arith, count_then (is_use_at test) ws (drop_words of x), uses_lost_at test (places_from 0 of x.handlers))
 
-  end_adds_none : (fate : InstanceFate) (ws : List Word) → runs_at test (ws ++ fell fate ∷ []) ≡ runs_at test ws
+  pub end_adds_none : (fate : InstanceFate) (ws : List Word) → runs_at test (ws ++ fell fate ∷ []) ≡ runs_at test ws
   end_adds_none fate ws = omega (arith, count_then (is_use_at test) ws (fell fate ∷ []))
 
-  gain_adds_none : (h : Handler) (places : List ℕ) (ws : List Word) → runs_at test (ws ++ (map lost places ++ gained h ∷ [])) ≡ runs_at test ws
+  pub gain_adds_none : (h : Handler) (places : List ℕ) (ws : List Word) → runs_at test (ws ++ (map lost places ++ gained h ∷ [])) ≡ runs_at test ws
   gain_adds_none h places ws = omega (arith, count_then (is_use_at test) ws (map lost places ++ gained h ∷ []), count_then (is_use_at test) (map lost places) (gained h ∷ []), uses_lost_at test places)
 
 -- so often disposers and prune handlers of an instance were run
-record Once (x : Shape) (ws : List Word) : Type 0 where
-  disposals : runs_at is_dispose_place ws ≡ once_if (is_disposed x.fate && has_kind is_dispose x.handlers)
-  prunings : runs_at is_prune_place ws ≡ once_if (is_pruned x.fate && has_kind is_prune x.handlers)
+pub record Once (x : Shape) (ws : List Word) : Type 0 where
+  pub disposals : runs_at is_dispose_place ws ≡ once_if (is_disposed x.fate && has_kind is_dispose x.handlers)
+  pub prunings : runs_at is_prune_place ws ≡ once_if (is_pruned x.fate && has_kind is_prune x.handlers)
 
 same_kinds : (b : Bool) (target : HandlerKind → Bool) (test : Handler → Bool) (end : Handler → HandlerEnd) (hs : List Handler) → once_if (b && has_kind target hs) ≡ once_if (b && has_kind target (map (changed test end) hs))
 same_kinds b target test end hs = ap (λ c. once_if (b && c)) (sym (kinds_stay target test end hs))
@@ -140,7 +140,7 @@ once_drop test x ws o = record {
 none_disposed : (x : Shape) (ws : List Word) → is_live_fate x.fate ≡ true → Once x ws → runs_at is_dispose_place ws ≡ 0
 none_disposed x ws l o = o.disposals ∙ ap (λ fate. once_if (is_disposed fate && has_kind is_dispose x.handlers)) (live_fate x.fate l)
 
-none_pruned : (x : Shape) (ws : List Word) → is_live_fate x.fate ≡ true → Once x ws → runs_at is_prune_place ws ≡ 0
+pub none_pruned : (x : Shape) (ws : List Word) → is_live_fate x.fate ≡ true → Once x ws → runs_at is_prune_place ws ≡ 0
 none_pruned x ws l o = o.prunings ∙ ap (λ fate. once_if (is_pruned fate && has_kind is_prune x.handlers)) (live_fate x.fate l)
 
 once_disposed : (x : Shape) (ws : List Word) → is_live_fate x.fate ≡ true → WholeEnds x ws → Once x ws → runs_at is_dispose_place (ws ++ run_words place.Dispose disposes x) ≡ once_if (has_kind is_dispose x.handlers)
@@ -176,16 +176,16 @@ pruned_once x ws l w o =
 
 -- Lives.
 
-abbrev YoungOnce : List Handler → List Word → Type 0
+abbrev pub YoungOnce : List Handler → List Word → Type 0
 YoungOnce hs ws = YoungEnds hs ws × (runs_at is_dispose_place ws ≡ 0) × (runs_at is_prune_place ws ≡ 0)
 
-abbrev WholeOnce : Shape → List Word → Type 0
+abbrev pub WholeOnce : Shape → List Word → Type 0
 WholeOnce x ws = WholeEnds x ws × Once x ws
 
-abbrev AsideOnce : Shape → List Word → Type 0
+abbrev pub AsideOnce : Shape → List Word → Type 0
 AsideOnce x ws = AsideEnds x ws × Once x ws
 
-once_life : IsLife YoungOnce WholeOnce AsideOnce
+pub once_life : IsLife YoungOnce WholeOnce AsideOnce
 once_life = record {
   unregistered = (tt, refl, refl);
   registered = λ hs ws h held y.

@@ -17,7 +17,7 @@ use Rattle.core_model.proofs.Loading.{reached_is}
 use Rattle.core_model.proofs.Reaching.{reaches_on, reaches_start, reaches_within}
 use Rattle.core_laws.specs.Given.{entry_of}
 use Rattle.client_model.specs.Language.{Language}
-use Rattle.client_model.specs.Instance.{Instance, is_live, live_at}
+use Rattle.client_model.specs.Instance.{Instance, is_live, numbered, live_at}
 use Rattle.client_model.specs.Linking.{number_in}
 use Rattle.client_model.specs.Runtime.{Runtime}
 use Rattle.client_model.specs.Stale.{live_number, link_in, link_of, same_link, IsStale}
@@ -25,7 +25,7 @@ use Rattle.world_laws.specs.Instances.{AreNumbered}
 use Rattle.world_laws.proofs.Frames.{Frame, frame, frames, live_one, found_in}
 use Rattle.world_laws.proofs.Holding.{live_is, number_at, number_is}
 use Rattle.world_laws.proofs.StaleLists.{linked_same, same_linked}
-use Rattle.journal_laws.specs.FreshValues.{Valued, fresh_valued, IsAcyclic, AreWithoutBag, AreFreshValues}
+use Rattle.journal_laws.specs.FreshValues.{Valued, fresh_valued, IsAcyclic, AreLiveWithoutBag, is_live_in, AreFreshValues}
 use Rattle.journal_laws.proofs.FreshFold.{AreGiven, fresh_are}
 use Rattle.journal_laws.proofs.FreshMade.{gists, AreMade}
 use Rattle.journal_laws.proofs.FreshSame.{number_found, MadeOver, made_over, valued_of, IsDone, value_is}
@@ -64,19 +64,24 @@ entry_there : (o : Option Serving) → is_some o ≡ true → is_some (entry_of 
 entry_there None h = h
 entry_there (Some s) h = refl
 
--- what is known of a client whose page is a fresh load, where no edge is stale and no run assigned
+-- the instance of this number is live
+abbrev pub is_live_number : Runtime → ℕ → Bool
+is_live_number r k = is_live_in (numbered r.instances k)
+
+-- what is known of a client whose page is a fresh load, where no edge is stale and no run of a live instance's
+-- handlers assigned
 pub record HoldsFresh (language : Language) (served : Served) (roots : List Name) (There : Frame → Type 0) (r : Runtime) : Type 0 where
   pub numbered : AreNumbered r.instances
   pub live : (n : Name) → is_some (live_at r.instances n) ≡ is_in r.page.view n
   pub traced : Traced There r.page.view (frames r.instances)
-  pub made : AreMade language (gists r.instances)
+  pub made : AreMade (is_live_number r) language (gists (is_live_number r) r.instances)
   pub current : (b x : Name) → IsStale r b x → ⊥
   pub entries : (n : Name) → at r.page.view n ≡ (if has (reached_by served roots) n then entry_of (at served n) else None)
   pub there : (n : Name) → has (reached_by served roots) n ≡ true → is_some (at served n) ≡ true
   pub texts : (n : Name) (s : Serving) (i : Instance) → at served n ≡ Some s → live_at r.instances n ≡ Some i → i.text ≡ s.text
   pub binds : (n : Name) (s : Serving) → at served n ≡ Some s → list_all (λ b. has s.analysis.imports b.dependency) (language.bindings n s.text) ≡ true
 
-module _ (language : Language) (served : Served) (roots : List Name) (There : Frame → Type 0) (r : Runtime) (h : HoldsFresh language served roots There r) (acyclic : IsAcyclic served roots) (bagless : AreWithoutBag language served) where
+module _ (language : Language) (served : Served) (roots : List Name) (There : Frame → Type 0) (r : Runtime) (h : HoldsFresh language served roots There r) (acyclic : IsAcyclic served roots) (bagless : AreLiveWithoutBag language served r) where
   abbrev want : Name → Option Valued
   want n = option_map valued_of (live_at r.instances n)
 
@@ -131,8 +136,12 @@ module _ (language : Language) (served : Served) (roots : List Name) (There : Fr
   view_entry : (n : Name) (s : Serving) → at served n ≡ Some s → is_some (want n) ≡ true → imports_of (at r.page.view n) ≡ s.analysis.imports
   view_entry n s e w = ap imports_of (h.entries n ∙ ap (λ b. if b then entry_of (at served n) else None) (want_reached n w) ∙ ap entry_of e)
 
+  -- a live instance is found by its number
+  live_seen : (i : Instance) → Contains r.instances i → is_live i ≡ true → is_live_number r i.number ≡ true
+  live_seen i c l = ap is_live_in (number_found r.instances h.numbered i c) ∙ l
+
   import_done : (n : Name) (s : Serving) (i : Instance) (done : List (Name × Valued)) → at served n ≡ Some s → live_at r.instances n ≡ Some i → ((m : Name) → has s.analysis.imports m ≡ true → at done m ≡ want m)
-      → (over : MadeOver language r.instances i) → (x : Name) → has s.analysis.imports x ≡ true → IsDone over.older i.links done x
+      → (over : MadeOver (is_live_number r) language r.instances i) → (x : Name) → has s.analysis.imports x ≡ true → IsDone (is_live_number r) over.older i.links done x
   import_done n s i done e l eq over x k =
       let w : is_some (want n) ≡ true = ap (λ o. is_some (option_map valued_of o)) l in
       let importing : imports r.page.view n x ≡ true = ap (λ names. has names x) (view_entry n s e w) ∙ k in
@@ -141,6 +150,7 @@ module _ (language : Language) (served : Served) (roots : List Name) (There : Fr
       record {
         instance = there.0;
         link = link;
+        seen = let k = live_found r.instances x there.0 there.1 in live_seen there.0 k.0 k.1.0;
         found = over.same there.0.number (older_link There r.page.view (frames r.instances) h.traced are_current view_acyclic n (frame i) (live_framed n i l) x there.0.number link)
             ∙ number_found r.instances h.numbered there.0 (live_found r.instances x there.0 there.1).0;
         value = eq x k ∙ ap (option_map valued_of) there.1;
@@ -149,10 +159,10 @@ module _ (language : Language) (served : Served) (roots : List Name) (There : Fr
   value_at : (n : Name) (s : Serving) (i : Instance) (done : List (Name × Valued)) → at served n ≡ Some s → live_at r.instances n ≡ Some i → ((m : Name) → has s.analysis.imports m ≡ true → at done m ≡ want m) → fresh_valued language done n s ≡ valued_of i
   value_at n s i done e l eq =
       let found = live_found r.instances n i l in
-      let over : MadeOver language r.instances i = made_over language r.instances h.numbered h.made i found.0 in
-      value_is language n s i over.older done found.1.1 (h.texts n s i e l)
+      let over : MadeOver (is_live_number r) language r.instances i = made_over (is_live_number r) language r.instances h.numbered h.made i found.0 in
+      value_is language n s i (is_live_number r) over.older done found.1.1 (h.texts n s i e l)
       (subst (Linking i.links) (view_entry n s e (ap (λ o. is_some (option_map valued_of o)) l)) (h.traced.linking n (frame i) (live_framed n i l)))
-      (import_done n s i done e l eq over) (h.binds n s e) (bagless n s e) over.made
+      (import_done n s i done e l eq over) (h.binds n s e) (bagless n s (ap is_some l) e) (live_seen i found.0 found.1.0) over.made
 
   are_given : AreGiven language served want
   are_given = record {

@@ -35,28 +35,29 @@ use Rattle.world_laws.proofs.Following.{made_run}
 use Rattle.world_laws.proofs.Freshness.{IsMade, core_made, fresh_in}
 use Rattle.world_laws.proofs.Making.{numbered_run, live_run, listed_run}
 use Rattle.world_laws.proofs.VersionTexts.{of_page_run, served_same_run}
-use Rattle.journal_laws.specs.FreshValues.{IsAcyclic, AreWithoutBag, NothingAssigned, AreFreshValues}
+use Rattle.journal_laws.specs.FreshValues.{IsAcyclic, AreWithoutBag, AreLiveWithoutBag, NothingAssigned, NothingAssignedOf, NothingAssignedLive, AreFreshValues}
 use Rattle.journal_laws.proofs.FreshMade.{gists, AreMade}
 use Rattle.journal_laws.proofs.FreshTaken.{run_made}
-use Rattle.journal_laws.proofs.FreshClient.{live_found, are_fresh_values}
+use Rattle.journal_laws.proofs.FreshClient.{live_found, is_live_number, are_fresh_values}
 use Rattle.journal_laws.proofs.LeadingBack.{Traced}
 use Rattle.journal_laws.proofs.LeadingRun.{WasLive, traced_run}
 
 -- What holds of a client after all that came to it.
 
-record RunFacts (language : Language) (There : Frame → Type 0) (r : Runtime) : Type 0 where
+record RunFacts (watched : ℕ → Bool) (language : Language) (There : Frame → Type 0) (r : Runtime) : Type 0 where
   numbered : AreNumbered r.instances
   live : (n : Name) → is_some (live_at r.instances n) ≡ is_in r.page.view n
   traced : Traced There r.page.view (frames r.instances)
-  made : AreMade language (gists r.instances)
+  made : AreMade watched language (gists watched r.instances)
   listed : (b x : Name) → Contains (stale_of r) (b, x) ↔ IsStale r b x
 
-run_facts : (language : Language) (opening : Opening) (past : Past) → NothingAssigned (journal_of language opening past) → RunFacts language (WasLive language opening past) (runtime_after language opening past)
-run_facts language opening past nothing = record {
+run_facts : (watched : ℕ → Bool) (language : Language) (opening : Opening) (past : Past) → NothingAssignedOf watched (journal_of language opening past)
+    → RunFacts watched language (WasLive language opening past) (runtime_after language opening past)
+run_facts watched language opening past nothing = record {
   numbered = numbered_run language opening past;
   live = live_run language opening past;
   traced = traced_run language opening past;
-  made = run_made language opening past nothing;
+  made = run_made watched language opening past nothing;
   listed = listed_run language opening past;
 }
 
@@ -113,10 +114,11 @@ module _ (language : Language) (roots : List Name) (shelves : List (List (Text �
       (subst (λ k. IsOfPage language (written (changes_in language roots shelves past)) (at r.page.view k) j) found.1.1 (of_page j found.0 found.1.0))
       (subst (λ o. IsServedSame o (at r.page.view n) j) e (subst (λ k. IsServedSame (at served k) (at r.page.view k) j) found.1.1 (served_same j found.0 found.1.0)))
 
-  pub values_are_fresh : IsAcyclic served r.roots → AreWithoutBag language served → NothingAssigned (journal_of language life.opening life.past) → AreFreshValues language served r.roots r
-  values_are_fresh acyclic bagless nothing =
-      let facts : RunFacts language (WasLive language life.opening life.past) r = subst (RunFacts language (WasLive language life.opening life.past)) (sym is_made) (run_facts language life.opening life.past nothing) in
-      are_fresh_values language served r.roots (WasLive language life.opening life.past) r (record {
+  pub live_values_are_fresh : IsAcyclic served r.roots → AreLiveWithoutBag language served r → NothingAssignedLive r (journal_of language life.opening life.past) → AreFreshValues language served r.roots r
+  live_values_are_fresh acyclic bagless nothing =
+      let There : Frame → Type 0 = WasLive language life.opening life.past in
+      let facts : RunFacts (is_live_number r) language There r = subst (RunFacts (is_live_number r) language There) (sym is_made) (run_facts (is_live_number r) language life.opening life.past nothing) in
+      are_fresh_values language served r.roots There r (record {
         numbered = facts.numbered;
         live = facts.live;
         traced = facts.traced;
@@ -127,3 +129,8 @@ module _ (language : Language) (roots : List Name) (shelves : List (List (Text �
         texts = texts;
         binds = λ n s e. binds n s.text s.analysis (subst (IsServedRight language n) e ((run_sound language roots shelves past went).served n));
       }) acyclic bagless
+
+  -- so where it is asked of every instance and of every served text
+  pub values_are_fresh : IsAcyclic served r.roots → AreWithoutBag language served → NothingAssigned (journal_of language life.opening life.past) → AreFreshValues language served r.roots r
+  values_are_fresh acyclic bagless nothing =
+      live_values_are_fresh acyclic (λ n s live e. bagless n s e) (λ k spot n place before left live c. nothing k spot n place before left c)

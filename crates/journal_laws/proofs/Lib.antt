@@ -47,3 +47,6 @@ pub mod DataDisposing
 pub mod FreshWorld
 pub mod InWorld
 pub mod OfTexts
+pub mod CountsOrder
+pub mod Isolation
+pub mod LeavingOut

@@ -62,7 +62,10 @@ IsToldAs Dropped kind runs drops = (drops ≡ 1) × (is_dep kind ≡ false → r
 
 -- each handler of each instance is told of as it ended
 abbrev pub AreTold : Runtime → Journal → Type 0
-AreTold r journal = (i : Instance) → Contains r.instances i → (spot : ℕ) (h : Handler) → slice_get i.handlers spot ≡ Some h → IsToldAs h.end h.kind (runs_of journal i.number spot) (drops_of journal i.number spot)
+AreTold r journal =
+    (i : Instance) → Contains r.instances i → (spot : ℕ) (h : Handler) →
+    slice_get i.handlers spot ≡ Some h →
+    IsToldAs h.end h.kind (runs_of journal i.number spot) (drops_of journal i.number spot)
 
 -- what was registered for instance k
 abbrev pub registered_to : ℕ → Happening → List Handler
@@ -84,7 +87,9 @@ registered_in journal k = flat_map (registered_to k) journal
 
 -- each registered handler is one of its instance, and the instance has no other
 abbrev pub AreRegistered : Runtime → Journal → Type 0
-AreRegistered r journal = (i : Instance) → Contains r.instances i → registered_in journal i.number ≡ map (ended_as Held) i.handlers
+AreRegistered r journal =
+    (i : Instance) → Contains r.instances i →
+    registered_in journal i.number ≡ map (ended_as Held) i.handlers
 
 -- what became of instance k
 abbrev pub fate_to : ℕ → Happening → List InstanceFate
@@ -133,7 +138,9 @@ pub record IsHandlerOf (r : Runtime) (k spot : ℕ) (n : Name) (at : FaultPlace)
 
 -- each run is of a handler that was registered, at the place of its kind
 abbrev pub AreRunsOfHandlers : Runtime → Journal → Type 0
-AreRunsOfHandlers r journal = (k spot : ℕ) (n : Name) (at : FaultPlace) (before : Bag) (left : Ran) → Contains journal (ran k spot n at before left) → IsHandlerOf r k spot n at
+AreRunsOfHandlers r journal =
+    (k spot : ℕ) (n : Name) (at : FaultPlace) (before : Bag) (left : Ran) →
+    Contains journal (ran k spot n at before left) → IsHandlerOf r k spot n at
 
 -- whether it is the place of disposers
 abbrev pub is_dispose_place : FaultPlace → Bool
@@ -195,8 +202,12 @@ once_if test = if test then 1 else 0
 
 -- of an instance that registered a disposer one was run, exactly where it was replaced or pruned
 abbrev pub AreDisposedOnce : Runtime → Journal → Type 0
-AreDisposedOnce r journal = (i : Instance) → Contains r.instances i → disposals journal i.number ≡ once_if (is_disposed i.fate && registers is_dispose i)
+AreDisposedOnce r journal =
+    (i : Instance) → Contains r.instances i →
+    disposals journal i.number ≡ once_if (is_disposed i.fate && registers is_dispose i)
 
 -- of an instance that registered a prune handler one was run, exactly where it was pruned
 abbrev pub ArePrunedOnce : Runtime → Journal → Type 0
-ArePrunedOnce r journal = (i : Instance) → Contains r.instances i → prunings journal i.number ≡ once_if (is_pruned i.fate && registers is_prune i)
+ArePrunedOnce r journal =
+    (i : Instance) → Contains r.instances i →
+    prunings journal i.number ≡ once_if (is_pruned i.fate && registers is_prune i)

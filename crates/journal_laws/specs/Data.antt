@@ -13,11 +13,15 @@ use Rattle.journal_laws.specs.Counts.{is_dispose_place}
 
 -- each evaluation of a name starts with the bag that what happened before left
 abbrev pub EvaluationsStartRight : Runtime → Journal → Type 0
-EvaluationsStartRight r journal = (front back : Journal) (k : ℕ) (n : Name) (before : Bag) (e : Evaluated) → journal ≡ front ++ evaluated k n before e ∷ back → before ≡ bag_left front n
+EvaluationsStartRight r journal =
+    (front back : Journal) (k : ℕ) (n : Name) (before : Bag) (e : Evaluated) →
+    journal ≡ front ++ evaluated k n before e ∷ back → before ≡ bag_left front n
 
 -- and so does each run of a handler
 abbrev pub RunsStartRight : Runtime → Journal → Type 0
-RunsStartRight r journal = (front back : Journal) (k spot : ℕ) (n : Name) (at : FaultPlace) (before : Bag) (left : Ran) → journal ≡ front ++ ran k spot n at before left ∷ back → before ≡ bag_left front n
+RunsStartRight r journal =
+    (front back : Journal) (k spot : ℕ) (n : Name) (at : FaultPlace) (before : Bag) (left : Ran) →
+    journal ≡ front ++ ran k spot n at before left ∷ back → before ≡ bag_left front n
 
 -- replaced by this number
 abbrev pub is_replaced_by : ℕ → InstanceFate → Bool
@@ -42,11 +46,17 @@ is_succeeded_by k n (told l) = false
 
 -- an instance that replaces none starts with the empty bag: its name is new, or was pruned or reloaded
 abbrev pub OthersInheritNothing : Runtime → Journal → Type 0
-OthersInheritNothing r journal = (front back : Journal) (k : ℕ) (n : Name) (before : Bag) (e : Evaluated) → journal ≡ front ++ evaluated k n before e ∷ back → list_any (is_succeeded_by k n) front ≡ false → before ≡ []
+OthersInheritNothing r journal =
+    (front back : Journal) (k : ℕ) (n : Name) (before : Bag) (e : Evaluated) →
+    journal ≡ front ++ evaluated k n before e ∷ back → list_any (is_succeeded_by k n) front ≡ false →
+    before ≡ []
 
 -- one that replaces another starts with what was left when that one ended: what its disposer left
 abbrev pub SuccessorsInherit : Runtime → Journal → Type 0
-SuccessorsInherit r journal = (front middle back : Journal) (j k : ℕ) (n : Name) (before : Bag) (e : Evaluated) → journal ≡ front ++ ended j n (Replaced k) ∷ (middle ++ evaluated k n before e ∷ back) → before ≡ bag_left front n
+SuccessorsInherit r journal =
+    (front middle back : Journal) (j k : ℕ) (n : Name) (before : Bag) (e : Evaluated) →
+    journal ≡ front ++ ended j n (Replaced k) ∷ (middle ++ evaluated k n before e ∷ back) →
+    before ≡ bag_left front n
 
 -- a name without a live instance has no data
 abbrev pub NoneIsLeft : Runtime → Journal → Type 0
@@ -59,7 +69,8 @@ disposed_after k last (evaluated j n bag e) = last
 disposed_after k last (not_run j n) = last
 disposed_after k last (registered j h) = last
 disposed_after k last (no_host j n label) = last
-disposed_after k last (ran j s n at bag left) = if (j == k) && is_dispose_place at then Some left.bag else last
+disposed_after k last (ran j s n at bag left) =
+    if (j == k) && is_dispose_place at then Some left.bag else last
 disposed_after k last (dropped j s) = last
 disposed_after k last (ended j n fate) = last
 disposed_after k last (gave_up n) = last
@@ -73,4 +84,7 @@ disposed_left journal k = fold (disposed_after k) None journal
 -- where a disposer of an instance ran and a later instance took its place, that one starts with what the
 -- run left
 abbrev pub DisposersHandOn : Runtime → Journal → Type 0
-DisposersHandOn r journal = (front middle back : Journal) (j k : ℕ) (n : Name) (left before : Bag) (e : Evaluated) → journal ≡ front ++ ended j n (Replaced k) ∷ (middle ++ evaluated k n before e ∷ back) → disposed_left front j ≡ Some left → before ≡ left
+DisposersHandOn r journal =
+    (front middle back : Journal) (j k : ℕ) (n : Name) (left before : Bag) (e : Evaluated) →
+    journal ≡ front ++ ended j n (Replaced k) ∷ (middle ++ evaluated k n before e ∷ back) →
+    disposed_left front j ≡ Some left → before ≡ left

@@ -14,7 +14,8 @@ life_in stage past = life_of stage.language stage.roots stage.shelves past 1
 
 -- the client
 abbrev pub client_of : Stage → List Step → Runtime
-client_of stage past = let life : Life = life_in stage past in runtime_after stage.language life.opening life.past
+client_of stage past =
+    let life : Life = life_in stage past in runtime_after stage.language life.opening life.past
 
 -- all that happened in it
 abbrev pub journal_in : Stage → List Step → Journal

@@ -39,11 +39,13 @@ pub record IsAtReload (back : Journal) : Type 0 where
 
 -- the bag of a name is given up at its prune alone, directly before its instance ends
 abbrev pub BagsGoAtPrunes : Runtime → Journal → Type 0
-BagsGoAtPrunes r journal = (front back : Journal) (n : Name) → journal ≡ front ++ gave_up n ∷ back → IsAtPrune n back
+BagsGoAtPrunes r journal =
+    (front back : Journal) (n : Name) → journal ≡ front ++ gave_up n ∷ back → IsAtPrune n back
 
 -- all bags are given up only where a reload is applied
 abbrev pub AllBagsGoAtReloads : Runtime → Journal → Type 0
-AllBagsGoAtReloads r journal = (front back : Journal) → journal ≡ front ++ gave_up_all ∷ back → IsAtReload back
+AllBagsGoAtReloads r journal =
+    (front back : Journal) → journal ≡ front ++ gave_up_all ∷ back → IsAtReload back
 
 -- it can't hold
 abbrev pub IsRefused : Type 0 → Type 0

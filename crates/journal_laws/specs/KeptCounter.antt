@@ -59,18 +59,26 @@ by_ten = codes "export const count = (import.meta.hot.data.count ?? 0) + 10;\nim
 
 -- a counter that goes on from the count that was kept
 abbrev pub counting : ℕ → Module
-counting k = module_of (exporting (count ∷ []) (importing [])) [] (declare true false count (kept_count_plus k) ∷ dispose (code (callback [] (bag_set count (name count)))) ∷ [])
+counting k =
+    module_of (exporting (count ∷ []) (importing [])) []
+    (declare true false count (kept_count_plus k) ∷
+    dispose (code (callback [] (bag_set count (name count)))) ∷ [])
 
 abbrev pub keeping : Stage
-keeping = page_of (
-    (with_counter, module_of (self_accepting (accepting (c ∷ []) (importing (c ∷ [])))) [] (deps false (c ∷ []) None ∷ own None ∷ [])) ∷
+keeping = page_of ((
+  with_counter,
+  module_of (self_accepting (accepting (c ∷ []) (importing (c ∷ [])))) []
+      (deps false (c ∷ []) None ∷ own None ∷ []),
+) ∷
     (without_counter, module_of (self_accepting (importing [])) [] (own None ∷ [])) ∷
     (by_one, counting 1) ∷
     (by_ten, counting 10) ∷ [])
 
 -- both modules are served, and a client comes and loads the page; the newest step first
 abbrev pub loaded : List Step
-loaded = turns 1 3 (opens 1 [] ∷ settles c 2 ∷ settles m 1 ∷ edits c (Some by_one) ∷ edits m (Some with_counter) ∷ [])
+loaded =
+    turns 1 3
+    (opens 1 [] ∷ settles c 2 ∷ settles m 1 ∷ edits c (Some by_one) ∷ edits m (Some with_counter) ∷ [])
 
 -- the counter is replaced
 abbrev pub replaced : List Step

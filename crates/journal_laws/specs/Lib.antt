@@ -12,3 +12,6 @@ pub mod KeptCounter
 pub mod HandlerRuns
 pub mod Texts
 pub mod TextPages
+pub mod Lives
+pub mod Isolated
+pub mod LeftOut

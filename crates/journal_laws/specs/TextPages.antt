@@ -39,11 +39,13 @@ text_starts past = flat_map start_of (journal_in text_page past)
 
 -- the client of this number, where it is open
 abbrev pub text_client : ℕ → List Step → Option Runtime
-text_client k past = client_at (world_after text_page.language text_page.roots text_page.shelves past).clients k
+text_client k past =
+    client_at (world_after text_page.language text_page.roots text_page.shelves past).clients k
 
 -- its instances, the oldest first: number, name and what became of it
 abbrev pub text_fates : ℕ → List Step → Option (List (ℕ × Name × InstanceFate))
-text_fates k past = option_map (λ r. map (λ i. (i.number, i.name, i.fate)) (reverse r.instances)) (text_client k past)
+text_fates k past =
+    option_map (λ r. map (λ i. (i.number, i.name, i.fate)) (reverse r.instances)) (text_client k past)
 
 -- the edges at which it is stale
 abbrev pub text_stale : ℕ → List Step → Option (List (Name × Name))
@@ -62,7 +64,9 @@ seeing = codes "import {n} from './x.js'\nexport let seen = n\nimport.meta.hot.a
 
 -- both are served, and a client loads the page: instance 1 is the constant, 2 is the text that sees it
 abbrev pub seeing_loaded : List Step
-seeing_loaded = turn 1 ∷ turn 1 ∷ turn 1 ∷ opens 1 [] ∷ settles x 2 ∷ settles m 1 ∷ edits x (Some one) ∷ edits m (Some seeing) ∷ []
+seeing_loaded =
+    turn 1 ∷ turn 1 ∷ turn 1 ∷ opens 1 [] ∷ settles x 2 ∷ settles m 1 ∷ edits x (Some one) ∷
+    edits m (Some seeing) ∷ []
 
 -- the constant is replaced, by instance 3
 abbrev pub seeing_updated : List Step
@@ -79,9 +83,16 @@ leaf_two = codes "export const n = 2\nimport.meta.hot.accept()\n"
 abbrev pub reading : Text
 reading = codes "import {n} from './x.js'\nexport let seen = n\n"
 
+-- the text that sees the constant is edited; it doesn't accept itself, so the page is reloaded: instance 4
+-- is the constant, and 5 the text that sees it
+abbrev pub seeing_reloaded : List Step
+seeing_reloaded = turns 1 4 (settles m 4 ∷ edits m (Some reading) ∷ seeing_updated)
+
 -- the leaf is replaced below its importer, which isn't made anew
 abbrev pub leaf_updated : List Step
-leaf_updated = turn 1 ∷ turn 1 ∷ turn 1 ∷ settles x 3 ∷ edits x (Some leaf_two) ∷ turn 1 ∷ turn 1 ∷ turn 1 ∷ opens 1 [] ∷ settles x 2 ∷ settles m 1 ∷ edits x (Some leaf_one) ∷ edits m (Some reading) ∷ []
+leaf_updated =
+    turn 1 ∷ turn 1 ∷ turn 1 ∷ settles x 3 ∷ edits x (Some leaf_two) ∷ turn 1 ∷ turn 1 ∷ turn 1 ∷
+    opens 1 [] ∷ settles x 2 ∷ settles m 1 ∷ edits x (Some leaf_one) ∷ edits m (Some reading) ∷ []
 
 -- a constant whose callback on itself invalidates it
 abbrev pub refusing : Text
@@ -93,4 +104,8 @@ self_seeing = codes "import {n} from './x.js'\nexport let seen = n\nimport.meta.
 
 -- two clients load the page; the constant is replaced, and the first client alone makes turns
 abbrev pub invalidated : List Step
-invalidated = turns 1 9 (settles x 3 ∷ edits x (Some leaf_two) ∷ turns 2 3 (turns 1 3 (opens 1 [] ∷ opens 1 [] ∷ settles x 2 ∷ settles m 1 ∷ edits x (Some refusing) ∷ edits m (Some self_seeing) ∷ [])))
+invalidated =
+    turns 1 9 (settles x 3 ∷ edits x (Some leaf_two) ∷
+    turns 2 3 (turns 1 3
+    (opens 1 [] ∷ opens 1 [] ∷ settles x 2 ∷ settles m 1 ∷ edits x (Some refusing) ∷
+    edits m (Some self_seeing) ∷ [])))

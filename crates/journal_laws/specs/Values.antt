@@ -44,7 +44,9 @@ export_left journal (Some k) x = slot_at (values_left journal k) x
 
 -- what the imports of an instance hold after all that happened, by their local names
 abbrev pub imports_left : Language → Journal → Instance → Slots
-imports_left language journal i = map (λ b. (b.local, export_left journal (at i.links b.dependency) b.exported)) (language.bindings i.name i.text)
+imports_left language journal i =
+    map (λ b. (b.local, export_left journal (at i.links b.dependency) b.exported))
+    (language.bindings i.name i.text)
 
 -- instance k faulted, or wasn't run
 abbrev pub is_failure_of : ℕ → Happening → Bool
@@ -66,18 +68,22 @@ link_failed journal i = list_any (λ link. list_any (is_failure_of link.1) journ
 
 -- An evaluation of instance k after all this: its text's, over its bag and over what its links hold; and
 -- none of these had failed.
-pub record IsEvaluationOf (language : Language) (r : Runtime) (front : Journal) (k : ℕ) (n : Name) (e : Evaluated) : Type 0 where
+pub record IsEvaluationOf (language : Language) (r : Runtime) (front : Journal) (k : ℕ) (n : Name)
+    (e : Evaluated) : Type 0 where
   pub instance : Instance
   pub made : Contains r.instances instance
   pub number : instance.number ≡ k
   pub name : instance.name ≡ n
   pub status : instance.status ≡ status_after e.fault
   pub links : link_failed front instance ≡ false
-  pub value : e ≡ language.evaluated n instance.text (imports_left language front instance) (bag_left front n)
+  pub value : e ≡
+      language.evaluated n instance.text (imports_left language front instance) (bag_left front n)
 
 -- each evaluation is one of its instance's text
 abbrev pub AreEvaluations : Language → Runtime → Journal → Type 0
-AreEvaluations language r journal = (front back : Journal) (k : ℕ) (n : Name) (before : Bag) (e : Evaluated) → journal ≡ front ++ evaluated k n before e ∷ back → IsEvaluationOf language r front k n e
+AreEvaluations language r journal =
+    (front back : Journal) (k : ℕ) (n : Name) (before : Bag) (e : Evaluated) →
+    journal ≡ front ++ evaluated k n before e ∷ back → IsEvaluationOf language r front k n e
 
 -- instance k, made of n, isn't run, since one that it is linked to had failed; its variables are unset
 pub record IsUnrun (r : Runtime) (front : Journal) (k : ℕ) (n : Name) : Type 0 where
@@ -91,7 +97,9 @@ pub record IsUnrun (r : Runtime) (front : Journal) (k : ℕ) (n : Name) : Type 0
 
 -- an instance isn't run only so
 abbrev pub AreUnrun : Runtime → Journal → Type 0
-AreUnrun r journal = (front back : Journal) (k : ℕ) (n : Name) → journal ≡ front ++ not_run k n ∷ back → IsUnrun r front k n
+AreUnrun r journal =
+    (front back : Journal) (k : ℕ) (n : Name) → journal ≡ front ++ not_run k n ∷ back →
+    IsUnrun r front k n
 
 -- the evaluation of instance k
 abbrev pub is_evaluation_of : ℕ → Happening → Bool
@@ -115,12 +123,15 @@ evaluations_by Unrun = 0
 
 -- each instance was evaluated once, unless it wasn't run
 abbrev pub AreEvaluatedOnce : Runtime → Journal → Type 0
-AreEvaluatedOnce r journal = (i : Instance) → Contains r.instances i → length (filter (is_evaluation_of i.number) journal) ≡ evaluations_by i.status
+AreEvaluatedOnce r journal =
+    (i : Instance) → Contains r.instances i →
+    length (filter (is_evaluation_of i.number) journal) ≡ evaluations_by i.status
 
 -- A run of the handler at a place of instance k after all this: of its code over the instance's own
 -- variables and what its links hold, with the modules that it is told of, and over its name's bag; or of
 -- its closure over the bag.
-pub record IsRunOf (language : Language) (r : Runtime) (front : Journal) (k spot : ℕ) (n : Name) (at : FaultPlace) (left : Ran) : Type 0 where
+pub record IsRunOf (language : Language) (r : Runtime) (front : Journal) (k spot : ℕ) (n : Name)
+    (at : FaultPlace) (left : Ran) : Type 0 where
   pub instance : Instance
   pub made : Contains r.instances instance
   pub number : instance.number ≡ k
@@ -129,8 +140,12 @@ pub record IsRunOf (language : Language) (r : Runtime) (front : Journal) (k spot
   pub stands : slice_get instance.handlers spot ≡ Some handler
   pub arguments : List (Option Slots)
   pub takes : TakesNothing at arguments
-  pub value : left ≡ run_deed language handler.deed (values_left front k ++ imports_left language front instance) arguments (bag_left front n)
+  pub value : left ≡
+      run_deed language handler.deed (values_left front k ++ imports_left language front instance) arguments
+      (bag_left front n)
 
 -- each run is one of a handler of its instance
 abbrev pub AreRuns : Language → Runtime → Journal → Type 0
-AreRuns language r journal = (front back : Journal) (k spot : ℕ) (n : Name) (at : FaultPlace) (before : Bag) (left : Ran) → journal ≡ front ++ ran k spot n at before left ∷ back → IsRunOf language r front k spot n at left
+AreRuns language r journal =
+    (front back : Journal) (k spot : ℕ) (n : Name) (at : FaultPlace) (before : Bag) (left : Ran) →
+    journal ≡ front ++ ran k spot n at before left ∷ back → IsRunOf language r front k spot n at left

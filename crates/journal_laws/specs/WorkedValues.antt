@@ -21,19 +21,26 @@ values_in stage past numbers = map (values_left (journal_in stage past)) numbers
 
 -- how often they were evaluated
 abbrev pub evaluations_in : Stage → List Step → List ℕ → List ℕ
-evaluations_in stage past numbers = map (λ k. length (filter (is_evaluation_of k) (journal_in stage past))) numbers
+evaluations_in stage past numbers =
+    map (λ k. length (filter (is_evaluation_of k) (journal_in stage past))) numbers
 
 -- what the imports of the instance of this number hold by the journal
 abbrev pub imports_in : Stage → List Step → ℕ → Option Slots
-imports_in stage past k = option_map (imports_left stage.language (journal_in stage past)) (numbered (client_of stage past).instances k)
+imports_in stage past k =
+    option_map (imports_left stage.language (journal_in stage past))
+    (numbered (client_of stage past).instances k)
 
 -- the modules of the page, were it loaded anew
 abbrev pub valued_anew : Stage → List Step → List (Name × Valued)
-valued_anew stage past = fresh_values stage.language (world_after stage.language stage.roots stage.shelves past).core.sources.served stage.roots
+valued_anew stage past =
+    fresh_values stage.language
+    (world_after stage.language stage.roots stage.shelves past).core.sources.served stage.roots
 
 -- the client's instances by their names, the oldest first
 abbrev pub valued_now : Stage → List Step → List (Name × Valued)
-valued_now stage past = map (λ i. (i.name, record { status = i.status; values = i.values })) (reverse (client_of stage past).instances)
+valued_now stage past =
+    map (λ i. (i.name, record { status = i.status; values = i.values }))
+    (reverse (client_of stage past).instances)
 
 -- one variable that holds this number
 abbrev pub holding : Name → ℕ → Slots
@@ -51,4 +58,6 @@ updated = turn 1 ∷ turn 1 ∷ turn 1 ∷ updating
 -- A page is loaded of a module that throws, instance 1, and of its importer, 2.
 
 abbrev pub faulted : List Step
-faulted = turn 1 ∷ turn 1 ∷ turn 1 ∷ opens 1 [] ∷ settles x 2 ∷ settles m 1 ∷ edits x (Some faulting_x) ∷ edits m (Some faulting_m) ∷ []
+faulted =
+    turn 1 ∷ turn 1 ∷ turn 1 ∷ opens 1 [] ∷ settles x 2 ∷ settles m 1 ∷ edits x (Some faulting_x) ∷
+    edits m (Some faulting_m) ∷ []

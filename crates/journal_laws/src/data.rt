@@ -38,12 +38,14 @@ pub fn data_is_given_up_at_prunes_and_reloads()
     ensures all { (language : Language) → OfEachRun language AllBagsGoAtReloads }
 {}
 
-/// These laws refuse a client that gives a bag up at a replacement, whatever else happens in it: where it tells
-/// of that, and where it only starts the later instance with an empty bag though a disposer left something.
+/// These laws refuse a client that gives a bag up at a replacement, whatever else happens in it: where it
+/// tells of that, and where it only starts the later instance with an empty bag though a disposer left
+/// something.
 pub fn giving_up_at_a_replacement_is_refused()
     ensures told { (r : Runtime) (front back : Journal) (n m : Name) (j k : ℕ) →
         IsRefused (BagsGoAtPrunes r (front ++ gave_up n ∷ ended j m (Replaced k) ∷ back)) }
     ensures silent { (r : Runtime) (front middle back : Journal) (n : Name) (j k : ℕ) (e : Evaluated)
         (key : Name) (value : Value) (bag : Bag) → disposed_left front j ≡ Some ((key, value) ∷ bag) →
-        IsRefused (DisposersHandOn r (front ++ ended j n (Replaced k) ∷ (middle ++ evaluated k n [] e ∷ back))) }
+        IsRefused (DisposersHandOn r
+        (front ++ ended j n (Replaced k) ∷ (middle ++ evaluated k n [] e ∷ back))) }
 {}

@@ -18,7 +18,7 @@ ghost use Rattle.world_model.specs.Ties.{WentOn};
 ghost use Rattle.client_model.specs.Language.{BindsImports};
 ghost use Rattle.world_laws.specs.Quiet.{IsOpen};
 ghost use Rattle.journal_laws.specs.OfClients.{journal_at};
-ghost use Rattle.journal_laws.specs.FreshValues.{IsAcyclic, AreWithoutBag, NothingAssigned, AreFreshValues};
+ghost use Rattle.journal_laws.specs.FreshValues.{IsAcyclic, AreWithoutBag, AreLiveWithoutBag, NothingAssigned, NothingAssignedLive, AreFreshValues};
 ghost use Rattle.journal_laws.specs.WorkedValues.{valued_anew, valued_now, holding, loaded, faulted};
 
 /// Where a client is caught up, no edge is stale, the imports have no cycle, no evaluation of a served text
@@ -35,11 +35,31 @@ pub fn values_are_those_of_a_fresh_load()
         AreFreshValues language served r.roots r }
 {}
 
+/// The same, where no evaluation of a live module's served text hangs on its bag, and no run of a live
+/// instance's handlers assigned: what ended instances did, and what is served and not loaded, is free.
+pub fn live_values_are_those_of_a_fresh_load()
+    ensures { (language : Language) (roots : List Name) (shelves : List (List (Text × ℕ))) (past : List Step)
+        (i : ℕ) (c : Client) (r : Runtime) → WentOn language roots shelves past → BindsImports language →
+        let w = world_after language roots shelves past in let served = w.core.sources.served in
+        IsOpen w i c r → IsCaughtUp w.core.sources c r → stale_of r ≡ [] →
+        IsAcyclic served r.roots → AreLiveWithoutBag language served r →
+        NothingAssignedLive r (journal_at language roots shelves past i) →
+        AreFreshValues language served r.roots r }
+{}
+
 /// A counter's page that was loaded has the values of one that is loaded anew; and so has a page of a module
 /// that throws, whose importer isn't run.
 pub fn loaded_pages_hold_fresh_values()
-    ensures counter { valued_anew counter loaded ≡ (c, record { status = Done; values = holding count 1 }) ∷ (m, record { status = Done; values = holding count 1 }) ∷ [] }
-    ensures counter_client { valued_now counter loaded ≡ (c, record { status = Done; values = holding count 1 }) ∷ (m, record { status = Done; values = holding count 1 }) ∷ [] }
-    ensures faulted { valued_anew faulting faulted ≡ (x, record { status = Faulted; values = (codes "n", Unset) ∷ [] }) ∷ (m, record { status = Unrun; values = [] }) ∷ [] }
-    ensures faulted_client { valued_now faulting faulted ≡ (x, record { status = Faulted; values = (codes "n", Unset) ∷ [] }) ∷ (m, record { status = Unrun; values = [] }) ∷ [] }
+    ensures counter { valued_anew counter loaded ≡
+        (c, record { status = Done; values = holding count 1 }) ∷
+        (m, record { status = Done; values = holding count 1 }) ∷ [] }
+    ensures counter_client { valued_now counter loaded ≡
+        (c, record { status = Done; values = holding count 1 }) ∷
+        (m, record { status = Done; values = holding count 1 }) ∷ [] }
+    ensures faulted { valued_anew faulting faulted ≡
+        (x, record { status = Faulted; values = (codes "n", Unset) ∷ [] }) ∷
+        (m, record { status = Unrun; values = [] }) ∷ [] }
+    ensures faulted_client { valued_now faulting faulted ≡
+        (x, record { status = Faulted; values = (codes "n", Unset) ∷ [] }) ∷
+        (m, record { status = Unrun; values = [] }) ∷ [] }
 {}

@@ -70,7 +70,8 @@ pub fn headline()
         (b x : Name) → IsStale r b x ↔ IsStopped module_language life.opening life.past b x }
     ensures held_disposers { (run : Run) (i : ℕ) (c : Client) (r : Runtime) → let life = life_in run i in
         HasClient run i c r → AreDisposedOnce r (journal_of module_language life.opening life.past) }
-    ensures data_to_the_successor { (run : Run) (i : ℕ) (c : Client) (r : Runtime) → let life = life_in run i in
+    ensures data_to_the_successor { (run : Run) (i : ℕ) (c : Client) (r : Runtime) →
+        let life = life_in run i in
         HasClient run i c r → SuccessorsInherit r (journal_of module_language life.opening life.past) }
     ensures data_of_disposers { (run : Run) (i : ℕ) (c : Client) (r : Runtime) → let life = life_in run i in
         HasClient run i c r → DisposersHandOn r (journal_of module_language life.opening life.past) }

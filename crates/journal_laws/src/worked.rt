@@ -1,5 +1,5 @@
-// Runs of a client in a small language, computed by the checker: handlers are run and dropped, data is handed
-// on, and variables are assigned.
+// Runs of a client in a small language, computed by the checker: handlers are run and dropped, data is
+// handed on, and variables are assigned.
 ghost use Rattle.std.specs.Prelude.{◌≡◌, [], ◌∷◌, map, pos, Some, codes};
 ghost use Rattle.hmr_types.specs.declared.value.Value.TheVariants.{Num};
 ghost use Rattle.hmr_types.specs.declared.value.Slot.TheVariants.{Unset};
@@ -23,7 +23,8 @@ pub fn replaced_module_runs_one_disposer()
     ensures prunings { map (prunings (journal_in hosting replacing)) (1 ∷ 2 ∷ []) ≡ 0 ∷ 0 ∷ [] }
     ensures runs { map (runs_of (journal_in hosting replacing) 1) (0 ∷ 1 ∷ 2 ∷ []) ≡ 0 ∷ 1 ∷ 0 ∷ [] }
     ensures drops { map (drops_of (journal_in hosting replacing) 1) (0 ∷ 1 ∷ 2 ∷ []) ≡ 1 ∷ 0 ∷ 1 ∷ [] }
-    ensures fates { map (fates_in (journal_in hosting replacing)) (1 ∷ 2 ∷ []) ≡ (Replaced 2 ∷ []) ∷ [] ∷ [] }
+    ensures fates { map (fates_in (journal_in hosting replacing)) (1 ∷ 2 ∷ []) ≡
+        (Replaced 2 ∷ []) ∷ [] ∷ [] }
 {}
 
 /// A module that left the page is live until its prune, which runs its disposer and its prune handler.

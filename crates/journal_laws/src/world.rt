@@ -21,8 +21,8 @@ pub fn held_disposers_ran_once()
     ensures ends { (language : Language) (roots : List Name) → OfEachClient language roots AllEnd }
 {}
 
-/// Each evaluation of a module, and each run of a handler of it, started with the bag that the last one before
-/// it left; with the empty one where there was none, or where the bag was given up since.
+/// Each evaluation of a module, and each run of a handler of it, started with the bag that the last one
+/// before it left; with the empty one where there was none, or where the bag was given up since.
 pub fn each_started_with_what_was_left()
     ensures evaluations { (language : Language) (roots : List Name) →
         OfEachClient language roots EvaluationsStartRight }
@@ -32,7 +32,8 @@ pub fn each_started_with_what_was_left()
 /// Data was given up at prunes, and where a reload was applied; never else.
 pub fn data_was_given_up_at_prunes_and_reloads()
     ensures one { (language : Language) (roots : List Name) → OfEachClient language roots BagsGoAtPrunes }
-    ensures all { (language : Language) (roots : List Name) → OfEachClient language roots AllBagsGoAtReloads }
+    ensures all { (language : Language) (roots : List Name) →
+        OfEachClient language roots AllBagsGoAtReloads }
 {}
 
 /// An instance that replaced another started with what was left when that one ended, and so with what its

@@ -77,14 +77,20 @@ olds p r = cut (ended_by (ended_names p.kind p r) (frames r.instances)) (frames 
 abbrev pub frames_after : Plan → Runtime → List Frame
 frames_after p r = made_on (news p r) (olds p r)
 
+-- once the new instances are made
+pub born_frames : (language : Language) (p : Plan) (r : Runtime) → Ready p r → frames (for_each (make language) (births (new_names p r) p r) (end_old p.kind language p r).0).0.instances ≡ frames_after p r
+born_frames language p r ready =
+    let ended : Did = end_old p.kind language p r in
+    made_frames language (births (new_names p r) p r) ended.0
+    ∙ ap (λ bs. made_on bs (frames ended.0.instances)) (births_are p r ready (new_names p r) (λ n h. h))
+    ∙ ap (made_on (news p r)) (ends_old p.kind language p r)
+
 pub applied_frames : (language : Language) (p : Plan) (r : Runtime) → Ready p r → frames (apply language p r).0.instances ≡ frames_after p r
 applied_frames language p r ready =
     let ended : Did = end_old p.kind language p r in
     let born : Did = for_each (make language) (births (new_names p r) p r) ended.0 in
     let told : Did = tell_all p.kind language p r born.0 in
-    same_set_aside language p r told.0 ∙ same_tell_all p.kind language p r born.0 ∙ made_frames language (births (new_names p r) p r) ended.0
-    ∙ ap (λ bs. made_on bs (frames ended.0.instances)) (births_are p r ready (new_names p r) (λ n h. h))
-    ∙ ap (made_on (news p r)) (ends_old p.kind language p r)
+    same_set_aside language p r told.0 ∙ same_tell_all p.kind language p r born.0 ∙ born_frames language p r ready
 
 pub applied_page : (language : Language) (p : Plan) (r : Runtime) → (apply language p r).0.page ≡ applied r.roots p r.page
 applied_page language p r =

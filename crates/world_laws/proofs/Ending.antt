@@ -85,7 +85,7 @@ same_hear language event value r = handled_hear language Same (same_handled lang
 
 -- What ends an instance.
 
-abbrev Cuts : ℕ → Runtime → Did → Type 0
+abbrev pub Cuts : ℕ → Runtime → Did → Type 0
 Cuts k r did = frames did.0.instances ≡ cut (λ j. j == k) (frames r.instances)
 
 ended_frames : (fate : InstanceFate) → is_live_fate fate ≡ false → (k : ℕ) (is : List Instance) → frames (with_change k (λ i. record i { fate = fate }) is) ≡ cut (λ j. j == k) (frames is)
@@ -102,13 +102,13 @@ cuts_end fate e k n r s h = ended_frames fate e k s.instances ∙ ap (cut (λ j.
 cuts_reload : (i : Instance) (r : Runtime) → Cuts i.number r (reload_instance i r)
 cuts_reload i r = cuts_end Reloaded refl i.number i.name r (drop_each is_held i.number r).0 (same_drop is_held i.number r)
 
-cuts_replace : (language : Language) (number : Name → Option ℕ) (i : Instance) (r : Runtime) → is_live_fate (fate_by (number i.name)) ≡ false → Cuts i.number r (replace_instance language number i r)
+pub cuts_replace : (language : Language) (number : Name → Option ℕ) (i : Instance) (r : Runtime) → is_live_fate (fate_by (number i.name)) ≡ false → Cuts i.number r (replace_instance language number i r)
 cuts_replace language number i r e =
     let disposed : Did = run_each language place.Dispose no_arguments disposes i.number r in
     cuts_end (fate_by (number i.name)) e i.number i.name r (drop_each is_left_behind i.number disposed.0).0
     (same_drop is_left_behind i.number disposed.0 ∙ same_run_each language place.Dispose no_arguments disposes i.number r)
 
-cuts_prune : (language : Language) (i : Instance) (r : Runtime) → Cuts i.number r (prune_instance language i r)
+pub cuts_prune : (language : Language) (i : Instance) (r : Runtime) → Cuts i.number r (prune_instance language i r)
 cuts_prune language i r =
     let disposed : Did = run_each language place.Dispose no_arguments disposes i.number r in
     let pruning : Did = run_each language place.Prune no_arguments prunes i.number disposed.0 in

@@ -149,7 +149,7 @@ module _ (language : Language) (P : Name → Fit) (p : Plan) (r : Runtime) (plan
 
 -- Each thing that comes.
 
-met_served : (language : Language) (P : Name → Fit) (r : Runtime) (came : Incoming) → HoldsOf r → FitsIn P r → AllServed language (frames r.instances) → AllServed language (frames (met language came r).0.instances)
+pub met_served : (language : Language) (P : Name → Fit) (r : Runtime) (came : Incoming) → HoldsOf r → FitsIn P r → AllServed language (frames r.instances) → AllServed language (frames (met language came r).0.instances)
 met_served language P r came old fits all = by g.moves
   where
     s : Runtime
@@ -180,7 +180,7 @@ all_right language (msg.Missing m) = tt
 all_right language (msg.NotYet m) = tt
 all_right language (msg.Refused code m told kept) = tt
 
-came_right : (language : Language) (came : Incoming) → IncomingFits language (Right language) came
+pub came_right : (language : Language) (came : Incoming) → IncomingFits language (Right language) came
 came_right language (message m) = all_right language m
 came_right language (event n value) = tt
 
@@ -198,7 +198,9 @@ exporting_is is k x t =
     let m : MadeOf frame is t.to = map_from frame is t.to t.there in
     record { instance = m.of; made = m.there; number = ap (λ (f : Frame). f.number) m.makes ∙ t.number; exports = ap (λ (f : Frame). has f.exports x) m.makes ∙ t.exports }
 
+-- so each instance is served so
+pub served_exported : (language : Language) (is : List Instance) → AllServed language (frames is) → AreExported language is
+served_exported language is all i c b d k l = exporting_is is k b.exported (all (frame i) (map_in frame is i c) b d k l)
+
 pub exported_run : (language : Language) (opening : Opening) (past : Past) → AreExported language (runtime_after language opening past).instances
-exported_run language opening past i c b d k l =
-    let is : List Instance = (runtime_after language opening past).instances in
-    exporting_is is k b.exported (run_served language opening past (frame i) (map_in frame is i c) b d k l)
+exported_run language opening past = served_exported language (runtime_after language opening past).instances (run_served language opening past)

@@ -19,6 +19,7 @@ use Rattle.client_model.specs.Runtime.{Runtime}
 use Rattle.client_model.specs.Order.{fetch_order, evaluation_order}
 use Rattle.client_model.specs.Linking.{is_kept_kind, is_kept, next_needed, new_names, number_after, number_in, links_after, link_to}
 use Rattle.client_model.proofs.Walking.{walk_is, orders_agree}
+use Rattle.world_laws.specs.KeptClient.{KindFits}
 use Rattle.world_laws.proofs.Members.{in_cases, none_in, map_in, MadeOf, map_from}
 use Rattle.world_laws.proofs.Frames.{Frame, frame, frames, dead, is_of, cut, ended_by, made_on, live_one, live_count, live_cut, none_counted, cut_count, made_count, old_in, new_in, made_cases, Numbered, found_in}
 use Rattle.world_laws.proofs.Births.{new_frame, Ready, news, olds, frames_after, news_names, news_once, numbered_after, live_after, new_there}
@@ -30,12 +31,6 @@ pub record LeadsTo (fs : List Frame) (x : Name) (k : ℕ) : Type 0 where
   pub there : Contains fs to
   pub number : to.number ≡ k
   pub name : to.name ≡ x
-
--- a load is of a page that isn't loaded
-abbrev pub KindFits : PlanKind → Bool → Type 0
-KindFits Load loaded = loaded ≡ false
-KindFits Reload loaded = ⊤
-KindFits Update loaded = ⊤
 
 -- what the plan staged has its text
 abbrev pub PlanFits : Option Plan → Bool → List (Name × Text) → Type 0

@@ -8,6 +8,8 @@ pub mod Following
 pub mod Frames
 pub mod FreshInstances
 pub mod Keeping
+pub mod Invalidations
+pub mod KeptClient
 pub mod Linked
 pub mod Freshness
 pub mod Holding
@@ -33,4 +35,5 @@ pub mod TurnsAsk
 pub mod TurnsLowering
 pub mod TurnsBinding
 pub mod Unlinked
+pub mod Unsent
 pub mod VersionTexts

@@ -120,7 +120,7 @@ module _ (language : Language) (p : Plan) (r : Runtime) (plan_is : r.page.plan �
       by (inl c) = of_new (map_from (new_frame p r) (new_names p r) f c)
       by (inr c) = cut_whole language (ended_by (ended_names p.kind p r) (frames r.instances)) (frames r.instances) all f c
 
-met_whole : (language : Language) (r : Runtime) (came : Incoming) → HoldsOf r → FitsIn (Right language) r → AllWhole language (frames r.instances) → AllWhole language (frames (met language came r).0.instances)
+pub met_whole : (language : Language) (r : Runtime) (came : Incoming) → HoldsOf r → FitsIn (Right language) r → AllWhole language (frames r.instances) → AllWhole language (frames (met language came r).0.instances)
 met_whole language r came old fits all = by g.moves
   where
     s : Runtime

@@ -12,14 +12,14 @@ use Rattle.client_model.specs.Runtime.{Opening}
 use Rattle.client_model.specs.Stale.{IsStale, stale_of}
 use Rattle.world_laws.specs.Instances.{AreNumbered, IsMadeOf, AreLinked, AreCounted}
 use Rattle.world_laws.proofs.Members.{none_in, in_cases, map_in, MadeOf, map_from}
-use Rattle.world_laws.proofs.Frames.{Frame, frame, frames, is_of, live_count, Numbered, number_low}
+use Rattle.world_laws.proofs.Frames.{Frame, frame, frames, is_of, live_one, live_count, Numbered, number_low}
 use Rattle.world_laws.proofs.Holding.{LeadsTo, HoldsOf, live_is}
 use Rattle.world_laws.proofs.Messages.{run_holds}
 use Rattle.world_laws.proofs.StaleLists.{listed_are}
 
-numbered : (is : List Instance) → Numbered (frames is) → AreNumbered is
-numbered [] d = tt
-numbered (i ∷ is) d = (d.0 ∙ ap suc (length-map is frame), numbered is d.1)
+pub numbered_are : (is : List Instance) → Numbered (frames is) → AreNumbered is
+numbered_are [] d = tt
+numbered_are (i ∷ is) d = (d.0 ∙ ap suc (length-map is frame), numbered_are is d.1)
 
 from_one : (fs : List Frame) → Numbered fs → (f : Frame) → Contains fs f → 1 ≤ f.number
 from_one [] d f c = absurd (none_in f c)
@@ -43,9 +43,10 @@ same_numbered (h ∷ fs) d f g c k e = by (same_numbered fs d.1 f g) (in_cases h
 counted_in : (is : List Instance) → Numbered (frames is) → (f : Frame) → Contains (frames is) f → (1 ≤ f.number) × (f.number ≤ length is)
 counted_in is d f c = (from_one (frames is) d f c, omega (arith, number_low (frames is) d f c, length-map is frame))
 
-counts : (is : List Instance) (n : Name) → length (filter (λ i. is_live i && same_name i.name n) is) ≡ live_count (frames is) n
-counts [] n = refl
-counts (i ∷ is) n = by (is_of n (frame i)) (counts is n)
+-- how many are live under a name
+pub one_counted : (is : List Instance) (n : Name) → length (filter (λ i. is_live i && same_name i.name n) is) ≡ live_count (frames is) n
+one_counted [] n = refl
+one_counted (i ∷ is) n = by (is_of n (frame i)) (one_counted is n)
   where
     by : (b : Bool) → length (filter (λ j. is_live j && same_name j.name n) is) ≡ live_count (frames is) n → length (cond b (i ∷ filter (λ j. is_live j && same_name j.name n) is) (filter (λ j. is_live j && same_name j.name n) is)) ≡ length (cond b (frame i ∷ filter (is_of n) (frames is)) (filter (is_of n) (frames is)))
     by true h = ap suc h
@@ -60,15 +61,23 @@ some_framed : (o : Option Instance) → is_some o ≡ is_some (option_map frame 
 some_framed None = refl
 some_framed (Some i) = refl
 
+-- the links of each lead to what they import
+pub linked_are : (is : List Instance) → ((f : Frame) → Contains (frames is) f → (x : Name) (k : ℕ) → Contains f.links (x, k) → LeadsTo (frames is) x k) → AreLinked is
+linked_are is h i c x k l = lead_is is x k (h (frame i) (map_in frame is i c) x k l)
+
+-- whether a name is live
+pub live_framed : (is : List Instance) (n : Name) → is_some (live_at is n) ≡ is_some (live_one (frames is) n)
+live_framed is n = some_framed (live_at is n) ∙ ap is_some (sym (live_is is n))
+
 module _ (language : Language) (opening : Opening) (past : Past) where
   held : HoldsOf (runtime_after language opening past)
   held = run_holds language opening past
 
   pub numbered_run : AreNumbered (runtime_after language opening past).instances
-  numbered_run = numbered (runtime_after language opening past).instances held.numbered
+  numbered_run = numbered_are (runtime_after language opening past).instances held.numbered
 
   pub linked_run : AreLinked (runtime_after language opening past).instances
-  linked_run i c x k l = lead_is (runtime_after language opening past).instances x k (held.linked (frame i) (map_in frame (runtime_after language opening past).instances i c) x k l)
+  linked_run = linked_are (runtime_after language opening past).instances held.linked
 
   pub counted_run : AreCounted (runtime_after language opening past).instances
   counted_run =
@@ -82,10 +91,10 @@ module _ (language : Language) (opening : Opening) (past : Past) where
       by x k l = let b = counted_in (runtime_after language opening past).instances held.numbered l.to l.there in (omega (arith, b.0, l.number), omega (arith, b.1, l.number))
 
   pub one_run : (n : Name) → length (live_of (λ m. same_name m n) (runtime_after language opening past)) ≤ 1
-  one_run n = omega (arith, counts (runtime_after language opening past).instances n, held.one n)
+  one_run n = omega (arith, one_counted (runtime_after language opening past).instances n, held.one n)
 
   pub live_run : (n : Name) → is_some (live_at (runtime_after language opening past).instances n) ≡ is_in (runtime_after language opening past).page.view n
-  live_run n = some_framed (live_at (runtime_after language opening past).instances n) ∙ ap is_some (sym (live_is (runtime_after language opening past).instances n)) ∙ held.live n
+  live_run n = live_framed (runtime_after language opening past).instances n ∙ held.live n
 
   pub listed_run : (b x : Name) → Contains (stale_of (runtime_after language opening past)) (b, x) ↔ IsStale (runtime_after language opening past) b x
   listed_run = listed_are (runtime_after language opening past) (λ n h. live_run n ∙ h)

@@ -41,7 +41,8 @@ use Rattle.world_laws.proofs.Members.{none_in}
 use Rattle.world_laws.proofs.Frames.{Frame, frames, cut, cut_none, ended_by, live_one, live_cut, cut_numbered, cut_count, cut_length}
 use Rattle.world_laws.proofs.Births.{frames_after, applied_frames, applied_page, applied_client}
 use Rattle.world_laws.proofs.Ending.{same_lines, same_hear, ends_prune}
-use Rattle.world_laws.proofs.Holding.{KindFits, PlanFits, Holds, HoldsOf, linked_cut, holds_after, is_ready}
+use Rattle.world_laws.specs.KeptClient.{KindFits}
+use Rattle.world_laws.proofs.Holding.{PlanFits, Holds, HoldsOf, linked_cut, holds_after, is_ready}
 
 -- some instances ended; modules and live instances are those of before, or gone
 pub record Quiet (old new : View) (before after : List Frame) : Type 0 where

@@ -23,6 +23,8 @@ use Rattle.client_model.specs.Runtime.{Runtime, Opening, new_runtime}
 use Rattle.client_model.specs.Requesting as requesting
 use Rattle.client_model.specs.Taking.{take}
 use Rattle.client_model.specs.Firing.{fire}
+use Rattle.client_model.specs.Past.{Incoming, met}
+use Rattle.client_model.specs.Past as came_is
 use Rattle.hmr_types.specs.declared.value.Value.{Value}
 use Rattle.world_model.specs.World.{Job, World, Step, edits, settles, opens, turn, closes, show, values, fates, fresh, fresh_of, fires}
 use Rattle.world_model.specs.Editing.{is_job, settle_job}
@@ -124,77 +126,83 @@ module _ (language : Language) (P : Name → Fit) where
   reply_sent format (told.Invalidate n v message) roots i core h = request_sent format (client_at core.clients i) i core (invalidate n v) h
   reply_sent format told.Bye roots i core h = disconnect_sent format (client_at core.clients i) i core
 
-  -- Open clients.
+  -- Open clients, and what is asked of them besides.
 
-  abbrev pub KeptAt : Option Runtime → Type 0
-  KeptAt None = ⊤
-  KeptAt (Some r) = HoldsOf r × FitsIn P r
+  module _ (Also : Runtime → Type 0) (begins : (opening : Opening) → Also (new_runtime opening))
+      (goes_on : (r : Runtime) (came : Incoming) → HoldsOf r → FitsIn P r → FitsIn P (met language came r).0 → Also r → Also (met language came r).0) where
+    abbrev pub KeptAt : Option Runtime → Type 0
+    KeptAt None = ⊤
+    KeptAt (Some r) = HoldsOf r × FitsIn P r × Also r
 
-  abbrev pub AllKept : List (ℕ × Runtime) → Type 0
-  AllKept clients = (i : ℕ) → KeptAt (client_at clients i)
+    abbrev pub AllKept : List (ℕ × Runtime) → Type 0
+    AllKept clients = (i : ℕ) → KeptAt (client_at clients i)
 
-  take_kept : (r : Runtime) (m : ServerMsg) → Sent m → KeptAt (Some r) → KeptAt (Some (take language r m).after)
-  take_kept r m fit k = ((take_goes language r m k.0).holds, take_fits language P r k.0 k.1 m fit)
+    take_kept : (r : Runtime) (m : ServerMsg) → Sent m → KeptAt (Some r) → KeptAt (Some (take language r m).after)
+    take_kept r m fit k =
+        let fits : FitsIn P (take language r m).after = take_fits language P r k.0 k.1 m fit in
+        ((take_goes language r m k.0).holds, fits, goes_on r (came_is.message m) k.0 k.1 fits k.2)
 
-  take_some_kept : (r : Runtime) (o : Option ServerMsg) → SentSome o → KeptAt (Some r) → KeptAt (Some (take_some language r o).after)
-  take_some_kept r None fit k = k
-  take_some_kept r (Some m) fit k = take_kept r m fit k
+    take_some_kept : (r : Runtime) (o : Option ServerMsg) → SentSome o → KeptAt (Some r) → KeptAt (Some (take_some language r o).after)
+    take_some_kept r None fit k = k
+    take_some_kept r (Some m) fit k = take_kept r m fit k
 
-  fire_kept : (r : Runtime) (n : Name) (value : Value) → KeptAt (Some r) → KeptAt (Some (fire language n value r).after)
-  fire_kept r n value k = ((fire_goes language r n value k.0).holds, fire_fits language P r k.0 k.1 n value)
+    fire_kept : (r : Runtime) (n : Name) (value : Value) → KeptAt (Some r) → KeptAt (Some (fire language n value r).after)
+    fire_kept r n value k =
+        let fits : FitsIn P (fire language n value r).after = fire_fits language P r k.0 k.1 n value in
+        ((fire_goes language r n value k.0).holds, fits, goes_on r (came_is.event n value) k.0 k.1 fits k.2)
 
-  kept_with : (b : Bool) (r : Runtime) (o : Option Runtime) → KeptAt (Some r) → KeptAt o → KeptAt (if b then Some r else o)
-  kept_with true r o k h = k
-  kept_with false r o k h = h
+    kept_with : (b : Bool) (r : Runtime) (o : Option Runtime) → KeptAt (Some r) → KeptAt o → KeptAt (if b then Some r else o)
+    kept_with true r o k h = k
+    kept_with false r o k h = h
 
-  kept_without : (b : Bool) (o : Option Runtime) → KeptAt o → KeptAt (if b then None else o)
-  kept_without true o h = tt
-  kept_without false o h = h
+    kept_without : (b : Bool) (o : Option Runtime) → KeptAt o → KeptAt (if b then None else o)
+    kept_without true o h = tt
+    kept_without false o h = h
 
-  all_with : (j : ℕ) (r : Runtime) (clients : List (ℕ × Runtime)) → KeptAt (Some r) → AllKept clients → AllKept (with_client j r clients)
-  all_with j r clients k all i = subst KeptAt (sym (at_with j r clients i)) (kept_with (j == i) r (client_at clients i) k (all i))
+    all_with : (j : ℕ) (r : Runtime) (clients : List (ℕ × Runtime)) → KeptAt (Some r) → AllKept clients → AllKept (with_client j r clients)
+    all_with j r clients k all i = subst KeptAt (sym (at_with j r clients i)) (kept_with (j == i) r (client_at clients i) k (all i))
 
-  turned : (roots : List Name) (j : ℕ) (w : World) (o : Option Runtime) → client_at w.clients j ≡ o → ((n : Name) → ServedFits n (at w.core.sources.served n)) → AllKept w.clients → AllKept (turn_of language roots j w o).world.clients
-  turned roots j w None e h all = all
-  turned roots j w (Some r) e h all =
-      let m : Option ServerMsg = message_for r.format (step roots w.core (event_of j (requesting.request language r))).1 in
-      all_with j (take_some language r m).after w.clients (take_some_kept r m (reply_sent r.format (requesting.request language r) roots j w.core h) (subst KeptAt e (all j))) all
+    turned : (roots : List Name) (j : ℕ) (w : World) (o : Option Runtime) → client_at w.clients j ≡ o → ((n : Name) → ServedFits n (at w.core.sources.served n)) → AllKept w.clients → AllKept (turn_of language roots j w o).world.clients
+    turned roots j w None e h all = all
+    turned roots j w (Some r) e h all =
+        let m : Option ServerMsg = message_for r.format (step roots w.core (event_of j (requesting.request language r))).1 in
+        all_with j (take_some language r m).after w.clients (take_some_kept r m (reply_sent r.format (requesting.request language r) roots j w.core h) (subst KeptAt e (all j))) all
 
-  new_kept : (opening : Opening) → KeptAt (Some (new_runtime opening))
-  new_kept opening = (new_holds opening, record { planned = tt; live = λ n. tt })
+    new_kept : (opening : Opening) → KeptAt (Some (new_runtime opening))
+    new_kept opening = (new_holds opening, record { planned = tt; live = λ n. tt }, begins opening)
 
-  opened : (shelves : List (List (Text × ℕ))) (format : ℕ) (names : List Name) (w : World) (after : Core × Reply) (number : Option ℕ) → Replied format after.1 → AllKept w.clients → AllKept (opened_by language shelves format names w after number).world.clients
-  opened shelves format names w after None fit all = all
-  opened shelves format names w after (Some j) fit all =
-      let r : Runtime = new_runtime (opening_of shelves format names j) in
-      all_with j (take_some language r (message_for format after.1)).after w.clients (take_some_kept r (message_for format after.1) fit (new_kept (opening_of shelves format names j))) all
+    opened : (shelves : List (List (Text × ℕ))) (format : ℕ) (names : List Name) (w : World) (after : Core × Reply) (number : Option ℕ) → Replied format after.1 → AllKept w.clients → AllKept (opened_by language shelves format names w after number).world.clients
+    opened shelves format names w after None fit all = all
+    opened shelves format names w after (Some j) fit all =
+        let r : Runtime = new_runtime (opening_of shelves format names j) in
+        all_with j (take_some language r (message_for format after.1)).after w.clients (take_some_kept r (message_for format after.1) fit (new_kept (opening_of shelves format names j))) all
 
-  fired : (i : ℕ) (n : Name) (value : Value) (w : World) (o : Option Runtime) → client_at w.clients i ≡ o → AllKept w.clients → AllKept (fire_of language i n value w o).world.clients
-  fired i n value w None e all = all
-  fired i n value w (Some r) e all = all_with i (fire language n value r).after w.clients (fire_kept r n value (subst KeptAt e (all i))) all
+    fired : (i : ℕ) (n : Name) (value : Value) (w : World) (o : Option Runtime) → client_at w.clients i ≡ o → AllKept w.clients → AllKept (fire_of language i n value w o).world.clients
+    fired i n value w None e all = all
+    fired i n value w (Some r) e all = all_with i (fire language n value r).after w.clients (fire_kept r n value (subst KeptAt e (all i))) all
 
-  closed : (roots : List Name) (j : ℕ) (w : World) (o : Option Runtime) → AllKept w.clients → AllKept (close_of roots j w o).world.clients
-  closed roots j w None all = all
-  closed roots j w (Some r) all = λ i. subst KeptAt (sym (at_without j w.clients i)) (kept_without (j == i) (client_at w.clients i) (all i))
+    closed : (roots : List Name) (j : ℕ) (w : World) (o : Option Runtime) → AllKept w.clients → AllKept (close_of roots j w o).world.clients
+    closed roots j w None all = all
+    closed roots j w (Some r) all = λ i. subst KeptAt (sym (at_without j w.clients i)) (kept_without (j == i) (client_at w.clients i) (all i))
 
-  shows : (i : ℕ) (w : World) (lines : Runtime → List OutLine) (o : Option Runtime) → AllKept w.clients → AllKept (shown i w lines o).world.clients
-  shows i w lines None all = all
-  shows i w lines (Some r) all = all
+    shows : (i : ℕ) (w : World) (lines : Runtime → List OutLine) (o : Option Runtime) → AllKept w.clients → AllKept (shown i w lines o).world.clients
+    shows i w lines None all = all
+    shows i w lines (Some r) all = all
 
-  settled : (roots : List Name) (n : Name) (v : ℕ) (w : World) (o : Option Job) → AllKept w.clients → AllKept (settle_job language roots n v w o).world.clients
-  settled roots n v w None all = all
-  settled roots n v w (Some j) all = all
+    settled : (roots : List Name) (n : Name) (v : ℕ) (w : World) (o : Option Job) → AllKept w.clients → AllKept (settle_job language roots n v w o).world.clients
+    settled roots n v w None all = all
+    settled roots n v w (Some j) all = all
 
-  -- each step keeps it
-  pub step_kept : (roots : List Name) (shelves : List (List (Text × ℕ))) (w : World) (s : Step) → ((n : Name) → ServedFits n (at w.core.sources.served n)) → AllKept w.clients → AllKept (world_step language roots shelves w s).world.clients
-  step_kept roots shelves w (edits n t) h all = all
-  step_kept roots shelves w (settles n v) h all = settled roots n v w (find (is_job n v) w.issued) all
-  step_kept roots shelves w (opens format names) h all = opened shelves format names w (step roots w.core (connect names)) (connected_as (message_for format (step roots w.core (connect names)).1)) (connect_sent format (are_bad names) (roots_or names roots) w.core) all
-  step_kept roots shelves w (turn i) h all = turned roots i w (client_at w.clients i) refl h all
-  step_kept roots shelves w (closes i) h all = closed roots i w (client_at w.clients i) all
-  step_kept roots shelves w (show i) h all = shows i w _ (client_at w.clients i) all
-  step_kept roots shelves w (values i) h all = shows i w _ (client_at w.clients i) all
-  step_kept roots shelves w (fates i) h all = shows i w _ (client_at w.clients i) all
-  step_kept roots shelves w fresh h all = all
-  step_kept roots shelves w (fresh_of i) h all = shows i w _ (client_at w.clients i) all
-  step_kept roots shelves w (fires i n value) h all = fired i n value w (client_at w.clients i) refl all
+    -- each step keeps it
+    pub step_kept : (roots : List Name) (shelves : List (List (Text × ℕ))) (w : World) (s : Step) → ((n : Name) → ServedFits n (at w.core.sources.served n)) → AllKept w.clients → AllKept (world_step language roots shelves w s).world.clients
+    step_kept roots shelves w (edits n t) h all = all
+    step_kept roots shelves w (settles n v) h all = settled roots n v w (find (is_job n v) w.issued) all
+    step_kept roots shelves w (opens format names) h all = opened shelves format names w (step roots w.core (connect names)) (connected_as (message_for format (step roots w.core (connect names)).1)) (connect_sent format (are_bad names) (roots_or names roots) w.core) all
+    step_kept roots shelves w (turn i) h all = turned roots i w (client_at w.clients i) refl h all
+    step_kept roots shelves w (closes i) h all = closed roots i w (client_at w.clients i) all
+    step_kept roots shelves w (show i) h all = shows i w _ (client_at w.clients i) all
+    step_kept roots shelves w (values i) h all = shows i w _ (client_at w.clients i) all
+    step_kept roots shelves w (fates i) h all = shows i w _ (client_at w.clients i) all
+    step_kept roots shelves w fresh h all = all
+    step_kept roots shelves w (fresh_of i) h all = shows i w _ (client_at w.clients i) all
+    step_kept roots shelves w (fires i n value) h all = fired i n value w (client_at w.clients i) refl all

@@ -1,7 +1,7 @@
 -- Each live instance of an open client is of its page's module, and its text is that of the edit that was
 -- counted as its version; so it is what is served, where that version is served.
 use Rattle.std.proofs.Common.{◌≡◌, ◌⊎◌, inl, inr, ℕ, ◌≤◌, Bool, true, false, List, [], ◌∷◌, length, refl, ap, sym, ◌∙◌, arith, Contains}
-use Rattle.std.specs.Prelude.{find, filter, cond, ◌&&◌, Option, Some, None, is_some}
+use Rattle.std.specs.Prelude.{find, filter, cond, ◌&&◌, Option, Some, None, is_some, ⊤}
 use Rattle.std.proofs.Math.Path.{subst}
 use Rattle.std.proofs.lemmas.Bool.{false≢true}
 use Rattle.std.proofs.lemmas.Option.{same_Some}
@@ -17,7 +17,8 @@ use Rattle.core_laws.specs.Written.{written, IsServedWritten}
 use Rattle.core_laws.proofs.Writing.{written_stays}
 use Rattle.client_model.specs.Language.{Language}
 use Rattle.client_model.specs.Instance.{Instance}
-use Rattle.client_model.specs.Runtime.{Runtime}
+use Rattle.client_model.specs.Runtime.{Runtime, Opening, new_runtime}
+use Rattle.client_model.specs.Past.{Incoming, met}
 use Rattle.world_model.specs.World.{Job, World, Step, edits, settles, opens, turn, closes, show, values, fates, fresh, fresh_of, fires}
 use Rattle.world_model.specs.Editing.{is_job}
 use Rattle.world_model.specs.Steps.{world_after}
@@ -27,17 +28,32 @@ use Rattle.world_laws.specs.Changes.{result_too, change_too, changes_in}
 use Rattle.world_laws.specs.Versions.{IsOfPage, AreOfPage, IsServedSame, AreServedSame, IsFetched, AreFetched}
 use Rattle.world_laws.proofs.Members.{none_in, in_cases, map_in, filter_in}
 use Rattle.world_laws.proofs.Frames.{Frame, frame, frames, is_of, live_one, live_count}
-use Rattle.world_laws.proofs.Texts.{Fit, StagedFits, LiveFits, PlanTexts, fits_too}
-use Rattle.world_laws.proofs.Replies.{ServedFits, KeptAt, AllKept, step_kept}
+use Rattle.world_laws.proofs.Texts.{Fit, StagedFits, LiveFits, PlanTexts, FitsIn, fits_too}
+use Rattle.world_laws.proofs.Holding.{HoldsOf}
+use Rattle.world_laws.proofs.Replies.{ServedFits, KeptAt, step_kept}
 use Rattle.world_laws.proofs.Changes.{served_written_in}
 
 -- a text is that of its version, and transforming it gives the analysis
 abbrev pub OfVersion : Language → (Name → ℕ → Option Text) → Name → Fit
 OfVersion language by n v t a = (language.transformed n t ≡ Good a) × (by n v ≡ Some t)
 
-kept_more : (language : Language) (by more : Name → ℕ → Option Text) → ((n : Name) (v : ℕ) (t : Text) → by n v ≡ Some t → more n v ≡ Some t) → (o : Option Runtime) → KeptAt language (OfVersion language by) o → KeptAt language (OfVersion language more) o
+-- nothing is asked of a client besides
+abbrev Nothing : Runtime → Type 0
+Nothing r = ⊤
+
+nothing_begins : (opening : Opening) → Nothing (new_runtime opening)
+nothing_begins opening = tt
+
+module _ (language : Language) (by : Name → ℕ → Option Text) where
+  nothing_goes : (r : Runtime) (came : Incoming) → HoldsOf r → FitsIn (OfVersion language by) r → FitsIn (OfVersion language by) (met language came r).0 → Nothing r → Nothing (met language came r).0
+  nothing_goes r came h old new n = tt
+
+  abbrev Kept : Option Runtime → Type 0
+  Kept o = KeptAt language (OfVersion language by) Nothing nothing_begins nothing_goes o
+
+kept_more : (language : Language) (by more : Name → ℕ → Option Text) → ((n : Name) (v : ℕ) (t : Text) → by n v ≡ Some t → more n v ≡ Some t) → (o : Option Runtime) → Kept language by o → Kept language more o
 kept_more language by more f None k = tt
-kept_more language by more f (Some r) k = (k.0, fits_too (OfVersion language by) (OfVersion language more) (λ n v t a h. (h.0, f n v t h.1)) r k.1)
+kept_more language by more f (Some r) k = (k.0, fits_too (OfVersion language by) (OfVersion language more) (λ n v t a h. (h.0, f n v t h.1)) r k.1, tt)
 
 result_more : (language : Language) (m : Name) (w : ℕ) (o : Option Job) (past : List Change) (n : Name) (v : ℕ) (t : Text) → written past n v ≡ Some t → written (result_too language m w o past) n v ≡ Some t
 result_more language m w None past n v t h = h
@@ -87,7 +103,7 @@ module _ (language : Language) (by : Name → ℕ → Option Text) where
   of_page None i e l = absurd (false≢true e)
   of_page (Some e) i s l = record { version = l.0; exports = l.1; text = ap (by i.name) l.0 ∙ l.2.1; analysis = l.2.0 }
 
-  of_client : (o : Option Runtime) → KeptAt language (OfVersion language by) o → AreOfPage language by o
+  of_client : (o : Option Runtime) → Kept language by o → AreOfPage language by o
   of_client None k = tt
   of_client (Some r) k = λ i c l.
       let one : live_one (frames r.instances) i.name ≡ Some (frame i) = the_live (frames r.instances) (frame i) (map_in frame r.instances i c) l (k.0.one i.name) in
@@ -97,7 +113,7 @@ module _ (language : Language) (by : Name → ℕ → Option Text) where
   fetched n e None h = h
   fetched n e (Some t) h = (h.1, h.0)
 
-  of_plan : (o : Option Runtime) → KeptAt language (OfVersion language by) o → AreFetched language by o
+  of_plan : (o : Option Runtime) → Kept language by o → AreFetched language by o
   of_plan None k = tt
   of_plan (Some r) k = λ p is n e staged.
       let planned : PlanTexts (OfVersion language by) (Some p) r.texts = subst (λ q. PlanTexts (OfVersion language by) q r.texts) is k.1.planned in
@@ -120,12 +136,12 @@ module _ (language : Language) (roots : List Name) (shelves : List (List (Text �
   abbrev texts_in : List Step → Name → ℕ → Option Text
   texts_in past = written (changes_in language roots shelves past)
 
-  run_kept : (past : List Step) → AllKept language (OfVersion language (texts_in past)) (world_after language roots shelves past).clients
+  run_kept : (past : List Step) (i : ℕ) → Kept language (texts_in past) (client_at (world_after language roots shelves past).clients i)
   run_kept [] = λ i. tt
   run_kept (s ∷ past) = λ i.
       let w : World = world_after language roots shelves past in
       kept_more language (texts_in past) (texts_in (s ∷ past)) (change_more language w s (changes_in language roots shelves past)) (client_at (world_after language roots shelves (s ∷ past)).clients i)
-      (step_kept language (OfVersion language (texts_in past)) roots shelves w s (λ n. served_fits language (texts_in past) n (at w.core.sources.served n) (served_written_in language roots shelves past n)) (run_kept past) i)
+      (step_kept language (OfVersion language (texts_in past)) Nothing nothing_begins (nothing_goes language (texts_in past)) roots shelves w s (λ n. served_fits language (texts_in past) n (at w.core.sources.served n) (served_written_in language roots shelves past n)) (run_kept past) i)
 
   pub of_page_run : (past : List Step) (i : ℕ) → AreOfPage language (texts_in past) (client_at (world_after language roots shelves past).clients i)
   of_page_run past i = of_client language (texts_in past) (client_at (world_after language roots shelves past).clients i) (run_kept past i)

@@ -3,6 +3,7 @@ pub mod Fresh
 pub mod Instances
 pub mod Changes
 pub mod Versions
+pub mod Unsent
 pub mod Stops
 pub mod Taken
 pub mod Quiet
@@ -11,3 +12,4 @@ pub mod SmallTexts
 pub mod HiddenTurns
 pub mod Runs
 pub mod Kept
+pub mod KeptClient

@@ -1,14 +1,18 @@
 // The live instances of each open client and the texts that it fetched, and the versions that they are of.
-ghost use Rattle.std.specs.Prelude.{◌≡◌, ℕ, List};
+ghost use Rattle.std.specs.Prelude.{◌≡◌, ℕ, List, Some};
+ghost use Rattle.update_msgs.specs.Writable.{IsSayable};
 ghost use Rattle.core_model.specs.Names.{Name, at};
 ghost use Rattle.core_model.specs.Sources.{Text, sources_after};
 ghost use Rattle.core_model.specs.Core.{client_at};
 ghost use Rattle.core_laws.specs.Written.{written, IsServedWritten};
 ghost use Rattle.client_model.specs.Language.{Language};
+ghost use Rattle.client_model.specs.Runtime.{Runtime};
+ghost use Rattle.client_model.specs.Requesting.{request};
 ghost use Rattle.world_model.specs.World.{Step};
 ghost use Rattle.world_model.specs.Steps.{world_after};
 ghost use Rattle.world_model.specs.Ties.{WentOn};
 ghost use Rattle.world_laws.specs.Changes.{changes_in};
+ghost use Rattle.world_laws.specs.Unsent.{AreUnsentVersions};
 ghost use Rattle.world_laws.specs.Versions.{AreFetched, AreOfPage, AreServedSame};
 
 /// The sources of the world are those that its edits and results make; so what is served of a name has
@@ -42,4 +46,17 @@ pub fn fetched_texts_are_of_their_versions()
     ensures { (language : Language) (roots : List Name) (shelves : List (List (Text × ℕ))) (past : List Step)
         (i : ℕ) → let w = world_after language roots shelves past in
         AreFetched language (written (changes_in language roots shelves past)) (client_at w.clients i) }
+{}
+
+/// After every list of steps, each invalidation that an open client hasn't sent has a version as a counted
+/// edit has one, from 1 to 2^53 - 1, and never 0, that of no module; so the request of each open client can
+/// be written.
+pub fn requests_can_be_written()
+    ensures unsent { (language : Language) (roots : List Name) (shelves : List (List (Text × ℕ)))
+        (past : List Step) (i : ℕ) (r : Runtime) →
+        client_at (world_after language roots shelves past).clients i ≡ Some r → AreUnsentVersions r }
+    ensures requests { (language : Language) (roots : List Name) (shelves : List (List (Text × ℕ)))
+        (past : List Step) (i : ℕ) (r : Runtime) → WentOn language roots shelves past →
+        client_at (world_after language roots shelves past).clients i ≡ Some r →
+        IsSayable (request language r) }
 {}
