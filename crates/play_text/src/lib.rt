@@ -15,7 +15,7 @@ pub use play_script::{
     Commands, Script, ScriptFault, ScriptKind, ScriptLine, read_script, script_word,
     spelling_is_read,
 };
-pub use rendering::render;
+pub use rendering::{put_line, render};
 pub use word_texts::{cause_str, fault_str};
 
 #[cfg(test)]

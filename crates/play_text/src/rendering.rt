@@ -22,9 +22,17 @@ pub fn render(alloc: Global, line: &OutLine) -> Result<Vec<u8>, AllocError>
     ensures { IfOk result (λ bytes. bytes.items ≡ line_text line.now) }
 {
     let mut out = Vec::new(alloc);
-    put_body(&mut out, line)?;
-    put(&mut out, "\n")?;
+    put_line(&mut out, line)?;
     Ok(out)
+}
+
+/// Puts the bytes of a line, with its LF, behind others. Where memory runs out, a part of them may stand
+/// there.
+pub fn put_line(out: &mut Vec<u8>, line: &OutLine) -> Result<(), AllocError>
+    ensures { OnOk result (out.new.items ≡ out.old.items ++ line_text line.now) }
+{
+    put_body(out, line)?;
+    put(out, "\n")
 }
 
 fn put_body(out: &mut Vec<u8>, line: &OutLine) -> Result<(), AllocError>
