@@ -1,8 +1,21 @@
-pub mod Jobs
-pub mod Rows
-pub mod Bare
-pub mod Order
-pub mod Numbers
-pub mod Texts
-pub mod Runs
-pub mod Changes
+mod Begun
+mod Cores
+mod Edited
+mod Fired
+mod Found
+mod Given
+mod Issued
+mod Issuing
+mod JobRows
+mod Loading
+mod Looking
+mod Opened
+mod Opening
+mod Placing
+mod Settling
+mod Shelving
+mod Stepped
+mod Turned
+mod Turning
+mod Words
+mod Wording

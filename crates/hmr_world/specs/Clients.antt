@@ -1,58 +1,37 @@
--- What one turn of the client does: it is one request, and what the answer makes of the client.
-use Rattle.std.specs.Prelude.{ℕ, ◌==◌, not, Bool, false, Option, Some, None, if◌then◌else◌}
-use Rattle.hmr_types.specs.declared.words.PlanKind.{PlanKind}
-use Rattle.hmr_types.specs.declared.words.PlanKind.TheVariants.{Load, Reload}
-use Rattle.hmr_world.specs.declared.client.Client.{Client}
-use Rattle.hmr_world.specs.declared.client.Plan.{Plan}
-use Rattle.hmr_world.specs.declared.client.Progress.{Progress}
-use Rattle.hmr_world.specs.declared.client.Progress.TheVariants.{Fetching, Staged, Unserved}
-use Rattle.hmr_world.specs.declared.client.Offer.{Offer}
-use Rattle.hmr_world.specs.declared.client.Turned.{Turned}
-use Rattle.hmr_world.specs.declared.client.Turned.TheVariants.{Quiet, Waits, Reloads, Aborts, Applies}
+-- The open clients, against those of the definitions.
+use Rattle.std.specs.Prelude.{◌≡◌, ℕ, ⊤, List, Option, Some, None}
+use Rattle.std.specs.List.{All}
+use Prim.{⊥}
+use Rattle.core_model.specs.Core.{client_at}
+use Rattle.client_model.specs.Past.{Past, runtime_after}
+use Rattle.client_model.specs.Runtime.{Runtime, Opening}
+use Rattle.module_language.specs.ModuleLanguage.{module_language}
+use Rattle.handler_table.specs.Held.{Answers}
+use Rattle.hot_runtime.specs.Standing.{StandsFor, KeepsWords}
+use Rattle.hot_runtime.specs.declared.runtime.HotRuntime.{HotRuntime}
 
--- a plan that begins now
-abbrev pub begun : Offer → PlanKind → Plan
-begun offer kind = record { kind = kind; served_no = offer.served_no; progress = Fetching }
+-- the runtime is that of the definitions: both are of the same opening, and of all that came since
+pub record IsRuntime {F : Type 0} (r : Runtime) (h : HotRuntime F) : Type 0 where
+  pub opening : Opening
+  pub past : Past
+  pub stands : StandsFor opening past h
+  pub is : runtime_after module_language opening past ≡ r
 
--- a client that was just connected: its first plan is under way
-abbrev pub connected : Offer → Client
-connected offer = record { table = None; held_at = None; plan = Some (begun offer Load) }
+-- both are open, with the same runtime; or neither is
+abbrev pub IsOpen : {F : Type 0} → Option Runtime → Option (HotRuntime F) → Type 0
+IsOpen None None = ⊤
+IsOpen None (Some h) = ⊥
+IsOpen (Some r) None = ⊥
+IsOpen (Some r) (Some h) = IsRuntime r h
 
-abbrev pub is_version : Option ℕ → ℕ → Bool
-is_version None v = false
-is_version (Some w) v = w == v
+-- the open clients by number
+abbrev pub Clients : Type 0 → Type 0
+Clients F = List (ℕ × HotRuntime F)
 
--- an aborted plan holds the client until something else is served
-abbrev pub is_held : Offer → Client → Bool
-is_held offer c = is_version c.held_at offer.served_no
+-- the same clients are open
+abbrev pub AreOpen : {F : Type 0} → List (ℕ × Runtime) → Clients F → Type 0
+AreOpen rows clients = (i : ℕ) → IsOpen (client_at rows i) (client_at clients i)
 
--- the version that the client holds isn't the served one
-abbrev pub is_changed : Offer → ℕ → Bool
-is_changed offer v = not (is_version offer.version v)
-
--- it holds the served version, and no plan is under way
-abbrev pub is_up : Offer → Option ℕ → Option Plan → Bool
-is_up offer (Some v) None = not (is_changed offer v)
-is_up offer (Some v) (Some plan) = false
-is_up offer None plan = false
-
--- Ask, by what the client holds: a load, or a reload where that changed
-abbrev pub asked : Offer → Client → Option ℕ → Client × Turned
-asked offer c None = (record c { plan = Some (begun offer Load) }, Quiet)
-asked offer c (Some v) = if is_changed offer v then (record c { plan = Some (begun offer Reload) }, Reloads) else (c, Quiet)
-
--- Fetch, by the served version
-abbrev pub fetched : Offer → Client → Plan → Option ℕ → Client × Turned
-fetched offer c plan (Some v) = (record c { plan = Some (record plan { progress = Staged v }) }, Quiet)
-fetched offer c plan None = if offer.outstanding then (c, Waits) else (record c { plan = Some (record plan { progress = Unserved }) }, Quiet)
-
--- the next request of a plan, by how far it came: Fetch, Applied or Aborted
-abbrev pub planned : Offer → Client → Plan → Progress → Client × Turned
-planned offer c plan Fetching = fetched offer c plan offer.version
-planned offer c plan (Staged v) = (record { table = Some v; held_at = None; plan = None }, Applies plan.kind)
-planned offer c plan Unserved = (record c { held_at = Some plan.served_no; plan = None }, Aborts)
-
--- the client's next request
-abbrev pub turned : Offer → Client → Option Plan → Client × Turned
-turned offer c None = if is_held offer c then (c, Quiet) else asked offer c c.table
-turned offer c (Some plan) = planned offer c plan plan.progress
+-- each handler and each closure of an open client answers what is stated for it
+abbrev pub KeepWords : {F : Type 0} → Answers F → Clients F → Type 0
+KeepWords answers clients = All (λ row. KeepsWords answers row.1) clients

@@ -1,19 +1,33 @@
-//! The world of a page with one module and one client, whose every change is a full reload.
+//! The world: one core, its open clients, and the jobs whose results haven't come; each step of it, with the
+//! lines that the step writes.
 //!
-//! Stands on the vocabulary and on the definitions of sources. Keeps: what it has is what the steps
-//! so far give, and a step that finds no memory changes nothing. Knows nothing of scripts, of the
-//! bytes of lines, or of messages on a wire.
+//! Stands on `server_core`, `hot_runtime` and `message_json`, and on the definitions of the world and their
+//! laws. Keeps: a [`World`] stands for a run, the list of its steps so far, as the relation `StandsFor` says;
+//! so what the laws promise of every run holds of it. In a turn both messages go as the bytes of their JSON.
+//! Knows nothing of scripts or of the text of lines.
 #![tactic(auto)]
 
-mod client;
-mod first_text;
-pub mod laws;
+mod clients;
+mod core_calls;
+mod edits;
+mod exchange;
+mod fires;
+mod fresh;
+mod jobs;
+mod lines;
+mod looks;
+mod names;
+mod opens;
+mod replies;
+mod settles;
+mod shelves;
 mod step;
-#[cfg(test)]
-mod tests;
-mod versions;
+mod stop;
+mod turns;
+mod typed;
+mod wire;
 mod world;
 
-pub use first_text::is_first_text;
 pub use step::Step;
+pub use stop::WorldStop;
 pub use world::World;

@@ -1,221 +1,203 @@
-// The world: the module on the server, the client, and the steps of both. A step first makes room for
-// its lines, and then changes what it changes, so a step that finds no memory has changed nothing.
-ghost use Rattle.std.specs.Prelude.{◌≡◌, ◌<◌, ◌++◌, ◌∷◌, [], IfOk, IsOk, OnErr, OnOk, Some, length, map, vec_capacity, vec_len};
-ghost use Rattle.hmr_world.specs.Moves.{connect, edit, fresh, move_of, settle, show, turn};
-ghost use Rattle.hmr_world.specs.Versions.{job_key};
-ghost use Rattle.hmr_world.specs.Worlds.{IsTaken, client_at, is_caught_up, opening, stepped, turn_lines};
+// The world, and its step.
+ghost use Rattle.std.specs.Prelude.{◌≡◌, ◌↔◌, ◌<◌, ◌≤◌, [], IfOk, IsErrOf, OnOk, false, length, map};
+ghost use Rattle.core_model.specs.Roots.{are_distinct};
+ghost use Rattle.handler_table.specs.Shelf.{marks_of};
+ghost use Rattle.hmr_types.specs.declared.limits.TheConstants.{ROOTS};
+ghost use Rattle.server_core.specs.declared.event.NewFault.TheVariants.{DuplicateRoot, NoRoots, TooManyRoots};
+ghost use Rattle.world_laws.specs.Runs.{Run};
+ghost use Rattle.hmr_world.specs.Promises.{AssignmentsAreOfHandlers, CaughtUpIsFresh, ClientsCatchUp, DataGoesToNoOther, DataGoesToSuccessors, DisposersLeftTheData, DisposersRanFirst, DisposersRanOnce, EvaluatedOnce, EvaluationsAreOfTexts, HandlersEndedByFate, HandlersEndedOnce, HandlersWereRegistered, HeldPruneHandlersRan, InstancesEndedOnce, NothingIsMissing, OthersAreLeftAlone, OthersCanBeLeftOut, PruneHandlersRanOnce, ReloadsAreExact, RootsAreOwn, RunsAreOfHandlers, StaleWhereStopped, UnlinkedIsStale, UnrunIsUnset, ValuesAreFresh, ValuesAreOfEvaluations};
+ghost use Rattle.hmr_world.specs.Shelves.{AreHosts};
+ghost use Rattle.hmr_world.specs.Standing.{IsRunning, IsStepped, KeepsWords, StandsFor, run_on, step_in};
+ghost use Rattle.hmr_world.specs.Steps.{HasFormat, step_of};
+ghost use Rattle.hmr_world.specs.Stops.{AreLines};
 
-use crate::client::{CLIENT, Client, Turned};
+use crate::clients::Row;
+use crate::jobs::Jobs;
+use crate::shelves::discard;
 use crate::step::Step;
-use crate::versions::ModuleVersions;
-use hmr_types::{ClientId, ModName, ReloadCause, Sequence, Ver};
-use output_lines::{AbortWord, ClientState, OutLine};
+use crate::stop::WorldStop;
+use const_eval::Ran;
+use handler_table::Shelf;
+use hmr_types::ModName;
+use journal_laws::headline::headline;
+use journal_laws::lives::{
+    clients_are_isolated, others_can_be_left_out, unlinked_imports_are_at_stale_edges,
+    what_happens_to_instances,
+};
+use output_lines::OutLine;
+use retained_data::Bag;
+use server_core::{Core, NewFault};
 use std::alloc::{AllocError, Global};
-use std::marker::Model;
 
-/// The world of one module and one client, which contracts see as the definitions do: what was
-/// edited and settled, the issued jobs, and the client.
-#[derive(Drop)]
-pub struct World {
-    alloc: Global,
-    versions: ModuleVersions,
-    client: Option<Client>,
+/// The world. That it stands for a run, the list of its steps so far, is the relation `StandsFor`. It may
+/// be given up at any moment; then every handler and closure in it is discarded.
+pub struct World<F> {
+    pub(crate) alloc: Global,
+    pub(crate) core: Core,
+    pub(crate) clients: Vec<Row<F>>,
+    pub(crate) jobs: Jobs,
+    pub(crate) shelves: Vec<Shelf<F>>,
 }
 
-impl Model for World {
-    ghost use Rattle.hmr_world.specs.Worlds.{State};
-
-    ghost Value = { State };
-
-    ghost view = { λ w. record { versions = w.versions; client = w.client } };
-}
-
-impl World {
-    /// The world of a page whose one root is this module, before the first step. It takes no memory.
-    pub fn new(alloc: Global, root: ModName) -> Result<World, AllocError>
-        ensures always { IsOk result }
-        ensures opening { IfOk result (λ world. world ≡ opening root) }
+impl<F: FnOnce(Bag) -> Result<Ran, AllocError> + Drop> World<F> {
+    /// The world of a server's page with these roots, before the first step. The client that gets number c
+    /// gets the c-th shelf, or an empty one. [`NewFault::NoRoots`] comes exactly where there are no roots,
+    /// [`NewFault::TooManyRoots`] where there are more than 16, and [`NewFault::DuplicateRoot`] where there
+    /// are fewer and two are equal. It takes no memory.
+    pub fn new(
+        alloc: Global,
+        roots: Vec<ModName>,
+        shelves: Vec<Shelf<F>>,
+    ) -> Result<World<F>, NewFault>
+        requires hosts { AreHosts F.post shelves.items }
+        ensures stands { IfOk result (StandsFor
+            (record { roots = roots.items; shelves = map marks_of shelves.items; steps = [] })) }
+        ensures running { IfOk result IsRunning }
+        ensures words { IfOk result (KeepsWords F.post) }
+        ensures none { IsErrOf result NoRoots ↔ (roots.items ≡ []) }
+        ensures many { IsErrOf result TooManyRoots ↔ (ROOTS < length roots.items) }
+        ensures twice { IsErrOf result DuplicateRoot ↔
+            (length roots.items ≤ ROOTS) × (are_distinct roots.items ≡ false) }
     {
-        Ok(World {
-            alloc,
-            versions: ModuleVersions::new(alloc, root),
-            client: None,
-        })
+        match Core::new(alloc, roots) {
+            Ok(core) => Ok(World {
+                alloc,
+                core,
+                clients: Vec::new(alloc),
+                jobs: Jobs::new(alloc),
+                shelves,
+            }),
+            Err(fault) => {
+                discard(shelves);
+                Err(fault)
+            }
+        }
     }
 
-    /// The name of the page's module, which each Edit is of.
-    pub fn root(&self) -> &ModName
-        ensures { result.now ≡ self.now.versions.root }
-    {
-        self.versions.root()
-    }
-
-    /// Makes one step, and gives its lines. An Edit is of the root, with a text that
-    /// [`is_first_text`](crate::is_first_text) allows. After an error nothing has changed.
+    /// Makes one step, and gives its lines. [`WorldStop::InstancesFull`] comes where a client would make
+    /// more than 20,000 instances, unless memory ran out before; [`WorldStop::NoMemory`] may come in place
+    /// of any answer. Both end the run: no further step is made. What a client and the core say to one
+    /// another is always an answer to the request that stands.
     ///
-    /// A step takes time in proportion to the text that it has or settles, and to the number of
-    /// jobs.
-    pub fn step(&mut self, step: Step) -> Result<Vec<OutLine>, AllocError>
-        requires { IsTaken self.old (move_of step) }
-        ensures state { OnOk result (self.new ≡ (stepped self.old (move_of step)).0) }
-        ensures lines { IfOk result (λ lines. lines.items ≡ (stepped self.old (move_of step)).1) }
-        ensures unchanged { OnErr result (self.new ≡ self.old) }
+    /// Beside what the core and the client take, a step takes time in the logarithm of the jobs, in the
+    /// number of clients, of which there are at most 32, and in its text and its lines.
+    pub fn step(&mut self, step: Step) -> Result<Vec<OutLine>, WorldStop>
+        requires format { HasFormat step }
+        requires callable { (f : F) → F.IsAlwaysCallable f }
+        requires words { KeepsWords F.post self.old }
+        requires running { IsRunning self.old }
+        ensures stands { (run : Run) → StandsFor run self.old
+            → OnOk result (StandsFor (run_on run (step_of step)) self.new) }
+        ensures lines { (run : Run) → StandsFor run self.old
+            → AreLines (step_in run (step_of step)).lines result }
+        ensures running { OnOk result (IsRunning self.new) }
+        ensures words { KeepsWords F.post self.new }
+        ensures roots { self.new.core.roots ≡ self.old.core.roots }
+        ensures fresh_load { (run : Run) → StandsFor run self.old
+            → OnOk result (CaughtUpIsFresh (run_on run (step_of step))) }
+        ensures nothing_missing { (run : Run) → StandsFor run self.old
+            → OnOk result (NothingIsMissing (run_on run (step_of step))) }
+        ensures unlinked_is_stale { (run : Run) → StandsFor run self.old
+            → OnOk result (UnlinkedIsStale (run_on run (step_of step))) }
+        ensures own_roots { (run : Run) → StandsFor run self.old
+            → OnOk result (RootsAreOwn (run_on run (step_of step))) }
+        ensures stale_edges { (run : Run) → StandsFor run self.old
+            → OnOk result (StaleWhereStopped (run_on run (step_of step))) }
+        ensures disposers { (run : Run) → StandsFor run self.old
+            → OnOk result (DisposersRanOnce (run_on run (step_of step))) }
+        ensures prune_handlers { (run : Run) → StandsFor run self.old
+            → OnOk result (PruneHandlersRanOnce (run_on run (step_of step))) }
+        ensures held_prune_handlers { (run : Run) → StandsFor run self.old
+            → OnOk result (HeldPruneHandlersRan (run_on run (step_of step))) }
+        ensures disposers_first { (run : Run) → StandsFor run self.old
+            → OnOk result (DisposersRanFirst (run_on run (step_of step))) }
+        ensures data_to_successors { (run : Run) → StandsFor run self.old
+            → OnOk result (DataGoesToSuccessors (run_on run (step_of step))) }
+        ensures data_of_disposers { (run : Run) → StandsFor run self.old
+            → OnOk result (DisposersLeftTheData (run_on run (step_of step))) }
+        ensures data_to_no_other { (run : Run) → StandsFor run self.old
+            → OnOk result (DataGoesToNoOther (run_on run (step_of step))) }
+        ensures fates { (run : Run) → StandsFor run self.old
+            → OnOk result (HandlersEndedByFate (run_on run (step_of step))) }
+        ensures fates_once { (run : Run) → StandsFor run self.old
+            → OnOk result (HandlersEndedOnce (run_on run (step_of step))) }
+        ensures registered { (run : Run) → StandsFor run self.old
+            → OnOk result (HandlersWereRegistered (run_on run (step_of step))) }
+        ensures runs { (run : Run) → StandsFor run self.old
+            → OnOk result (RunsAreOfHandlers (run_on run (step_of step))) }
+        ensures ended_once { (run : Run) → StandsFor run self.old
+            → OnOk result (InstancesEndedOnce (run_on run (step_of step))) }
+        ensures values { (run : Run) → StandsFor run self.old
+            → OnOk result (ValuesAreOfEvaluations (run_on run (step_of step))) }
+        ensures evaluations { (run : Run) → StandsFor run self.old
+            → OnOk result (EvaluationsAreOfTexts (run_on run (step_of step))) }
+        ensures unrun { (run : Run) → StandsFor run self.old
+            → OnOk result (UnrunIsUnset (run_on run (step_of step))) }
+        ensures evaluated_once { (run : Run) → StandsFor run self.old
+            → OnOk result (EvaluatedOnce (run_on run (step_of step))) }
+        ensures assignments { (run : Run) → StandsFor run self.old
+            → OnOk result (AssignmentsAreOfHandlers (run_on run (step_of step))) }
+        ensures fresh_values { (run : Run) → StandsFor run self.old
+            → OnOk result (ValuesAreFresh (run_on run (step_of step))) }
+        ensures full_reloads { (run : Run) → StandsFor run self.old
+            → OnOk result (ReloadsAreExact (run_on run (step_of step))) }
+        ensures catching_up { (run : Run) → StandsFor run self.old
+            → OnOk result (ClientsCatchUp (run_on run (step_of step))) }
+        ensures isolation { (run : Run) → StandsFor run self.old
+            → OnOk result (OthersAreLeftAlone run (step_of step)) }
+        ensures left_out { (run : Run) → StandsFor run self.old
+            → OnOk result (OthersCanBeLeftOut (run_on run (step_of step))) }
+    {
+        headline();
+        unlinked_imports_are_at_stale_edges();
+        what_happens_to_instances();
+        clients_are_isolated();
+        others_can_be_left_out();
+        self.made(step)
+    }
+
+    // The step by its kind.
+    fn made(&mut self, step: Step) -> Result<Vec<OutLine>, WorldStop>
+        requires format { HasFormat step }
+        requires callable { (f : F) → F.IsAlwaysCallable f }
+        requires words { KeepsWords F.post self.old }
+        requires running { IsRunning self.old }
+        ensures step { (run : Run) → StandsFor run self.old → IsStepped run (step_of step) self.new result }
+        ensures words { KeepsWords F.post self.new }
+        ensures roots { self.new.core.roots ≡ self.old.core.roots }
     {
         match step {
-            Step::Edit(name, text) => match text {
-                Some(text) => self.edit(name, text),
-                None => unreachable!(),
-            },
+            Step::Edit(name, text) => self.edit(name, text),
             Step::Settle(name, version) => self.settle(name, version),
-            Step::Open => self.open(),
+            Step::Open(format, roots) => self.open(format, roots),
             Step::Turn(client) => self.turn(client),
+            Step::Close(client) => self.close(client),
             Step::Show(client) => self.show(client),
-            Step::Fresh => self.versions.fresh(self.alloc),
+            Step::Values(client) => self.values(client),
+            Step::Fates(client) => self.fates(client),
+            Step::Fresh => self.fresh(),
+            Step::FreshOf(client) => self.fresh_of(client),
         }
-    }
-
-    /// Whether the client of that number is loaded, has no plan under way, and runs the served
-    /// version; false for a number that isn't open. It takes no memory.
-    pub fn caught_up(&self, client: ClientId) -> bool
-        ensures { result ≡ is_caught_up self.now client }
-    {
-        match self.client_at(client) {
-            None => false,
-            Some(own) => own.is_up(self.versions.offer()),
-        }
-    }
-
-    /// The names and versions of the issued jobs whose results haven't come, by rising version.
-    pub fn jobs(&self) -> Result<Vec<(ModName, Ver)>, AllocError>
-        ensures { IfOk result (λ jobs. jobs.items ≡ map job_key self.now.versions.jobs) }
-    {
-        self.versions.jobs(self.alloc)
-    }
-
-    fn client_at(&self, client: ClientId) -> Option<Client>
-        ensures { result ≡ client_at self.now client }
-    {
-        if client == CLIENT { self.client } else { None }
-    }
-
-    fn edit(&mut self, name: ModName, text: Vec<u8>) -> Result<Vec<OutLine>, AllocError>
-        requires { name ≡ self.old.versions.root }
-        ensures state { OnOk result (self.new ≡ (stepped self.old (edit name (Some text.items))).0) }
-        ensures lines { IfOk result (λ lines. lines.items ≡ (stepped self.old (edit name (Some text.items))).1) }
-        ensures unchanged { OnErr result (self.new ≡ self.old) }
-    {
-        let mut lines = Vec::with_capacity(self.alloc, 1)?;
-        let outcome = self.versions.edit(self.alloc, text)?;
-        put(&mut lines, OutLine::Edit { name, outcome });
-        Ok(lines)
-    }
-
-    fn settle(&mut self, name: ModName, version: Ver) -> Result<Vec<OutLine>, AllocError>
-        ensures state { OnOk result (self.new ≡ (stepped self.old (settle name version)).0) }
-        ensures lines { IfOk result (λ lines. lines.items ≡ (stepped self.old (settle name version)).1) }
-        ensures unchanged { OnErr result (self.new ≡ self.old) }
-    {
-        let mut lines = Vec::with_capacity(self.alloc, 1)?;
-        let outcome = self.versions.settle(&name, version);
-        put(
-            &mut lines,
-            OutLine::Settle {
-                name,
-                version,
-                outcome,
-            },
-        );
-        Ok(lines)
-    }
-
-    fn open(&mut self) -> Result<Vec<OutLine>, AllocError>
-        ensures state { OnOk result (self.new ≡ (stepped self.old connect).0) }
-        ensures lines { IfOk result (λ lines. lines.items ≡ (stepped self.old connect).1) }
-        ensures unchanged { OnErr result (self.new ≡ self.old) }
-    {
-        if self.client.is_some() {
-            return one_line(self.alloc, OutLine::OpenRefused);
-        }
-        let lines = one_line(self.alloc, OutLine::Open { client: CLIENT })?;
-        self.client = Some(Client::connected(self.versions.offer()));
-        Ok(lines)
-    }
-
-    fn turn(&mut self, client: ClientId) -> Result<Vec<OutLine>, AllocError>
-        ensures state { OnOk result (self.new ≡ (stepped self.old (turn client)).0) }
-        ensures lines { IfOk result (λ lines. lines.items ≡ (stepped self.old (turn client)).1) }
-        ensures unchanged { OnErr result (self.new ≡ self.old) }
-    {
-        let Some(own) = self.client_at(client) else {
-            return one_line(self.alloc, OutLine::Unknown { client });
-        };
-        let (own, turned) = own.turned(self.versions.offer());
-        let lines = turn_lines(self.alloc, self.versions.root(), client, turned)?;
-        self.client = Some(own);
-        Ok(lines)
-    }
-
-    fn show(&self, client: ClientId) -> Result<Vec<OutLine>, AllocError>
-        ensures lines { IfOk result (λ lines. lines.items ≡ (stepped self.now (show client)).1) }
-    {
-        let Some(own) = self.client_at(client) else {
-            return one_line(self.alloc, OutLine::Unknown { client });
-        };
-        let state = if own.is_up(self.versions.offer()) {
-            ClientState::Up
-        } else {
-            ClientState::Behind
-        };
-        let mut lines = one_line(self.alloc, OutLine::Client { client, state })?;
-        if let Some(version) = own.table {
-            let name = self.versions.root().clone()?;
-            lines.push(OutLine::Module { name, version })?;
-        }
-        Ok(lines)
     }
 }
 
-// What the client says of a turn.
-fn turn_lines(
-    alloc: Global,
-    root: &ModName,
-    client: ClientId,
-    turned: Turned,
-) -> Result<Vec<OutLine>, AllocError>
-    ensures { IfOk result (λ lines. lines.items ≡ turn_lines root.now client turned) }
-{
-    let line = match turned {
-        Turned::Quiet => return Ok(Vec::new(alloc)),
-        Turned::Waits => OutLine::Wait {
-            client,
-            name: root.clone()?,
-        },
-        Turned::Reloads => OutLine::Reload {
-            client,
-            cause: ReloadCause::Root,
-            path: Sequence::from_vec(vec![in alloc; root.clone()?]?),
-        },
-        Turned::Aborts => OutLine::Aborted {
-            client,
-            outcome: AbortWord::Missing(root.clone()?),
-        },
-        Turned::Applies(plan) => OutLine::Applied { client, plan },
-    };
-    one_line(alloc, line)
+impl<F: Drop> World<F> {
+    /// Gives the world up with all its clients, and discards the handlers and closures that are left. It
+    /// takes no memory.
+    pub fn end(self) {
+        drop(self);
+    }
 }
 
-fn one_line(alloc: Global, line: OutLine) -> Result<Vec<OutLine>, AllocError>
-    ensures { IfOk result (λ lines. lines.items ≡ line ∷ []) }
-{
-    let mut lines = Vec::with_capacity(alloc, 1)?;
-    put(&mut lines, line);
-    Ok(lines)
-}
-
-// Puts a line where there is room.
-fn put(lines: &mut Vec<OutLine>, line: OutLine)
-    requires { vec_len lines.old < vec_capacity lines.old }
-    ensures { lines.new.items ≡ lines.old.items ++ line ∷ [] }
-{
-    let _ = lines.push(line);
+impl<F: Drop> Drop for World<F> {
+    fn drop(self) {
+        let World {
+            alloc: _,
+            core: _,
+            clients: _,
+            jobs: _,
+            shelves,
+        } = self;
+        discard(shelves);
+    }
 }

@@ -1,0 +1,71 @@
+-- One event of a core that has what the definitions' core has.
+use Rattle.std.proofs.Common.{◌≡◌, ℕ, List, ◌∷◌, refl, sym, ap, ◌∙◌}
+use Rattle.std.specs.Prelude.{Result, Ok, Err, IfOk, OnOk, Some}
+use Rattle.std.specs.declared.alloc.AllocError.{AllocError}
+use Rattle.core_model.specs.Core as model
+use Rattle.core_model.specs.Core.{core_after, step}
+use Rattle.core_model.specs.Requests as requests
+use Rattle.core_model.specs.Sources.{EditAnswer, job, same, removed, refused, ResultAnswer, serve, refuse, late}
+use Rattle.output_lines.specs.declared.out_line.OutLine.TheVariants as line
+use Rattle.core_model.specs.Names.{Name}
+use Rattle.world_model.specs.Editing.{settle_line}
+use Rattle.server_core.specs.declared.event.Reply.{Reply}
+use Rattle.server_core.specs.Kept.{Kept, StandsFor}
+use Rattle.server_core.specs.Said.{said, IsWritten}
+use Rattle.version_map.specs.Standing.{settled_as}
+use Rattle.hmr_world.specs.Cores.{IsCore}
+use Rattle.hmr_world.specs.Replies.{answer_in, settled_word, word_in, message_in}
+use Rattle.core_model.specs.Exchange.{message_of}
+
+pub told_stands : (old new : Kept) (event : model.Event) (result : Result Reply AllocError)
+    → new.roots ≡ old.roots
+    → ((past : List model.Event) → StandsFor past old → OnOk result (StandsFor (event ∷ past) new))
+    → (c : model.Core) → IsCore c old → OnOk result (IsCore (step old.roots c event).0 new)
+told_stands old new event (Ok reply) alike f c h = record {
+  past = event ∷ h.past;
+  stands = f h.past h.stands;
+  is = ap (λ roots. core_after roots (event ∷ h.past)) alike ∙ ap (λ x. (step old.roots x event).0) h.is;
+}
+told_stands old new event (Err e) alike f c h = tt
+
+pub told_reply : (old : Kept) (event : model.Event) (result : Result Reply AllocError)
+    → ((past : List model.Event) → StandsFor past old
+    → IfOk result (λ reply. said (step old.roots (core_after old.roots past) event).1 ≡ reply))
+    → (c : model.Core) → IsCore c old → IfOk result (λ reply. said (step old.roots c event).1 ≡ reply)
+told_reply old event (Ok reply) f c h =
+    ap (λ x. said (step old.roots x event).1) (sym h.is) ∙ f h.past h.stands
+told_reply old event (Err e) f c h = tt
+
+pub told_written : (old : Kept) (result : Result Reply AllocError)
+    → ((past : List model.Event) → StandsFor past old → IfOk result IsWritten) → (c : model.Core)
+    → IsCore c old → IfOk result IsWritten
+told_written old (Ok reply) f c h = f h.past h.stands
+told_written old (Err e) f c h = tt
+
+-- What a reply says.
+
+pub answer_said : (answer : EditAnswer) → answer_in (said (requests.edited answer)) ≡ Some answer
+answer_said (job v) = refl
+answer_said same = refl
+answer_said (removed v) = refl
+answer_said (refused word) = refl
+
+pub word_said : (answer : ResultAnswer)
+    → word_in (said (requests.settled answer)) ≡ Some (settled_word (settled_as answer))
+word_said answer = refl
+
+pub settle_line_is : (n : Name) (v : ℕ) (answer : ResultAnswer)
+    → settle_line n v answer ≡ line.Settle n v (settled_word (settled_as answer))
+settle_line_is n v (serve a) = refl
+settle_line_is n v (refuse fault) = refl
+settle_line_is n v late = refl
+
+pub message_said : (reply : requests.Reply) → message_in (said reply) ≡ message_of reply
+message_said (requests.edited (job v)) = refl
+message_said (requests.edited same) = refl
+message_said (requests.edited (removed v)) = refl
+message_said (requests.edited (refused word)) = refl
+message_said (requests.settled answer) = refl
+message_said (requests.to_client m) = refl
+message_said (requests.refused refusal) = refl
+message_said requests.gone = refl

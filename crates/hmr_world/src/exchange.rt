@@ -1,0 +1,85 @@
+// A client's message as an event of the core, and the core's reply as a message to the client.
+ghost use Rattle.std.specs.Prelude.{◌≡◌, None};
+ghost use Rattle.core_model.specs.Exchange as model;
+ghost use Rattle.core_model.specs.Exchange.{refusal_message};
+ghost use Rattle.update_msgs.specs.declared.message.ServerMsg.TheVariants.{Refused};
+ghost use Rattle.server_core.specs.Said.{event_of};
+ghost use Rattle.hmr_world.specs.Replies.{message_in};
+
+use core_model::Refusal;
+use hmr_types::ClientId;
+use server_core::{Event, Reply};
+use update_msgs::{ClientMsg, ServerMsg};
+
+/// The event that a message of this client is.
+pub(crate) fn event_of(client: ClientId, msg: ClientMsg) -> Event
+    ensures { event_of result ≡ model.event_of client msg }
+{
+    match msg {
+        ClientMsg::Hello { format: _, roots } => Event::Connect(roots.into_vec()),
+        ClientMsg::Ask => Event::Ask(client),
+        ClientMsg::Fetch { path } => Event::Fetch(client, path),
+        ClientMsg::Applied { table } => Event::Applied(client, table),
+        ClientMsg::Aborted {
+            cause: _,
+            path: _,
+            from: _,
+            name: _,
+        } => Event::Aborted(client),
+        ClientMsg::Invalidate {
+            path,
+            version,
+            message: _,
+        } => Event::Invalidate(client, path, version),
+        ClientMsg::Bye => Event::Disconnect(client),
+    }
+}
+
+/// The message that a reply is; the replies to edits and results are no client's.
+pub(crate) fn message_in(reply: Reply) -> Option<ServerMsg>
+    ensures { result ≡ message_in reply }
+{
+    match reply {
+        Reply::Edited(_) | Reply::EditRefused(_) | Reply::Settled(_) => None,
+        Reply::To(msg) => Some(msg),
+        Reply::Refused(refusal) => Some(refusal_message(refusal)),
+        Reply::Gone => Some(ServerMsg::Done),
+    }
+}
+
+// A refusal by its number, with what it names.
+fn refusal_message(refusal: Refusal) -> ServerMsg
+    ensures { result ≡ refusal_message refusal }
+{
+    match refusal {
+        Refusal::UnknownClient => numbered(1),
+        Refusal::TooManyClients => numbered(2),
+        Refusal::OutOfTurn => numbered(3),
+        Refusal::Mismatch { name, told, kept } => ServerMsg::Refused {
+            code: 4,
+            path: Some(name),
+            told: Some(told),
+            kept: Some(kept),
+        },
+        Refusal::Unfetched(name) => ServerMsg::Refused {
+            code: 5,
+            path: Some(name),
+            told: None,
+            kept: None,
+        },
+        Refusal::Ignored => numbered(6),
+        Refusal::BadRoots => numbered(7),
+    }
+}
+
+// A refusal that names nothing.
+fn numbered(code: u8) -> ServerMsg
+    ensures { result ≡ Refused code None None None }
+{
+    ServerMsg::Refused {
+        code,
+        path: None,
+        told: None,
+        kept: None,
+    }
+}
