@@ -1,0 +1,4 @@
+pub mod Begun
+pub mod Ends
+pub mod Runs
+pub mod Spawners

@@ -1,0 +1,4 @@
+pub mod Halves
+pub mod Lefts
+pub mod Moves
+pub mod Turns

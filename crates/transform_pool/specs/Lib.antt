@@ -1,0 +1,10 @@
+pub mod Boards
+pub mod Items
+pub mod Left
+pub mod MemBoards
+pub mod Passes
+pub mod Results
+pub mod Roles
+pub mod Rule
+pub mod Tasks
+pub mod Working
