@@ -1,0 +1,103 @@
+// The check of a text: its limit first, then its tokens, its grammar and its names, then its specifiers
+// and imports.
+ghost use Rattle.std.specs.Prelude.{◌≡◌, ◌≤◌, IfOk, length};
+ghost use Rattle.hmr_types.specs.declared.limits.TheConstants.{TEXT_BYTES};
+ghost use Rattle.module_tree.specs.Tree.{module_of};
+ghost use Rattle.import_scan.specs.Analysing.{told_word};
+ghost use Rattle.text_check.specs.Checking.{checked, limit_line, report, tree_report};
+
+use crate::report::{analysis_report, fault_report};
+use hmr_types::limits::TEXT_BYTES;
+use hmr_types::{FaultWord, ModName, SpecFault, TextFault};
+use hot_parser::parse;
+use import_scan::{ScanFault, analyse};
+use module_tree::Module;
+use std::alloc::{AllocError, Global};
+
+/// What a check answers.
+#[derive(Debug, Drop)]
+pub struct Checked {
+    /// The exit status: 0, or 8 for a text over the limit.
+    pub status: u8,
+    /// The bytes of the report.
+    pub report: Vec<u8>,
+}
+
+/// The check of a text as that of the module `name`.
+///
+/// A text of more than 131,072 bytes is over the limit: the report is the limit's line, and the status is
+/// 8. Else the status is 0. The report of a module is its canonical text, and behind it a line each for
+/// the modules that it imports, the names that it exports, that it accepts itself, the imported modules
+/// that it accepts, and that it declines, of these lines those that have something to tell; the report of
+/// another text is the line of its first fault. The one error is want of memory. The time is linear in the
+/// text, but for the look-up of names.
+pub fn check_text(alloc: Global, name: &ModName, text: &[u8]) -> Result<Checked, AllocError>
+    ensures status { IfOk result (λ c. c.status ≡ (checked name.now text.now).status) }
+    ensures report { IfOk result (λ c. c.report.items ≡ (checked name.now text.now).report) }
+{
+    if text.len() > TEXT_BYTES {
+        return Ok(Checked {
+            status: 8,
+            report: Vec::from_slice(alloc, limit_line().as_bytes())?,
+        });
+    }
+    Ok(Checked {
+        status: 0,
+        report: report(alloc, name, text)?,
+    })
+}
+
+/// The line for a text of more than 131,072 bytes, with its LF.
+pub fn limit_line() -> &'static str
+    ensures { result.now ≡ limit_line }
+{
+    "limit text 131072\n"
+}
+
+fn report(alloc: Global, name: &ModName, text: &[u8]) -> Result<Vec<u8>, AllocError>
+    requires short { length text.now ≤ TEXT_BYTES }
+    ensures { IfOk result (λ bytes. bytes.items ≡ report name.now text.now) }
+{
+    match parse(alloc, text) {
+        Ok(tree) => tree_report(alloc, name, &tree),
+        Err(fault) => match fault.text_fault() {
+            Some(fault) => fault_report(alloc, fault),
+            None => Err(AllocError),
+        },
+    }
+}
+
+/// The report of what a text reads as. A fault of specifiers and imports has no place.
+fn tree_report(alloc: Global, name: &ModName, tree: &Module) -> Result<Vec<u8>, AllocError>
+    ensures { IfOk result (λ bytes. bytes.items ≡ tree_report name.now (module_of tree.now)) }
+{
+    match analyse(alloc, name, tree) {
+        Ok(analysis) => analysis_report(alloc, tree, &analysis),
+        Err(fault) => match told_word(fault) {
+            Some(word) => fault_report(
+                alloc,
+                TextFault {
+                    line: 0,
+                    col: 0,
+                    word,
+                },
+            ),
+            None => Err(AllocError),
+        },
+    }
+}
+
+/// The word of a refusal, None for want of memory.
+fn told_word(fault: ScanFault) -> Option<FaultWord>
+    ensures { result ≡ told_word fault }
+{
+    match fault {
+        ScanFault::Spec(SpecFault::Bare) => Some(FaultWord::SpecifierBare),
+        ScanFault::Spec(SpecFault::Climbs) => Some(FaultWord::SpecifierClimbs),
+        ScanFault::Spec(SpecFault::Empty) => Some(FaultWord::SpecifierEmpty),
+        ScanFault::Spec(SpecFault::TooLong) => Some(FaultWord::SpecifierTooLong),
+        ScanFault::Spec(SpecFault::BadSegment) => Some(FaultWord::SpecifierBadSegment),
+        ScanFault::TooManyImports => Some(FaultWord::TooManyImports),
+        ScanFault::Spec(SpecFault::NoMemory) | ScanFault::NoMemory => None,
+    }
+}
