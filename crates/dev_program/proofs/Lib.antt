@@ -1,6 +1,8 @@
-pub mod Digits
-pub mod Commands
-pub mod Writing
 pub mod Playing
-pub mod Lines
+pub mod Writing
+pub mod Stepping
+pub mod Commanding
+pub mod Answering
+pub mod Roots
+pub mod Ending
 pub mod Headline

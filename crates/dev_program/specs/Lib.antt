@@ -1,5 +1,7 @@
-pub mod FirstScript
 pub mod Playing
-pub mod Writing
 pub mod Outputs
+pub mod Commands
+pub mod Standing
+pub mod Writing
+pub mod Ends
 pub mod Headline

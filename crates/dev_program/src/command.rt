@@ -1,66 +1,55 @@
-// The commands of a first script.
-ghost use Rattle.std.specs.Prelude.{◌≡◌, IfSome, is_some};
+// What a line of a script makes the program do.
+ghost use Rattle.std.specs.Prelude.{◌≡◌, IfSome, Some};
+ghost use Rattle.std.specs.Option.{option_map};
+ghost use Rattle.hmr_world.specs.Steps.{HasFormat, step_of};
+ghost use Rattle.play_script.specs.Asked as asked;
+ghost use Rattle.world_model.specs.Playing as model;
+ghost use Rattle.dev_program.specs.Commands.{FitsFormat, command_seen};
+ghost use Rattle.dev_program.specs.Playing.{command_of};
 
-use hmr_world::is_first_text;
-use std::marker::Model;
+use hmr_types::ClientId;
+use hmr_world::Step;
+use play_script::ScriptLine;
 
-/// The text that an edit of a first script gives: `export const N = K;` and LF.
-#[derive(Drop)]
-pub struct FirstText {
-    bytes: Vec<u8>,
-}
-
-impl Model for FirstText {
-    ghost use Rattle.std.specs.Prelude.{◌≡◌, ℕ, List, true};
-    ghost use Rattle.hmr_world.specs.FirstText.{is_first_text};
-
-    ghost Value = { List ℕ };
-
-    ghost view = { λ t. t.bytes.items };
-
-    ghost invariant = { λ t. is_first_text t.bytes.items ≡ true };
-}
-
-impl FirstText {
-    ghost use Rattle.hmr_world.specs.FirstText.{is_first_text};
-    ghost use Rattle.std.specs.Prelude.{true};
-
-    /// The text of these bytes, where they have its form. It takes no memory.
-    pub fn new(bytes: Vec<u8>) -> Option<Self>
-        ensures bytes { IfSome result (λ text. text ≡ bytes.items) }
-        ensures exactly { is_some result ≡ is_first_text bytes.items }
-    {
-        if is_first_text(&bytes) {
-            Some(FirstText { bytes })
-        } else {
-            None
-        }
-    }
-
-    /// The bytes. It takes no memory.
-    pub fn into_bytes(self) -> Vec<u8>
-        ensures bytes { result.items ≡ self }
-        ensures form { is_first_text result.items ≡ true }
-    {
-        self.bytes
-    }
-}
-
-/// One command of a script of a page with one module and one client.
+/// What a line of a script makes the program do.
 #[derive(Drop)]
 pub enum Command {
-    /// Gives the module this text.
-    Edit(FirstText),
+    /// One step.
+    Step(Step),
     /// Settles all issued jobs whose result hasn't come yet, by rising version.
     SettleAll,
-    /// Connects the client.
-    Open,
-    /// One request of the client.
-    Turn,
-    /// Turns until the client is caught up, but at most this many.
-    Turns(u32),
-    /// Writes whether the client is caught up, and its table.
-    Show,
-    /// Writes what a page would load anew.
-    Fresh,
+    /// Turns of a client until it is caught up, but at most so many.
+    Turns(ClientId, u32),
+}
+
+/// The command of a line; None for `quiet`. It takes no memory.
+pub fn command_of(line: ScriptLine) -> Option<Command>
+    requires { asked.HasFormat line }
+    ensures command { option_map command_seen result ≡ command_of line }
+    ensures format { IfSome result FitsFormat }
+{
+    match line {
+        ScriptLine::Quiet => None,
+        ScriptLine::Edit(name, text) => step(Step::Edit(name, Some(text.into_vec()))),
+        ScriptLine::Remove(name) => step(Step::Edit(name, None)),
+        ScriptLine::SettleAll => Some(Command::SettleAll),
+        ScriptLine::Settle(name, version) => step(Step::Settle(name, version)),
+        ScriptLine::Open(format, roots) => step(Step::Open(format, roots.into_vec())),
+        ScriptLine::Close(client) => step(Step::Close(client)),
+        ScriptLine::Turn(client) => step(Step::Turn(client)),
+        ScriptLine::Turns(client, most) => Some(Command::Turns(client, most)),
+        ScriptLine::Show(client) => step(Step::Show(client)),
+        ScriptLine::Values(client) => step(Step::Values(client)),
+        ScriptLine::Fates(client) => step(Step::Fates(client)),
+        ScriptLine::Fresh => step(Step::Fresh),
+        ScriptLine::FreshOf(client) => step(Step::FreshOf(client)),
+    }
+}
+
+fn step(step: Step) -> Option<Command>
+    requires { HasFormat step }
+    ensures command { option_map command_seen result ≡ Some (model.step (step_of step)) }
+    ensures format { IfSome result FitsFormat }
+{
+    Some(Command::Step(step))
 }

@@ -1,20 +1,26 @@
 //! The program: words and an input to a status, over whatever outside it is given.
 //!
-//! `hmr play` reads a script, runs it, and writes the lines of each step as the step is made. Stands on
+//! `hmr play` reads a script, plays it, and writes the lines of each step as the step is made. Stands on
 //! every other crate. Keeps: what is written is a front of the definition's text of the bytes read,
-//! and the whole of it at status 0. It alone makes the real input and output.
+//! and the whole of it at status 0. It alone makes the real input and output, and the closures that stand
+//! for an embedding program.
 #![tactic(auto)]
 
 mod command;
-mod first_script;
 mod play;
-mod script_line;
+mod script;
+mod shelves;
+mod showing;
 mod stop;
 #[cfg(test)]
 mod tests;
 mod top;
 
+use const_eval::Ran;
+use handler_table::host_run;
 use hmr_base::{StdSink, StdSource};
+use retained_data::Bag;
+use std::alloc::AllocError;
 use std::env;
 use std::io::ErrorKind;
 use std::process::ExitCode;
@@ -37,8 +43,14 @@ fn main(rt: HostRuntime) -> ExitCode {
         // A word that isn't UTF-8 makes no command, as no word at all makes none.
         Err(_) => {}
     }
+    let make = |number: u32| {
+        move |bag: Bag| -> Result<Ran, AllocError> { host_run(alloc, "H", number, bag) }
+    };
+    let Ok(shelves) = shelves::host_shelves(alloc, make) else {
+        return ExitCode::from(NO_MEMORY);
+    };
     let mut input = StdSource::new(rt.stdin());
     let mut out = StdSink::new(rt.stdout());
-    let status = top::run(alloc, &words, &mut input, &mut out);
+    let status = top::run(alloc, &words, &mut input, &mut out, shelves);
     ExitCode::from(status)
 }

@@ -1,168 +1,231 @@
-// Plays a script: runs its commands on a world, and writes the lines of each step as it is made.
-ghost use Rattle.std.specs.Prelude.{◌≡◌, ◌≤◌, List, map, IfOk, OnOk, IsErrOf};
-ghost use Rattle.std.specs.Io.KnownBytes.{Appends};
-ghost use Rattle.hmr_base.specs.Causes.{Rose};
-ghost use Rattle.hmr_base.specs.Fronts.{WritesFront};
-ghost use Rattle.play_text.specs.Lines.{line_text};
-ghost use Rattle.hmr_world.specs.Moves.{move_of};
-ghost use Rattle.hmr_world.specs.Versions.{job_key};
-ghost use Rattle.hmr_world.specs.Worlds.{IsTaken, opening, stepped};
-ghost use Rattle.dev_program.specs.Writing.{StopsWriting};
-ghost use Rattle.dev_program.specs.Playing.{commanded, lines_text, play_lines, played, settled_all, turns};
+// Plays the commands of a script on a world, and writes the lines of each step as it is made.
+ghost use Rattle.std.specs.Prelude.{◌≡◌, IfErr, IfOk, OnOk, false};
+ghost use Rattle.hmr_world.specs.Standing.{IsRunning, KeepsWords};
+ghost use Rattle.hmr_world.specs.Steps.{HasFormat, step_of};
+ghost use Rattle.world_model.specs.Playing.{Stage, play_step, play_turns};
+ghost use Rattle.world_model.specs.Playing as model;
+ghost use Rattle.world_model.specs.World as worlds;
+ghost use Rattle.dev_program.specs.Commands.{FitsFormat, command_seen};
+ghost use Rattle.dev_program.specs.Playing.{commanded, nothing, perform, quieted, settled_by};
+ghost use Rattle.dev_program.specs.Standing.{IsAt};
+ghost use Rattle.dev_program.specs.Writing.{HasCause, IsPlayStop, Plays};
 
-use crate::command::Command;
-use crate::first_script::Script;
+use crate::command::{Command, command_of};
+use crate::showing::show_lines;
 use crate::stop::Stop;
-use hmr_base::{Sink, write_all};
-use hmr_types::{ModName, Ver};
+use const_eval::Ran;
+use hmr_base::Sink;
+use hmr_types::{ClientId, ModName, Ver};
 use hmr_world::{Step, World};
-use output_lines::OutLine;
-use play_text::render;
+use play_script::Commands;
+use retained_data::Bag;
 use std::alloc::{AllocError, Global};
 
-/// Plays a script, or nothing where there is none, and writes its lines.
+/// Plays the commands of a script, which are asked for one by one, and writes the lines that are shown of
+/// each step as the step is made.
 ///
-/// Each line is written as its step is made. `Unwritten` comes only where the sink's count of faults
-/// rose in this call, and `NoMemory` where memory ran out; what is written then is a front of the
-/// script's lines. No other answer comes.
-pub fn play_script<K: Sink>(alloc: Global, script: Option<Script>, out: &mut K) -> Result<(), Stop>
-    ensures done { OnOk result (Appends (K.written out.old) (K.written out.new) (lines_text (play_lines script))) }
-    ensures front { WritesFront (K.written out.old) (K.written out.new) (lines_text (play_lines script)) }
-    ensures faults { StopsWriting (K.faults out.old) (K.faults out.new) result }
+/// `InstancesFull` comes only where a client would make too many instances, `Unwritten` only where the
+/// sink's count of faults rose in this call, and `NoMemory` where memory ran out. No other stop comes.
+pub fn play_lines<F: FnOnce(Bag) -> Result<Ran, AllocError> + Drop, K: Sink>(
+    alloc: Global,
+    world: &mut World<F>,
+    commands: Commands<'_>,
+    out: &mut K,
+) -> Result<(), Stop>
+    requires callable { (f : F) → F.IsAlwaysCallable f }
+    requires words { KeepsWords F.post world.old }
+    requires running { IsRunning world.old }
+    ensures plays { (stage : Stage) (w : worlds.World) → IsAt stage w world.old
+        → Plays stage (K.written out.old) (K.written out.new)
+        (perform stage commands.entry false w) world.new result }
+    ensures stops { IfErr result IsPlayStop }
+    ensures faults { HasCause (K.faults out.old) (K.faults out.new) result }
 {
-    match script {
-        None => Ok(()),
-        Some(script) => {
-            let Script { root, commands } = script;
-            play_page(alloc, root, commands.into_vec(), out)
+    let mut commands = commands;
+    let mut quiet = false;
+    'lines: loop {
+        let Ok(next) = commands.next(alloc) else {
+            return Err(Stop::NoMemory);
+        };
+        let Some(line) = next else {
+            return Ok(());
+        };
+        match command_of(line) {
+            Some(command) => {
+                let played = play_command(alloc, world, quiet, command, out);
+                if played.is_err() {
+                    return played;
+                }
+            }
+            None => quiet = true,
         }
     }
 }
 
-fn play_page<K: Sink>(
+fn play_command<F: FnOnce(Bag) -> Result<Ran, AllocError> + Drop, K: Sink>(
     alloc: Global,
-    root: ModName,
-    commands: Vec<Command>,
-    out: &mut K,
-) -> Result<(), Stop>
-    ensures done { OnOk result (Appends (K.written out.old) (K.written out.new) (lines_text (played commands.items (opening root)).1)) }
-    ensures front { WritesFront (K.written out.old) (K.written out.new) (lines_text (played commands.items (opening root)).1) }
-    ensures faults { StopsWriting (K.faults out.old) (K.faults out.new) result }
-{
-    let mut world = World::new(alloc, root)?;
-    play_commands(alloc, &mut world, commands, out)
-}
-
-fn play_commands<K: Sink>(
-    alloc: Global,
-    world: &mut World,
-    commands: Vec<Command>,
-    out: &mut K,
-) -> Result<(), Stop>
-    ensures done { OnOk result (Appends (K.written out.old) (K.written out.new) (lines_text (played commands.items world.old).1)) }
-    ensures front { WritesFront (K.written out.old) (K.written out.new) (lines_text (played commands.items world.old).1) }
-    ensures faults { StopsWriting (K.faults out.old) (K.faults out.new) result }
-{
-    for command in commands {
-        play_command(alloc, world, command, out)?;
-    }
-    Ok(())
-}
-
-fn play_command<K: Sink>(
-    alloc: Global,
-    world: &mut World,
+    world: &mut World<F>,
+    quiet: bool,
     command: Command,
     out: &mut K,
 ) -> Result<(), Stop>
-    ensures state { OnOk result (world.new ≡ (commanded command world.old).0) }
-    ensures done { OnOk result (Appends (K.written out.old) (K.written out.new) (lines_text (commanded command world.old).1)) }
-    ensures front { WritesFront (K.written out.old) (K.written out.new) (lines_text (commanded command world.old).1) }
-    ensures faults { StopsWriting (K.faults out.old) (K.faults out.new) result }
+    requires format { FitsFormat command }
+    requires callable { (f : F) → F.IsAlwaysCallable f }
+    requires words { KeepsWords F.post world.old }
+    requires running { IsRunning world.old }
+    ensures plays { (stage : Stage) (w : worlds.World) → IsAt stage w world.old
+        → Plays stage (K.written out.old) (K.written out.new)
+        (quieted quiet (commanded stage (command_seen command) w)) world.new result }
+    ensures words { KeepsWords F.post world.new }
+    ensures running { OnOk result (IsRunning world.new) }
+    ensures stops { IfErr result IsPlayStop }
+    ensures faults { HasCause (K.faults out.old) (K.faults out.new) result }
 {
     match command {
-        Command::Edit(text) => {
-            let root = copy_of(world.root())?;
-            play_step(alloc, world, Step::Edit(root, Some(text.into_bytes())), out)
-        }
-        Command::SettleAll => {
-            let jobs = world.jobs()?;
-            settle_all(alloc, world, &jobs, out)
-        }
-        Command::Open => play_step(alloc, world, Step::Open, out),
-        Command::Turn => play_step(alloc, world, Step::Turn(1), out),
-        Command::Turns(most) => take_turns(alloc, world, most, out),
-        Command::Show => play_step(alloc, world, Step::Show(1), out),
-        Command::Fresh => play_step(alloc, world, Step::Fresh, out),
+        Command::Step(step) => play_step(alloc, world, quiet, step, out),
+        Command::SettleAll => settle_all(alloc, world, quiet, out),
+        Command::Turns(client, most) => turn_client(alloc, world, quiet, client, most, out),
     }
 }
 
-fn settle_all<K: Sink>(
+fn settle_all<F: FnOnce(Bag) -> Result<Ran, AllocError> + Drop, K: Sink>(
     alloc: Global,
-    world: &mut World,
+    world: &mut World<F>,
+    quiet: bool,
+    out: &mut K,
+) -> Result<(), Stop>
+    requires callable { (f : F) → F.IsAlwaysCallable f }
+    requires words { KeepsWords F.post world.old }
+    requires running { IsRunning world.old }
+    ensures plays { (stage : Stage) (w : worlds.World) → IsAt stage w world.old
+        → Plays stage (K.written out.old) (K.written out.new)
+        (quieted quiet (commanded stage model.settle_all w)) world.new result }
+    ensures words { KeepsWords F.post world.new }
+    ensures running { OnOk result (IsRunning world.new) }
+    ensures stops { IfErr result IsPlayStop }
+    ensures faults { HasCause (K.faults out.old) (K.faults out.new) result }
+{
+    let Ok(jobs) = world.jobs() else {
+        return Err(Stop::NoMemory);
+    };
+    settle_jobs(alloc, world, quiet, &jobs, out)
+}
+
+fn settle_jobs<F: FnOnce(Bag) -> Result<Ran, AllocError> + Drop, K: Sink>(
+    alloc: Global,
+    world: &mut World<F>,
+    quiet: bool,
     jobs: &[(ModName, Ver)],
     out: &mut K,
 ) -> Result<(), Stop>
-    ensures state { OnOk result (world.new ≡ (settled_all jobs.now world.old).0) }
-    ensures done { OnOk result (Appends (K.written out.old) (K.written out.new) (lines_text (settled_all jobs.now world.old).1)) }
-    ensures front { WritesFront (K.written out.old) (K.written out.new) (lines_text (settled_all jobs.now world.old).1) }
-    ensures faults { StopsWriting (K.faults out.old) (K.faults out.new) result }
+    requires callable { (f : F) → F.IsAlwaysCallable f }
+    requires words { KeepsWords F.post world.old }
+    requires running { IsRunning world.old }
+    ensures plays { (stage : Stage) (w : worlds.World) → IsAt stage w world.old
+        → Plays stage (K.written out.old) (K.written out.new)
+        (quieted quiet (settled_by stage jobs.now w)) world.new result }
+    ensures words { KeepsWords F.post world.new }
+    ensures running { OnOk result (IsRunning world.new) }
+    ensures stops { IfErr result IsPlayStop }
+    ensures faults { HasCause (K.faults out.old) (K.faults out.new) result }
 {
     for (name, version) in jobs {
-        play_step(alloc, world, Step::Settle(copy_of(name)?, *version), out)?;
+        let Ok(name) = copy_of(name) else {
+            return Err(Stop::NoMemory);
+        };
+        let played = play_step(alloc, world, quiet, Step::Settle(name, *version), out);
+        if played.is_err() {
+            return played;
+        }
     }
     Ok(())
 }
 
-fn take_turns<K: Sink>(alloc: Global, world: &mut World, most: u32, out: &mut K) -> Result<(), Stop>
-    ensures state { OnOk result (world.new ≡ (turns most world.old).0) }
-    ensures done { OnOk result (Appends (K.written out.old) (K.written out.new) (lines_text (turns most world.old).1)) }
-    ensures front { WritesFront (K.written out.old) (K.written out.new) (lines_text (turns most world.old).1) }
-    ensures faults { StopsWriting (K.faults out.old) (K.faults out.new) result }
+/// Turns of a client. One that isn't open makes one, which says so.
+fn turn_client<F: FnOnce(Bag) -> Result<Ran, AllocError> + Drop, K: Sink>(
+    alloc: Global,
+    world: &mut World<F>,
+    quiet: bool,
+    client: ClientId,
+    most: u32,
+    out: &mut K,
+) -> Result<(), Stop>
+    requires callable { (f : F) → F.IsAlwaysCallable f }
+    requires words { KeepsWords F.post world.old }
+    requires running { IsRunning world.old }
+    ensures plays { (stage : Stage) (w : worlds.World) → IsAt stage w world.old
+        → Plays stage (K.written out.old) (K.written out.new)
+        (quieted quiet (commanded stage (model.turns client most) w)) world.new result }
+    ensures words { KeepsWords F.post world.new }
+    ensures running { OnOk result (IsRunning world.new) }
+    ensures stops { IfErr result IsPlayStop }
+    ensures faults { HasCause (K.faults out.old) (K.faults out.new) result }
+{
+    if world.is_open(client) {
+        take_turns(alloc, world, quiet, client, most, out)
+    } else {
+        play_step(alloc, world, quiet, Step::Turn(client), out)
+    }
+}
+
+fn take_turns<F: FnOnce(Bag) -> Result<Ran, AllocError> + Drop, K: Sink>(
+    alloc: Global,
+    world: &mut World<F>,
+    quiet: bool,
+    client: ClientId,
+    most: u32,
+    out: &mut K,
+) -> Result<(), Stop>
+    requires callable { (f : F) → F.IsAlwaysCallable f }
+    requires words { KeepsWords F.post world.old }
+    requires running { IsRunning world.old }
+    ensures plays { (stage : Stage) (w : worlds.World) → IsAt stage w world.old
+        → Plays stage (K.written out.old) (K.written out.new)
+        (quieted quiet (play_turns stage client most (nothing w))) world.new result }
+    ensures words { KeepsWords F.post world.new }
+    ensures running { OnOk result (IsRunning world.new) }
+    ensures stops { IfErr result IsPlayStop }
+    ensures faults { HasCause (K.faults out.old) (K.faults out.new) result }
 {
     'turns: for _ in 0..most {
-        if world.caught_up(1) {
+        if world.caught_up(client) {
             return Ok(());
         }
-        play_step(alloc, world, Step::Turn(1), out)?;
+        let played = play_step(alloc, world, quiet, Step::Turn(client), out);
+        if played.is_err() {
+            return played;
+        }
     }
     Ok(())
 }
 
-fn play_step<K: Sink>(alloc: Global, world: &mut World, step: Step, out: &mut K) -> Result<(), Stop>
-    requires { IsTaken world.old (move_of step) }
-    ensures state { OnOk result (world.new ≡ (stepped world.old (move_of step)).0) }
-    ensures done { OnOk result (Appends (K.written out.old) (K.written out.new) (lines_text (stepped world.old (move_of step)).1)) }
-    ensures front { WritesFront (K.written out.old) (K.written out.new) (lines_text (stepped world.old (move_of step)).1) }
-    ensures faults { StopsWriting (K.faults out.old) (K.faults out.new) result }
+fn play_step<F: FnOnce(Bag) -> Result<Ran, AllocError> + Drop, K: Sink>(
+    alloc: Global,
+    world: &mut World<F>,
+    quiet: bool,
+    step: Step,
+    out: &mut K,
+) -> Result<(), Stop>
+    requires format { HasFormat step }
+    requires callable { (f : F) → F.IsAlwaysCallable f }
+    requires words { KeepsWords F.post world.old }
+    requires running { IsRunning world.old }
+    ensures plays { (stage : Stage) (w : worlds.World) → IsAt stage w world.old
+        → Plays stage (K.written out.old) (K.written out.new)
+        (quieted quiet (play_step stage (nothing w) (step_of step))) world.new result }
+    ensures words { KeepsWords F.post world.new }
+    ensures running { OnOk result (IsRunning world.new) }
+    ensures stops { IfErr result IsPlayStop }
+    ensures faults { HasCause (K.faults out.old) (K.faults out.new) result }
 {
-    let lines = world.step(step)?;
-    write_lines(alloc, &lines, out)
+    match world.step(step) {
+        Ok(lines) => show_lines(alloc, quiet, &lines, out),
+        Err(ended) => Err(Stop::from(ended)),
+    }
 }
 
 fn copy_of(name: &ModName) -> Result<ModName, AllocError>
     ensures { IfOk result (λ copy. copy ≡ name.now) }
 {
     name.clone()
-}
-
-fn write_lines<K: Sink>(alloc: Global, lines: &[OutLine], out: &mut K) -> Result<(), Stop>
-    ensures done { OnOk result (Appends (K.written out.old) (K.written out.new) (lines_text lines.now)) }
-    ensures front { WritesFront (K.written out.old) (K.written out.new) (lines_text lines.now) }
-    ensures faults { StopsWriting (K.faults out.old) (K.faults out.new) result }
-{
-    for line in lines {
-        write_line(alloc, line, out)?;
-    }
-    Ok(())
-}
-
-fn write_line<K: Sink>(alloc: Global, line: &OutLine, out: &mut K) -> Result<(), Stop>
-    ensures done { OnOk result (Appends (K.written out.old) (K.written out.new) (line_text line.now)) }
-    ensures front { WritesFront (K.written out.old) (K.written out.new) (line_text line.now) }
-    ensures faults { StopsWriting (K.faults out.old) (K.faults out.new) result }
-{
-    let text = render(alloc, line)?;
-    write_all(out, &text)?;
-    Ok(())
 }

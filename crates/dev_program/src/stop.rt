@@ -1,46 +1,50 @@
 // Why the command stopped before its end.
 ghost use Rattle.std.specs.Prelude.{◌≡◌};
 
-use crate::first_script::ScriptFault;
 use hmr_base::{ReadFault, WriteFault};
+use hmr_world::WorldStop;
 use std::alloc::AllocError;
 
 /// Why the command stopped before its end.
-#[derive(Clone, Copy, Debug, PartialEq, Eq)]
+#[derive(Drop)]
 pub enum Stop {
-    /// The input is no script that this program reads.
-    Unbuilt,
+    /// The input has more bytes than a script may have.
+    TooLong,
+    /// The input is no script. This is the line of its first fault.
+    Faulty(Vec<u8>),
     /// The input failed.
     Unread,
     /// The output failed.
     Unwritten,
+    /// A client would have made too many instances.
+    InstancesFull,
     /// Memory ran out.
     NoMemory,
 }
 
 impl From<ReadFault> for Stop {
-    ghost use Rattle.dev_program.specs.Outputs.{stop_of_read};
+    ghost use Rattle.dev_program.specs.Ends.{stop_of_read};
 
     ghost from_gives = { λ fault stop. stop ≡ stop_of_read fault };
 
     fn from(fault: ReadFault) -> Self {
         match fault {
             ReadFault::Failed => Stop::Unread,
-            ReadFault::TooLong => Stop::Unbuilt,
+            ReadFault::TooLong => Stop::TooLong,
             ReadFault::NoMemory => Stop::NoMemory,
         }
     }
 }
 
-impl From<ScriptFault> for Stop {
-    ghost use Rattle.dev_program.specs.Outputs.{stop_of_script};
+impl From<WorldStop> for Stop {
+    ghost use Rattle.dev_program.specs.Ends.{stop_of_world};
 
-    ghost from_gives = { λ fault stop. stop ≡ stop_of_script fault };
+    ghost from_gives = { λ ended stop. stop ≡ stop_of_world ended };
 
-    fn from(fault: ScriptFault) -> Self {
-        match fault {
-            ScriptFault::Unbuilt => Stop::Unbuilt,
-            ScriptFault::NoMemory => Stop::NoMemory,
+    fn from(ended: WorldStop) -> Self {
+        match ended {
+            WorldStop::InstancesFull => Stop::InstancesFull,
+            WorldStop::NoMemory => Stop::NoMemory,
         }
     }
 }

@@ -1,7 +1,11 @@
 // Worked runs through the top call, whose outputs come from the description of the rules and not from
 // the program, and what happens where a read or a write fails in mid-stream.
+use crate::shelves::host_shelves;
 use crate::top::run;
+use const_eval::Ran;
+use handler_table::host_run;
 use hmr_base::{MemSink, MemSource};
+use retained_data::Bag;
 use std::alloc::{AllocError, Global};
 use std::test::Fail;
 
@@ -11,23 +15,35 @@ const LOADED: (&str, &str) = (
     "edit /m.js job 1\nsettle /m.js 1 served\nopen 1\n1 loaded\nclient 1 up\n/m.js 1\nfresh\n/m.js 1\n",
 );
 
-/// An edit between the fetch and the load: the page loads what it fetched, and then reloads.
+/// A chain that nothing accepts: the page reloads, and no disposer runs.
 const RELOADED: (&str, &str) = (
-    "root /m.js\nedit /m.js\n|export const n = 1;\nsettle\nopen\nturn 1\nedit /m.js\n|export const n = 2;\nsettle\nturn 1\nshow 1\nturns 1 9\nshow 1\nfresh\n",
-    "edit /m.js job 1\nsettle /m.js 1 served\nopen 1\nedit /m.js job 2\nsettle /m.js 2 served\n1 loaded\nclient 1 behind\n/m.js 1\n1 reload root /m.js\n1 reloaded\nclient 1 up\n/m.js 2\nfresh\n/m.js 2\n",
+    "root /m.js\nquiet\nedit /m.js\n|import \"./a.js\";\nedit /a.js\n|import \"./b.js\";\n|import.meta.hot.dispose(() => { console.log(\"never\"); });\nedit /b.js\nsettle\nopen\nturns 1 9\nedit /b.js\n|export const n = 1;\nsettle\nturns 1 9\nfates 1\n",
+    "1 loaded\n1 reload root /b.js /a.js /m.js\n1 reloaded\nfates 1\ninstance 1 /b.js 3 done reloaded\ninstance 2 /a.js 2 done reloaded\ndispose code dropped\ninstance 3 /m.js 1 done reloaded\ninstance 4 /b.js 4 done live\ninstance 5 /a.js 2 done live\ndispose code held\ninstance 6 /m.js 1 done live\n",
 );
 
-const UNBUILT: &str = "script fault at line 0: unbuilt\n";
+/// Two clients, of which one invalidates a module; the other is untouched.
+const TWO_CLIENTS: (&str, &str) = (
+    "root /m.js\nquiet\nedit /m.js\n|import { a } from \"./a.js\"; console.log(\"m\", a);\n|import.meta.hot.accept();\nedit /a.js\n|export const a = 1;\n|import.meta.hot.accept((n) => { import.meta.hot.invalidate(\"changed \" + n?.a); });\nsettle\nopen\nopen\nturns 1 9\nturns 2 9\nedit /a.js\n|export const a = 2; import.meta.hot.accept();\nsettle\nturns 1 20\nshow 1\nshow 2\nturns 3 5\n",
+    "1 log /m.js m 1\n1 loaded\n2 log /m.js m 1\n2 loaded\n1 update /a.js\n1 accept /a.js /a.js\n1 updated\n1 invalidated /a.js changed 2\n1 update /m.js\n1 accept /m.js /m.js\n1 log /m.js m 2\n1 updated\nclient 1 up\n/a.js 3\n/m.js 1\nclient 2 behind\n/a.js 2\n/m.js 1\nunknown 3\n",
+);
+
+/// Closures of the embedding program.
+const HOSTED: (&str, &str) = (
+    "root /m.js\nquiet\nedit /m.js\n|import.meta.hot.dispose(host(\"H\"));\n|import.meta.hot.dispose(() => console.log(\"second\"));\n|import.meta.hot.prune(host(\"H\"));\n|import.meta.hot.accept();\nsettle\nopen\nturns 1 9\nedit /m.js\n|import.meta.hot.accept(); import.meta.hot.dispose(host(\"H\"));\nsettle\nturns 1 9\nedit /m.js\n|import.meta.hot.accept(); console.log(import.meta.hot.data.host);\nsettle\nturns 1 9\n",
+    "1 loaded\n1 update /m.js\n1 accept /m.js /m.js\n1 log /m.js second\n1 updated\n1 update /m.js\n1 accept /m.js /m.js\n1 log /m.js host H 3\n1 log /m.js 3\n1 updated\n",
+);
 
 const USAGE: &str =
-    "usage: hmr play | check NAME | make N SEED | serve FOLDER ROOT.. | join PORT\n";
+    "usage: hmr play | check NAME | make N SEED | serve FOLDER ROOT.. | join PORT [ROOT..]\n";
+
+const NEVER: u64 = 1_000_000;
 
 /// Runs the words, parted by spaces, over a script that comes in pieces of 40 bytes, of which the
 /// `read`-th fails, and a sink of which the `write`-th write fails.
 fn outcome(
     alloc: Global,
     words: &str,
-    script: &str,
+    script: &[u8],
     read: u64,
     write: u64,
 ) -> Result<(u8, Vec<u8>), AllocError> {
@@ -39,42 +55,59 @@ fn outcome(
     reads.push(read)?;
     let mut writes = Vec::new(alloc);
     writes.push(write)?;
-    let bytes = Vec::from_slice(alloc, script.as_bytes())?;
-    let mut input = MemSource::new(bytes, 40, reads);
+    let mut input = MemSource::new(Vec::from_slice(alloc, script)?, 40, reads);
     let mut out = MemSink::new(alloc, 4096, 7, writes)?;
-    let status = run(alloc, &list, &mut input, &mut out);
+    let make = |number: u32| {
+        move |bag: Bag| -> Result<Ran, AllocError> { host_run(alloc, "H", number, bag) }
+    };
+    let shelves = host_shelves(alloc, make)?;
+    let status = run(alloc, &list, &mut input, &mut out, shelves);
     Ok((status, Vec::from_slice(alloc, out.bytes())?))
 }
-
-const NEVER: u64 = 1_000_000;
 
 #[test]
 fn scripts_write_what_the_rules_say(rt: HostRuntime) -> Result<(), Fail> {
     let alloc = rt.alloc();
     let rows = [
         ("play", "", 0, ""),
+        ("play", "root /m.js\n", 0, ""),
         ("play", LOADED.0, 0, LOADED.1),
         ("play", RELOADED.0, 0, RELOADED.1),
-        ("play", "root /m.js\n", 0, ""),
-        ("play", "root /m.js\nturn 9\n", 3, UNBUILT),
-        ("play", "root /m.js\nturn 1\n", 3, UNBUILT),
-        ("play", "root /m.js\nopen\n", 3, UNBUILT),
-        ("play", "root /m.js\nfresh", 3, UNBUILT),
-        ("play", "root m.js\n", 3, UNBUILT),
-        ("play", "root /m.js\nedit /m.js\n", 3, UNBUILT),
+        ("play", TWO_CLIENTS.0, 0, TWO_CLIENTS.1),
+        ("play", HOSTED.0, 0, HOSTED.1),
+        ("play", "root /m.js\nturn 9\n", 0, "unknown 9\n"),
         (
             "play",
-            "root /m.js\nedit /m.js\n|export const n = 01;\n",
-            3,
-            UNBUILT,
+            "root /m.js\nquiet\nedit /m.js\nedit /m.js\n",
+            0,
+            "edit /m.js same\n",
         ),
         ("play", "root /m.js\nfresh\n", 0, "fresh\nmissing /m.js\n"),
+        (
+            "play",
+            "root /m.js\n|x\n",
+            3,
+            "script fault at line 2: text-without-edit\n",
+        ),
+        (
+            "play",
+            "root /m.js\nopen",
+            3,
+            "script fault at line 2: cut-line\n",
+        ),
+        ("play", "open\n", 3, "script fault at line 1: root-place\n"),
+        (
+            "play",
+            "root m.js\n",
+            3,
+            "script fault at line 1: bad-name\n",
+        ),
         ("", LOADED.0, 2, USAGE),
         ("play play", LOADED.0, 2, USAGE),
         ("serve", LOADED.0, 2, USAGE),
     ];
     for (words, script, status, text) in rows {
-        let (is, written) = outcome(alloc, words, script, NEVER, NEVER)?;
+        let (is, written) = outcome(alloc, words, script.as_bytes(), NEVER, NEVER)?;
         assert_eq!(rt; is, status, "{words}: {script}");
         assert_eq!(rt; written.as_slice(), text.as_bytes());
     }
@@ -85,17 +118,34 @@ fn scripts_write_what_the_rules_say(rt: HostRuntime) -> Result<(), Fail> {
 fn a_fault_in_mid_stream_is_told(rt: HostRuntime) -> Result<(), Fail> {
     let alloc = rt.alloc();
     for read in 0..3u64 {
-        let (status, written) = outcome(alloc, "play", LOADED.0, read, NEVER)?;
+        let (status, written) = outcome(alloc, "play", LOADED.0.as_bytes(), read, NEVER)?;
         assert_eq!(rt; status, 4, "read {read}");
         assert_eq!(rt; written.len(), 0);
     }
     for write in 0..12u64 {
-        let (status, written) = outcome(alloc, "play", LOADED.0, NEVER, write)?;
+        let (status, written) = outcome(alloc, "play", LOADED.0.as_bytes(), NEVER, write)?;
         assert_eq!(rt; status, 5, "write {write}");
         assert!(rt; LOADED.1.as_bytes().starts_with(&written));
     }
-    let (status, written) = outcome(alloc, "play", "root m.js\n", NEVER, 1)?;
+    let (status, written) = outcome(alloc, "play", b"root m.js\n", NEVER, 1)?;
     assert_eq!(rt; status, 3);
     assert_eq!(rt; written.as_slice(), b"script ".as_slice());
+    Ok(())
+}
+
+#[test]
+fn an_input_over_the_limit_is_told(rt: HostRuntime) -> Result<(), Fail> {
+    let alloc = rt.alloc();
+    let mut script = vec![in alloc; b'#'; 16_777_217]?;
+    let (status, written) = outcome(alloc, "play", &script, NEVER, NEVER)?;
+    assert_eq!(rt; status, 8);
+    assert_eq!(rt; written.as_slice(), b"limit input 16777216\n".as_slice());
+    script.truncate(16_777_216);
+    let (status, written) = outcome(alloc, "play", &script, NEVER, NEVER)?;
+    assert_eq!(rt; status, 3);
+    assert_eq!(rt;
+        written.as_slice(),
+        b"script fault at line 1: line-too-long\n".as_slice()
+    );
     Ok(())
 }

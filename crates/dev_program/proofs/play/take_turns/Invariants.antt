@@ -1,15 +1,23 @@
-use Rattle.std.proofs.Common.{◌≡◌, ◌≤◌, ◌-◌}
-use Rattle.dev_program.specs.Playing.{lines_text, turns}
-use Rattle.dev_program.specs.Writing.{WritesUpTo}
+use Rattle.std.proofs.Common.{◌≤◌, ◌-◌}
+use Rattle.world_model.specs.Playing.{Stage, play_turns}
+use Rattle.world_model.specs.World as worlds
+use Rattle.hmr_world.specs.Standing.{IsRunning, KeepsWords}
+use Rattle.dev_program.specs.Playing.{nothing, quieted}
+use Rattle.dev_program.specs.Standing.{IsAt}
+use Rattle.dev_program.proofs.Writing.{IsUpTo}
 use Rattle.dev_program.proofs.play.take_turns.Given as goal
 
--- the turns that are left end as all of them do, and their lines are still to be written
+-- the turns that are left are still to come
 abbrev pub invariant-turns : goal.invariant-turns
 invariant-turns g l =
     let written = g.K.Sink.written in
     let faults = g.K.Sink.faults in
     record {
-      so_far : WritesUpTo (written l.fn.out) (written l.out) (lines_text (turns (l.most - l.counter) l.world).1) (lines_text (turns l.most l.fn.world).1);
-      state : (turns (l.most - l.counter) l.world).0 ≡ (turns l.most l.fn.world).0;
+      so_far : (stage : Stage) (w : worlds.World) → IsAt stage w l.fn.world →
+          IsUpTo stage (written l.fn.out) (written l.out)
+          (λ v. quieted l.quiet (play_turns stage l.client (l.most - l.counter) (nothing v)))
+          (quieted l.quiet (play_turns stage l.client l.most (nothing w))) l.world;
+      words : KeepsWords (goal.F-post g) l.world;
+      running : IsRunning l.world;
       later : faults l.fn.out ≤ faults l.out;
     }

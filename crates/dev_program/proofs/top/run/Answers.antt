@@ -1,28 +1,40 @@
-use Rattle.std.proofs.Common.{ap, Err}
-use Rattle.dev_program.specs.Outputs.{fault_line}
+use Rattle.std.proofs.Common.{map}
+use Rattle.handler_table.specs.Shelf.{marks_of}
+use Rattle.dev_program.specs.Outputs.{instances_limit, output_of}
+use Rattle.dev_program.proofs.Answering.{ended_front}
 use Rattle.dev_program.proofs.Headline.{shows_at}
-use Rattle.dev_program.proofs.Lines.{line_whole}
 use Rattle.dev_program.proofs.top.run.Goals as goal
 
-pub returns-in-Err-Unbuilt-clause-script_line : goal.returns-in-Err-Unbuilt-clause-script_line
-returns-in-Err-Unbuilt-clause-script_line g c =
-    let written = c.write_all-in-Err-Unbuilt.ensures in
-    λ _ silent. line_whole _ _ _ fault_line _ _ _ _ (c.in-Err-Unbuilt.ensures.unbuilt_silent (ap Err c.in-Err-Unbuilt.field-0-is)) written.done written.failed c.play.ensures.later silent
+pub returns-in-Err-InstancesFull-clause-front : goal.returns-in-Err-InstancesFull-clause-front
+returns-in-Err-InstancesFull-clause-front g c =
+    let ended = rw c.in-Err-InstancesFull.field-0-is at c.in-Err-InstancesFull.ensures.stops in
+    λ other. ended_front (g.S.Source.left c.args.input.now) (output_of (map marks_of c.args.shelves.items)) 8
+    instances_limit _ _ _ ended c.write_all-in-Err-InstancesFull.ensures.front
 
-pub returns-then-not-is_play-clause-fresh : goal.returns-then-not-is_play-clause-fresh
-returns-then-not-is_play-clause-fresh g c = shows_at (g.S.Source.left c.args.input.now)
+pub returns-then-not-is_play-clause-fresh_load : goal.returns-then-not-is_play-clause-fresh_load
+returns-then-not-is_play-clause-fresh_load g c =
+    shows_at (map marks_of c.args.shelves.items) (g.S.Source.left c.args.input.now)
 
-pub returns-in-Ok-clause-fresh : goal.returns-in-Ok-clause-fresh
-returns-in-Ok-clause-fresh g c = shows_at (g.S.Source.left c.args.input.now)
+pub returns-in-Ok-clause-fresh_load : goal.returns-in-Ok-clause-fresh_load
+returns-in-Ok-clause-fresh_load g c =
+    shows_at (map marks_of c.args.shelves.items) (g.S.Source.left c.args.input.now)
 
-pub returns-in-Err-Unbuilt-clause-fresh : goal.returns-in-Err-Unbuilt-clause-fresh
-returns-in-Err-Unbuilt-clause-fresh g c = shows_at (g.S.Source.left c.args.input.now)
+pub returns-in-Err-TooLong-clause-fresh_load : goal.returns-in-Err-TooLong-clause-fresh_load
+returns-in-Err-TooLong-clause-fresh_load g c =
+    shows_at (map marks_of c.args.shelves.items) (g.S.Source.left c.args.input.now)
 
-pub returns-in-Err-Unread-clause-fresh : goal.returns-in-Err-Unread-clause-fresh
-returns-in-Err-Unread-clause-fresh g c = shows_at (g.S.Source.left c.args.input.now)
+pub returns-in-Err-Unread-clause-fresh_load : goal.returns-in-Err-Unread-clause-fresh_load
+returns-in-Err-Unread-clause-fresh_load g c =
+    shows_at (map marks_of c.args.shelves.items) (g.S.Source.left c.args.input.now)
 
-pub returns-in-Err-Unwritten-clause-fresh : goal.returns-in-Err-Unwritten-clause-fresh
-returns-in-Err-Unwritten-clause-fresh g c = shows_at (g.S.Source.left c.args.input.now)
+pub returns-in-Err-Unwritten-clause-fresh_load : goal.returns-in-Err-Unwritten-clause-fresh_load
+returns-in-Err-Unwritten-clause-fresh_load g c =
+    shows_at (map marks_of c.args.shelves.items) (g.S.Source.left c.args.input.now)
 
-pub returns-in-Err-NoMemory-clause-fresh : goal.returns-in-Err-NoMemory-clause-fresh
-returns-in-Err-NoMemory-clause-fresh g c = shows_at (g.S.Source.left c.args.input.now)
+pub returns-in-Err-InstancesFull-clause-fresh_load : goal.returns-in-Err-InstancesFull-clause-fresh_load
+returns-in-Err-InstancesFull-clause-fresh_load g c =
+    shows_at (map marks_of c.args.shelves.items) (g.S.Source.left c.args.input.now)
+
+pub returns-in-Err-NoMemory-clause-fresh_load : goal.returns-in-Err-NoMemory-clause-fresh_load
+returns-in-Err-NoMemory-clause-fresh_load g c =
+    shows_at (map marks_of c.args.shelves.items) (g.S.Source.left c.args.input.now)
