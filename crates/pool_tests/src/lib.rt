@@ -1,0 +1,17 @@
+//! Workers, spawners and queues of jobs, and their tests, through public calls alone.
+//!
+//! Each file is an area: a gate that holds one result until another is posted, a worker's board over a
+//! queue, and workers as jobs that a spawner starts. Stands on `jobs` and `transform_pool`, and no crate
+//! stands on it. Keeps: a board's pass is of its queue, whatever becomes of its worker. Knows nothing of
+//! what is private in the crates below.
+#![tactic(auto)]
+
+mod gate;
+mod queue_board;
+#[cfg(test)]
+mod tests;
+mod worker_job;
+
+pub use gate::LateGate;
+pub use queue_board::QueueBoard;
+pub use worker_job::{WorkerJob, WorkerOut, begin_all, finish_all, put_all, workers};
