@@ -159,13 +159,21 @@ def has_surrogate(value):
     return False
 
 
+def finite(word):
+    # A number past the largest float has no reading here; Python reads it as infinity.
+    value = float(word)
+    if value in (float('inf'), float('-inf')):
+        raise ValueError(word)
+    return value
+
+
 def refuse(word):
     raise ValueError(word)
 
 
 def told(line):
     try:
-        value = json.loads(line.decode('utf-8'), parse_constant=refuse)
+        value = json.loads(line.decode('utf-8'), parse_constant=refuse, parse_float=finite)
     except (ValueError, UnicodeDecodeError, RecursionError):
         return b'not json'
     if has_surrogate(value):
