@@ -22,7 +22,7 @@ use Rattle.client_model.specs.Language.{Language}
 use Rattle.client_model.specs.Journal.{Happening, Journal, made, evaluated, not_run, registered, no_host, ran, dropped, ended, gave_up, gave_up_all, told}
 use Rattle.client_model.specs.Runtime.{Runtime, Cause, Did, nothing, and_then, for_each, write}
 use Rattle.client_model.specs.Applying.{apply, prune}
-use Rattle.client_model.specs.Answering.{begin, accept_line, pair_of, write_batch, start_reload, start_update, stage, stage_in, apply_in, write_cause, abort_in, done, refused, answered}
+use Rattle.client_model.specs.Answering.{begin, accept_line, pair_of, write_batch, start_reload, start_update, stage, stage_in, apply_in, write_cause, abort_in, done, took_refusal, answered}
 use Rattle.client_model.specs.Requesting.{request, cause_by}
 use Rattle.client_model.specs.Expecting.{is_answer, request_place, answer_place}
 use Rattle.client_model.specs.Taking.{take, did_take, unchanged_by, stop, is_too_many, unexpected, is_stopped, Taking}
@@ -188,13 +188,13 @@ module _ (language : Language) (P : Runtime → Did → Type 0) (k : IsTaken lan
   done_does (request_is.Invalidate m v message) r needs = waits r (done (request_is.Invalidate m v message) language r) refl refl refl (tt, tt)
   done_does request_is.Bye r needs = stays r
 
-  refused_does : (asked : ClientMsg) (r : Runtime) → P r (refused asked r)
+  refused_does : (asked : ClientMsg) (r : Runtime) → P r (took_refusal asked r)
   refused_does (request_is.Hello format roots) r = stays r
   refused_does request_is.Ask r = stays r
   refused_does (request_is.Fetch m) r = stays r
   refused_does (request_is.Applied table) r = stays r
   refused_does (request_is.Aborted cause m from x) r = stays r
-  refused_does (request_is.Invalidate m v message) r = waits r (refused (request_is.Invalidate m v message) r) refl refl refl (tt, tt)
+  refused_does (request_is.Invalidate m v message) r = waits r (took_refusal (request_is.Invalidate m v message) r) refl refl refl (tt, tt)
   refused_does request_is.Bye r = stays r
 
   prune_does : (asked : ClientMsg) (names : List Name) (r : Runtime) → Needs language asked r → is_answer r.page.loaded asked (msg.Prune names) ≡ true → P r (prune language names r)

@@ -111,14 +111,14 @@ done (request_is.Invalidate n v message) language r = invalidated n message r
 done request_is.Bye language r = nothing r
 
 -- `refused`, by what was told
-abbrev pub refused : ClientMsg → Runtime → Did
-refused (request_is.Hello format roots) r = nothing r
-refused request_is.Ask r = nothing r
-refused (request_is.Fetch n) r = nothing r
-refused (request_is.Applied table) r = nothing r
-refused (request_is.Aborted cause n m x) r = nothing r
-refused (request_is.Invalidate n v message) r = ignored n r
-refused request_is.Bye r = nothing r
+abbrev pub took_refusal : ClientMsg → Runtime → Did
+took_refusal (request_is.Hello format roots) r = nothing r
+took_refusal request_is.Ask r = nothing r
+took_refusal (request_is.Fetch n) r = nothing r
+took_refusal (request_is.Applied table) r = nothing r
+took_refusal (request_is.Aborted cause n m x) r = nothing r
+took_refusal (request_is.Invalidate n v message) r = ignored n r
+took_refusal request_is.Bye r = nothing r
 
 -- what the answer to a request does
 abbrev pub answered : Language → ClientMsg → ServerMsg → Runtime → Did
@@ -133,4 +133,4 @@ answered language asked msg.Done r = done asked language r
 answered language asked (msg.Text n v t) r = stage_in r.page.plan language n v t r
 answered language asked (msg.Missing n) r = with_cause (missing n) r
 answered language asked (msg.NotYet n) r = write (line.Wait r.client n) r
-answered language asked (msg.Refused code n told kept) r = refused asked r
+answered language asked (msg.Refused code n told kept) r = took_refusal asked r

@@ -5,7 +5,7 @@ use Rattle.std.proofs.Math.Path.{subst}
 use Rattle.std.proofs.lemmas.Bool.{false≢true}
 use Rattle.hmr_types.specs.declared.analysis.Analysis.{Analysis}
 use Rattle.core_model.specs.Names.{Name, at}
-use Rattle.core_model.specs.Sources.{Sources, Change, edit, result, EditAnswer, job, same, removed, refused, edit_answer, after_edit, ResultAnswer, serve, refuse, late, result_answer, after_result, changed_by, Text}
+use Rattle.core_model.specs.Sources.{Sources, Change, edit, result, EditAnswer, job, same, removed, edit_refused, edit_answer, after_edit, ResultAnswer, serve, refuse, late, result_answer, after_result, changed_by, Text}
 use Rattle.core_model.specs.View.{View, Entry}
 use Rattle.core_model.specs.Page.{Plan}
 use Rattle.core_model.specs.Client.{Client, new_client, told_of_edit, told_of_result}
@@ -14,7 +14,7 @@ use Rattle.core_model.specs.Roots.{are_bad, roots_or}
 use Rattle.core_model.specs.Core.{Core, Event, change, connect, request, disconnect, client_at, told_of, after_change, is_full, if_room, connected, requested, disconnected, step, core_after, changes_of}
 use Rattle.core_model.proofs.Clients.{at_without, at_with, at_each}
 use Rattle.core_model.proofs.Replaying.{sources_are, connected_sources, requested_sources, disconnected_sources}
-use Rattle.core_laws.specs.Given.{given_too, given, entry_of, IsGiven}
+use Rattle.core_laws.specs.Given.{given_too, analysis_given, entry_of, IsGiven}
 use Rattle.core_laws.specs.Facts.{PlanIs, PlanIsServed, IsAtMost, SourcesFacts, ClientFacts}
 use Rattle.core_laws.specs.Kept.{given_after, given_by, CoreFacts}
 use Rattle.core_laws.proofs.Givens.{sources_facts, sources_on, given_on_change}
@@ -28,7 +28,7 @@ edit_later : (answer : EditAnswer) (n : Name) (t : Option Text) (s : Sources) �
 edit_later (job v) n t s = inl (refl, refl)
 edit_later same n t s = inl (refl, refl)
 edit_later (removed v) n t s = inr (omega arith)
-edit_later (refused w) n t s = inl (refl, refl)
+edit_later (edit_refused w) n t s = inl (refl, refl)
 
 result_later : (answer : ResultAnswer) (n : Name) (t : Text) (v : ℕ) (s : Sources) → IsLater s (after_result answer n t v s)
 result_later (serve a) n t v s = inr (omega arith)
@@ -81,7 +81,7 @@ module _ (by : Name → ℕ → Option Analysis) (t : Sources) (all_given : (n :
   edit_told (job v) n = facts
   edit_told same n = facts
   edit_told (removed v) n = with_notices by t all_given c facts _
-  edit_told (refused w) n = facts
+  edit_told (edit_refused w) n = facts
 
   result_told : (answer : ResultAnswer) (n : Name) → ClientFacts by t (told_of_result answer n c)
   result_told (serve a) n = with_notices by t all_given c facts _
@@ -151,21 +151,21 @@ facts_on roots by core (disconnect i) f = record {
 }
 
 -- what is known after the events is what is known after their edits and results
-given_is : (roots : List Name) (past : List Event) (ch : Change) → given_after (core_after roots past).sources (given (changes_of past)) ch ≡ given (ch ∷ changes_of past)
+given_is : (roots : List Name) (past : List Event) (ch : Change) → given_after (core_after roots past).sources (analysis_given (changes_of past)) ch ≡ analysis_given (ch ∷ changes_of past)
 given_is roots past (edit n t) = refl
-given_is roots past (result n t o v) = ap (λ s. given_too (result_answer s n t o v) n v (given (changes_of past))) (sources_are roots past)
+given_is roots past (result n t o v) = ap (λ s. given_too (result_answer s n t o v) n v (analysis_given (changes_of past))) (sources_are roots past)
 
 -- every list of events keeps the facts of the core
-pub core_facts : (roots : List Name) (past : List Event) → CoreFacts (given (changes_of past)) (core_after roots past)
+pub core_facts : (roots : List Name) (past : List Event) → CoreFacts (analysis_given (changes_of past)) (core_after roots past)
 core_facts roots [] = record { sources = sources_facts []; clients = λ j. tt }
-core_facts roots (change ch ∷ past) = subst (λ by. CoreFacts by (core_after roots (change ch ∷ past))) (given_is roots past ch) (facts_on roots (given (changes_of past)) (core_after roots past) (change ch) (core_facts roots past))
-core_facts roots (connect names ∷ past) = facts_on roots (given (changes_of past)) (core_after roots past) (connect names) (core_facts roots past)
-core_facts roots (request i r ∷ past) = facts_on roots (given (changes_of past)) (core_after roots past) (request i r) (core_facts roots past)
-core_facts roots (disconnect i ∷ past) = facts_on roots (given (changes_of past)) (core_after roots past) (disconnect i) (core_facts roots past)
+core_facts roots (change ch ∷ past) = subst (λ by. CoreFacts by (core_after roots (change ch ∷ past))) (given_is roots past ch) (facts_on roots (analysis_given (changes_of past)) (core_after roots past) (change ch) (core_facts roots past))
+core_facts roots (connect names ∷ past) = facts_on roots (analysis_given (changes_of past)) (core_after roots past) (connect names) (core_facts roots past)
+core_facts roots (request i r ∷ past) = facts_on roots (analysis_given (changes_of past)) (core_after roots past) (request i r) (core_facts roots past)
+core_facts roots (disconnect i ∷ past) = facts_on roots (analysis_given (changes_of past)) (core_after roots past) (disconnect i) (core_facts roots past)
 
-pub served_given : (roots : List Name) (past : List Event) (n : Name) → IsGiven (given (changes_of past) n) (entry_of (at (core_after roots past).sources.served n))
+pub served_given : (roots : List Name) (past : List Event) (n : Name) → IsGiven (analysis_given (changes_of past) n) (entry_of (at (core_after roots past).sources.served n))
 served_given roots past = (core_facts roots past).sources.served
 
 -- every list of events keeps the facts of each client
-pub client_facts : (roots : List Name) (past : List Event) (j : ℕ) → IfSome (client_at (core_after roots past).clients j) (ClientFacts (given (changes_of past)) (core_after roots past).sources)
+pub client_facts : (roots : List Name) (past : List Event) (j : ℕ) → IfSome (client_at (core_after roots past).clients j) (ClientFacts (analysis_given (changes_of past)) (core_after roots past).sources)
 client_facts roots past = (core_facts roots past).clients

@@ -103,7 +103,7 @@ module _ (by : Name → ℕ → Option Analysis) (s : Sources) (c : Client) (all
   pub is_fresh : IsFreshLoad s c
   is_fresh = record {
     table = rising_same (table_of c.page.view) (fresh_table s.served c.roots) (ap rising (names_kept c.page.view) ∙ facts.rises)
-        (collect_rises (λ n. version_in (at s.served n)) (reached_by s.served c.roots) (sorted_rises (reached_of (fresh.imports s.served) (fresh.imported_of s.served) c.roots)))
+        (collect_rises (λ n. version_in (at s.served n)) (reached_by s.served c.roots) (sorted_rises (reached_of (fresh.imports s.served) (fresh.imported_by_served s.served) c.roots)))
         (λ n. at_table c.page.view n ∙ ap version_of (entry_at n) ∙ version_if (has (reached_by s.served c.roots) n) (at s.served n) ∙ sym (at_fresh s.served c.roots n));
     entries = entry_at;
     nothing_missing = filter_none (λ n. not (is_some (at s.served n))) (reached_by s.served c.roots) (λ n h. ap not (there_at n h));

@@ -8,11 +8,11 @@ use Rattle.hmr_types.specs.declared.analysis.Analysis.{Analysis}
 use Rattle.hmr_types.specs.declared.analysis.Outcome.{Outcome}
 use Rattle.hmr_types.specs.declared.analysis.Outcome.TheVariants.{Good, Bad}
 use Rattle.core_model.specs.Names.{Name, same_name, at, without, with_row}
-use Rattle.core_model.specs.Sources.{Text, Change, edit, result, Verdict, outstanding, good, bad, Source, Serving, Sources, EditAnswer, job, same, removed, refused, has_text, text_length, total_of, numbered, answer_for, edit_answer, text_or_none, after_edit, ResultAnswer, serve, refuse, late, is_outstanding, is_awaited, answer_of, result_answer, after_result, changed_by, sources_after}
+use Rattle.core_model.specs.Sources.{Text, Change, edit, result, Verdict, outstanding, good, bad, Source, Serving, Sources, EditAnswer, job, same, removed, edit_refused, has_text, text_length, total_of, numbered, answer_for, edit_answer, text_or_none, after_edit, ResultAnswer, serve, refuse, late, is_outstanding, is_awaited, answer_of, result_answer, after_result, changed_by, sources_after}
 use Rattle.core_model.specs.View.{Entry}
 use Rattle.core_model.proofs.Naming.{same_true, true_same, both_true}
 use Rattle.core_model.proofs.Tables.{at_without, at_with_row}
-use Rattle.core_laws.specs.Given.{given_too, given, entry_of, IsGiven}
+use Rattle.core_laws.specs.Given.{given_too, analysis_given, entry_of, IsGiven}
 use Rattle.core_laws.specs.Kept.{given_after}
 use Rattle.core_laws.specs.Facts.{IsCounted, VerdictIs, SourceIs, SourcesFacts}
 
@@ -23,19 +23,19 @@ abbrev pub Numbered : ℕ → EditAnswer → Type 0
 Numbered counted (job v) = v ≡ counted + 1
 Numbered counted same = ⊤
 Numbered counted (removed v) = v ≡ counted + 1
-Numbered counted (refused w) = ⊤
+Numbered counted (edit_refused w) = ⊤
 
 if_numbered : (counted : ℕ) (b : Bool) (x y : EditAnswer) → Numbered counted x → Numbered counted y → Numbered counted (if b then x else y)
 if_numbered counted true x y p q = p
 if_numbered counted false x y p q = q
 
 pub answer_numbered : (old : Option Source) (s : Sources) (t : Option Text) → Numbered s.counted (answer_for old s t)
-answer_numbered old s None = if_numbered s.counted (is_some old) (numbered removed s.counted) same (if_numbered s.counted (nat_le LARGEST_NUMBER s.counted) (refused _) (removed (s.counted + 1)) tt refl) tt
-answer_numbered old s (Some t) = if_numbered s.counted (nat_lt TEXT_BYTES (length t)) (refused _) _ tt
+answer_numbered old s None = if_numbered s.counted (is_some old) (numbered removed s.counted) same (if_numbered s.counted (nat_le LARGEST_NUMBER s.counted) (edit_refused _) (removed (s.counted + 1)) tt refl) tt
+answer_numbered old s (Some t) = if_numbered s.counted (nat_lt TEXT_BYTES (length t)) (edit_refused _) _ tt
     (if_numbered s.counted (has_text old t) same _ tt
-    (if_numbered s.counted (not (is_some old) && nat_le SOURCE_NAMES (length s.current)) (refused _) _ tt
-    (if_numbered s.counted (nat_lt SOURCE_BYTES ((total_of s - text_length old) + length t)) (refused _) _ tt
-    (if_numbered s.counted (nat_le LARGEST_NUMBER s.counted) (refused _) (job (s.counted + 1)) tt refl))))
+    (if_numbered s.counted (not (is_some old) && nat_le SOURCE_NAMES (length s.current)) (edit_refused _) _ tt
+    (if_numbered s.counted (nat_lt SOURCE_BYTES ((total_of s - text_length old) + length t)) (edit_refused _) _ tt
+    (if_numbered s.counted (nat_le LARGEST_NUMBER s.counted) (edit_refused _) (job (s.counted + 1)) tt refl))))
 
 -- the name that a change is of, and each other name
 pub by_name : (P : Name → Bool → Type 0) (n : Name) → P n true → ((m : Name) → same_name n m ≡ false → P m false) → (m : Name) → P m (same_name n m)
@@ -73,7 +73,7 @@ module _ (by : Name → ℕ → Option Analysis) (s : Sources) (n : Name) (facts
         (subst (λ o. SourceIs (if same_name n m then None else at s.current m) (by m) o) (sym (at_without n s.served m))
         (by_name (λ m b. SourceIs (if b then None else at s.current m) (by m) (if b then None else at s.served m)) n refl (λ m d. facts.settled m) m));
   }
-  edit_keeps (refused w) t e = facts
+  edit_keeps (edit_refused w) t e = facts
 
   -- the version of a result that isn't late was counted, and never served
   abbrev pub Awaited : ResultAnswer → ℕ → Type 0
@@ -176,15 +176,15 @@ pub given_on_change : (by : Name → ℕ → Option Analysis) (s : Sources) (ch 
 given_on_change by s (edit n t) facts m w a h = h
 given_on_change by s (result n t o v) facts m w a h = grows by s n facts (result_answer s n t o v) v (answer_awaited by s n facts o t v) m w a h
 
-pub sources_facts : (past : List Change) → SourcesFacts (given past) (sources_after past)
+pub sources_facts : (past : List Change) → SourcesFacts (analysis_given past) (sources_after past)
 sources_facts [] = record { counted = λ n. tt; fresh = λ n v l. refl; served = λ n. tt; settled = λ n. refl }
-sources_facts (edit n t ∷ past) = sources_on (given past) (sources_after past) (edit n t) (sources_facts past)
-sources_facts (result n t o v ∷ past) = sources_on (given past) (sources_after past) (result n t o v) (sources_facts past)
+sources_facts (edit n t ∷ past) = sources_on (analysis_given past) (sources_after past) (edit n t) (sources_facts past)
+sources_facts (result n t o v ∷ past) = sources_on (analysis_given past) (sources_after past) (result n t o v) (sources_facts past)
 
-pub given_stays : (past : List Change) (ch : Change) (m : Name) (w : ℕ) (a : Analysis) → given past m w ≡ Some a → given (ch ∷ past) m w ≡ Some a
+pub given_stays : (past : List Change) (ch : Change) (m : Name) (w : ℕ) (a : Analysis) → analysis_given past m w ≡ Some a → analysis_given (ch ∷ past) m w ≡ Some a
 given_stays past (edit n t) m w a h = h
-given_stays past (result n t o v) m w a h = given_on_change (given past) (sources_after past) (result n t o v) (sources_facts past) m w a h
+given_stays past (result n t o v) m w a h = given_on_change (analysis_given past) (sources_after past) (result n t o v) (sources_facts past) m w a h
 
 -- a result that is served is of a version that wasn't served before
-pub served_once : (past : List Change) (n : Name) (t : Text) (o : Outcome) (v : ℕ) (a : Analysis) → result_answer (sources_after past) n t o v ≡ serve a → given past n v ≡ None
-served_once past n t o v a e = (subst (λ answer. Awaited (given past) (sources_after past) n (sources_facts past) answer v) e (answer_awaited (given past) (sources_after past) n (sources_facts past) o t v)).0
+pub served_once : (past : List Change) (n : Name) (t : Text) (o : Outcome) (v : ℕ) (a : Analysis) → result_answer (sources_after past) n t o v ≡ serve a → analysis_given past n v ≡ None
+served_once past n t o v a e = (subst (λ answer. Awaited (analysis_given past) (sources_after past) n (sources_facts past) answer v) e (answer_awaited (analysis_given past) (sources_after past) n (sources_facts past) o t v)).0

@@ -8,7 +8,7 @@ use Rattle.hmr_types.specs.declared.words.PlanKind.{PlanKind}
 use Rattle.hmr_types.specs.declared.words.PlanKind.TheVariants.{Load, Reload, Update}
 use Rattle.update_msgs.specs.Writable.{IsBetween, IsVersion}
 use Rattle.core_model.specs.Names.{Name, has, at, without_all}
-use Rattle.core_model.specs.Sources.{Text, Sources, Source, Serving, Verdict, outstanding, good, bad, Change, edit, result, EditAnswer, job, same, removed, refused, edit_answer, ResultAnswer, serve, refuse, late, result_answer, is_awaited}
+use Rattle.core_model.specs.Sources.{Text, Sources, Source, Serving, Verdict, outstanding, good, bad, Change, edit, result, EditAnswer, job, same, removed, edit_refused, edit_answer, ResultAnswer, serve, refuse, late, result_answer, is_awaited}
 use Rattle.core_model.specs.View.{View, Entry}
 use Rattle.core_model.specs.Page.{Plan, kept_or_staged, met_of, unmet_entry, new_entry, new_view}
 use Rattle.core_model.specs.Client.{Client, new_client, next_batch, told_of_edit, told_of_result}
@@ -121,7 +121,7 @@ module _ (c : Client) (f : ClientFits c) where
   edit_told (job v) n = f
   edit_told same n = f
   edit_told (removed v) n = record { batches = f.batches; view = f.view; staged = f.staged; notices = left_fits IsPlaced n c.notices f.notices }
-  edit_told (refused w) n = f
+  edit_told (edit_refused w) n = f
 
   result_told : (answer : ResultAnswer) (n : Name) (t : Text) (v : ℕ) → Settling t v answer → ClientFits (told_of_result answer n c)
   result_told (serve a) n t v h = record { batches = f.batches; view = f.view; staged = f.staged; notices = left_fits IsPlaced n c.notices f.notices }

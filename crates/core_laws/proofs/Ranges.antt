@@ -8,7 +8,7 @@ use Rattle.hmr_types.specs.declared.analysis.Outcome.{Outcome}
 use Rattle.hmr_types.specs.declared.analysis.Outcome.TheVariants.{Good, Bad}
 use Rattle.update_msgs.specs.Writable.{IsVersion}
 use Rattle.core_model.specs.Names.{Name, same_name, at, without, with_row}
-use Rattle.core_model.specs.Sources.{Text, Change, edit, result, outstanding, good, bad, Source, Sources, EditAnswer, job, same, removed, refused, has_text, text_length, total_of, numbered, answer_for, edit_answer, text_or_none, after_edit, ResultAnswer, serve, refuse, late, is_outstanding, is_awaited, answer_of, result_answer, after_result, changed_by}
+use Rattle.core_model.specs.Sources.{Text, Change, edit, result, outstanding, good, bad, Source, Sources, EditAnswer, job, same, removed, edit_refused, has_text, text_length, total_of, numbered, answer_for, edit_answer, text_or_none, after_edit, ResultAnswer, serve, refuse, late, is_outstanding, is_awaited, answer_of, result_answer, after_result, changed_by}
 use Rattle.core_model.specs.Formed.{IsPlaced, IsFormedOutcome, IsFormedChange}
 use Rattle.core_model.proofs.Naming.{same_true, both_true}
 use Rattle.core_model.proofs.Tables.{at_without, at_with_row}
@@ -34,7 +34,7 @@ abbrev pub Fitting : Option Text → EditAnswer → Type 0
 Fitting t (job v) = IsVersion v × (length (text_or_none t) ≤ TEXT_BYTES)
 Fitting t same = ⊤
 Fitting t (removed v) = IsVersion v
-Fitting t (refused w) = ⊤
+Fitting t (edit_refused w) = ⊤
 
 fitting_if : (t : Option Text) (b : Bool) (x y : EditAnswer) → Fitting t x → (b ≡ false → Fitting t y) → Fitting t (if b then x else y)
 fitting_if t true x y p q = p
@@ -50,12 +50,12 @@ short : (t : Text) → nat_lt TEXT_BYTES (length t) ≡ false → length t ≤ T
 short t e = ltb-false TEXT_BYTES (length t) e
 
 pub answer_fits : (old : Option Source) (s : Sources) (t : Option Text) → Fitting t (answer_for old s t)
-answer_fits old s None = fitting_if None (is_some old) (numbered removed s.counted) same (fitting_if None (nat_le LARGEST_NUMBER s.counted) (refused _) (removed (s.counted + 1)) tt (next_fits s.counted)) (λ e. tt)
-answer_fits old s (Some t) = fitting_if (Some t) (nat_lt TEXT_BYTES (length t)) (refused _) _ tt (λ low.
+answer_fits old s None = fitting_if None (is_some old) (numbered removed s.counted) same (fitting_if None (nat_le LARGEST_NUMBER s.counted) (edit_refused _) (removed (s.counted + 1)) tt (next_fits s.counted)) (λ e. tt)
+answer_fits old s (Some t) = fitting_if (Some t) (nat_lt TEXT_BYTES (length t)) (edit_refused _) _ tt (λ low.
     fitting_if (Some t) (has_text old t) same _ tt (λ e.
-    fitting_if (Some t) (not (is_some old) && nat_le SOURCE_NAMES (length s.current)) (refused _) _ tt (λ f.
-    fitting_if (Some t) (nat_lt SOURCE_BYTES ((total_of s - text_length old) + length t)) (refused _) _ tt (λ g.
-    fitting_if (Some t) (nat_le LARGEST_NUMBER s.counted) (refused _) (job (s.counted + 1)) tt (λ h. (next_fits s.counted h, short t low))))))
+    fitting_if (Some t) (not (is_some old) && nat_le SOURCE_NAMES (length s.current)) (edit_refused _) _ tt (λ f.
+    fitting_if (Some t) (nat_lt SOURCE_BYTES ((total_of s - text_length old) + length t)) (edit_refused _) _ tt (λ g.
+    fitting_if (Some t) (nat_le LARGEST_NUMBER s.counted) (edit_refused _) (job (s.counted + 1)) tt (λ h. (next_fits s.counted h, short t low))))))
 
 edit_fits : (answer : EditAnswer) (n : Name) (t : Option Text) (s : Sources) → Fitting t answer → SourcesFit s → SourcesFit (after_edit answer n t s)
 edit_fits (job v) n t s h f = record {
@@ -65,7 +65,7 @@ edit_fits (job v) n t s h f = record {
 }
 edit_fits same n t s h f = f
 edit_fits (removed v) n t s h f = record { counted = h.most; current = left_fits SourceFits n s.current f.current; served = left_fits ServingFits n s.served f.served }
-edit_fits (refused w) n t s h f = f
+edit_fits (edit_refused w) n t s h f = f
 
 -- Results.
 

@@ -5,7 +5,7 @@ use Rattle.std.proofs.lemmas.Bool.{false≢true, eqb-true}
 use Rattle.std.proofs.lemmas.Option.{same_Some}
 use Rattle.hmr_types.specs.declared.analysis.Outcome.{Outcome}
 use Rattle.core_model.specs.Names.{Name}
-use Rattle.core_model.specs.Sources.{Text, Sources, Change, edit, result, EditAnswer, job, same, removed, refused, edit_answer, after_edit, ResultAnswer, late, result_answer, after_result}
+use Rattle.core_model.specs.Sources.{Text, Sources, Change, edit, result, EditAnswer, job, same, removed, edit_refused, edit_answer, after_edit, ResultAnswer, late, result_answer, after_result}
 use Rattle.core_model.specs.Page.{Plan}
 use Rattle.core_model.specs.Client.{Client, told_of_edit, told_of_result}
 use Rattle.core_model.specs.Asking.{AskRow, out_of_turn, tell, load, idle, prune, reload, update, ask_row}
@@ -87,7 +87,7 @@ edit_same : (answer : EditAnswer) (n : Name) (t : Option Text) (core : Core) →
 edit_same (job v) n t core h = absurd (false≢true h)
 edit_same same n t core h = absurd (false≢true h)
 edit_same (removed v) n t core h = absurd (false≢true h)
-edit_same (refused w) n t core h = ap (λ rows. record core { clients = rows }) (each_same (told_of_edit (refused w) n) core.clients (λ c. refl))
+edit_same (edit_refused w) n t core h = ap (λ rows. record core { clients = rows }) (each_same (told_of_edit (edit_refused w) n) core.clients (λ c. refl))
 
 change_refused : (core : Core) (ch : Change) (roots : List Name) → is_refusal (step roots core (change ch)).1 ≡ true → (step roots core (change ch)).0 ≡ core
 change_refused core (edit n t) roots h = edit_same (edit_answer core.sources n t) n t core h

@@ -6,7 +6,7 @@ use Rattle.std.proofs.lemmas.Bool.{false≢true, eqb-true, eq-eqb}
 use Rattle.hmr_types.specs.declared.analysis.Outcome.{Outcome}
 use Rattle.hmr_types.specs.declared.analysis.Outcome.TheVariants.{Good, Bad}
 use Rattle.core_model.specs.Names.{Name, same_name, at}
-use Rattle.core_model.specs.Sources.{Text, Change, edit, result, outstanding, good, bad, Source, Serving, Sources, EditAnswer, job, same, removed, refused, edit_answer, text_or_none, after_edit, ResultAnswer, serve, refuse, late, is_outstanding, is_awaited, answer_of, result_answer, after_result, changed_by, sources_after}
+use Rattle.core_model.specs.Sources.{Text, Change, edit, result, outstanding, good, bad, Source, Serving, Sources, EditAnswer, job, same, removed, edit_refused, edit_answer, text_or_none, after_edit, ResultAnswer, serve, refuse, late, is_outstanding, is_awaited, answer_of, result_answer, after_result, changed_by, sources_after}
 use Rattle.core_model.proofs.Naming.{same_true, true_same, both_true}
 use Rattle.core_model.proofs.Tables.{at_without, at_with_row}
 use Rattle.core_laws.specs.Kept.{written_after, TextFacts}
@@ -23,7 +23,7 @@ module _ (by : Name → ℕ → Option Text) (s : Sources) (n : Name) (facts : T
       by_test false f = h
   grows same t e m w x h = h
   grows (removed v) t e m w x h = h
-  grows (refused word) t e m w x h = h
+  grows (edit_refused word) t e m w x h = h
 
   source_on : (answer : EditAnswer) (t : Option Text) → Numbered s.counted answer → (m : Name) (o : Option Source) → IsWritten (by m) o → IsWritten (written_too answer n t by m) o
   source_on answer t e m None h = tt
@@ -64,7 +64,7 @@ module _ (by : Name → ℕ → Option Text) (s : Sources) (n : Name) (facts : T
       serving_if : (b : Bool) (o : Option Serving) (f : ℕ → Option Text) → IsServedWritten f o → IsServedWritten f (if b then None else o)
       serving_if true o f h = tt
       serving_if false o f h = h
-  edit_texts (refused word) t e = facts
+  edit_texts (edit_refused word) t e = facts
 
   -- a result that isn't late is of what was written
   abbrev pub IsOf : ResultAnswer → Text → ℕ → Type 0

@@ -12,10 +12,10 @@ given_too (refuse f) m w before n v = before n v
 given_too late m w before n v = before n v
 
 -- the analysis that came with the result that served this version of the name, the newest change first
-abbrev pub given : List Change → Name → ℕ → Option Analysis
-given [] n v = None
-given (edit m t ∷ past) n v = given past n v
-given (result m t o w ∷ past) n v = given_too (result_answer (sources_after past) m t o w) m w (given past) n v
+abbrev pub analysis_given : List Change → Name → ℕ → Option Analysis
+analysis_given [] n v = None
+analysis_given (edit m t ∷ past) n v = analysis_given past n v
+analysis_given (result m t o w ∷ past) n v = given_too (result_answer (sources_after past) m t o w) m w (analysis_given past) n v
 
 -- what is served of a name, as an entry of a page
 abbrev pub entry_of : Option Serving → Option Entry

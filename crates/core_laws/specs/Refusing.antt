@@ -1,6 +1,6 @@
 -- Which replies say that nothing was done.
 use Rattle.std.specs.Prelude.{Bool, true, false}
-use Rattle.core_model.specs.Sources.{EditAnswer, job, same, removed, refused}
+use Rattle.core_model.specs.Sources.{EditAnswer, job, same, removed, edit_refused}
 use Rattle.core_model.specs.Requests as reply
 use Rattle.core_model.specs.Requests.{Reply, edited, settled, to_client, gone}
 
@@ -9,7 +9,7 @@ abbrev pub is_refused_edit : EditAnswer → Bool
 is_refused_edit (job v) = false
 is_refused_edit same = false
 is_refused_edit (removed v) = false
-is_refused_edit (refused w) = true
+is_refused_edit (edit_refused w) = true
 
 -- the reply is a refusal: of an edit, of a client that comes, of a request, or of a client that goes
 abbrev pub is_refusal : Reply → Bool

@@ -17,7 +17,7 @@ ghost use Rattle.core_model.specs.Requests.{Request, ask, applied_as, heard, edi
 ghost use Rattle.core_model.specs.Core.{Core, Event, change, connect, request, disconnect, client_at, told_of, changes_of, step, core_after, replay, replies};
 ghost use Rattle.core_model.specs.Formed.{IsFormed};
 ghost use Rattle.core_model.specs.Transcript.{IsTrueEvent};
-ghost use Rattle.core_laws.specs.Given.{given, entry_of};
+ghost use Rattle.core_laws.specs.Given.{analysis_given, entry_of};
 ghost use Rattle.core_laws.specs.Truth.{IsTrueChange, IsOfText, IsTrueEntry};
 ghost use Rattle.core_laws.specs.Written.{written, IsWritten, IsServedWritten};
 ghost use Rattle.core_laws.specs.Facts.{SourcesFacts, ClientFacts, IsClosed, IsServed, SamePage};
@@ -41,18 +41,18 @@ ghost use Rattle.core_laws.specs.Isolated.{AreNumbered, concerns, without_others
 pub fn facts_are_kept()
     ensures step { (roots : List Name) (by : Name → ℕ → Option Analysis) (core : Core) (event : Event) →
         CoreFacts by core → CoreFacts (given_by core by event) (step roots core event).0 }
-    ensures sources { (past : List Change) → SourcesFacts (given past) (sources_after past) }
+    ensures sources { (past : List Change) → SourcesFacts (analysis_given past) (sources_after past) }
     ensures clients { (roots : List Name) (past : List Event) (i : ℕ) →
         IfSome (client_at (core_after roots past).clients i)
-        (ClientFacts (given (changes_of past)) (core_after roots past).sources) }
+        (ClientFacts (analysis_given (changes_of past)) (core_after roots past).sources) }
 {}
 
 /// A version of a module is served once at most, and the analysis that it was served with stays known.
 pub fn version_is_served_once()
     ensures once { (past : List Change) (n : Name) (t : Text) (o : Outcome) (v : ℕ) (a : Analysis) →
-        result_answer (sources_after past) n t o v ≡ serve a → given past n v ≡ None }
+        result_answer (sources_after past) n t o v ≡ serve a → analysis_given past n v ≡ None }
     ensures stays { (past : List Change) (ch : Change) (n : Name) (v : ℕ) (a : Analysis) →
-        given past n v ≡ Some a → given (ch ∷ past) n v ≡ Some a }
+        analysis_given past n v ≡ Some a → analysis_given (ch ∷ past) n v ≡ Some a }
 {}
 
 /// The current source of a name, and what is served of it, each has the text of the edit of that name
@@ -232,9 +232,9 @@ pub fn messages_can_be_written()
 /// that of the text of the counted edit of that version; and so is that of each module that is served,
 /// that stands on a page, or that was fetched for the plan under way.
 pub fn true_results_are_of_the_texts()
-    ensures given { (transformed : Name → Text → Outcome) (past : List Change) →
+    ensures analysis_given { (transformed : Name → Text → Outcome) (past : List Change) →
         All (IsTrueChange transformed) past → (n : Name) (v : ℕ) (a : Analysis) →
-        given past n v ≡ Some a → IsOfText transformed (written past) n v a }
+        analysis_given past n v ≡ Some a → IsOfText transformed (written past) n v a }
     ensures served { (transformed : Name → Text → Outcome) (roots : List Name) (past : List Event) →
         All (IsTrueEvent transformed) past → (n : Name) →
         IfSome (entry_of (at (core_after roots past).sources.served n))

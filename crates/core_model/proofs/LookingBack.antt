@@ -6,7 +6,7 @@ use Rattle.hmr_types.specs.declared.limits.TheConstants.{TEXT_BYTES, SOURCE_NAME
 use Rattle.hmr_types.specs.declared.analysis.Outcome.{Outcome}
 use Rattle.hmr_types.specs.declared.analysis.Outcome.TheVariants.{Good, Bad}
 use Rattle.core_model.specs.Names.{Name, same_name, at}
-use Rattle.core_model.specs.Sources.{Text, Change, edit, result, Verdict, good, bad, outstanding, Source, Serving, Sources, EditAnswer, job, same, removed, refused, has_text, text_length, total_of, numbered, answer_for, edit_answer, text_or_none, after_edit, ResultAnswer, serve, refuse, late, is_outstanding, is_awaited, answer_of, result_answer, after_result, sources_after}
+use Rattle.core_model.specs.Sources.{Text, Change, edit, result, Verdict, good, bad, outstanding, Source, Serving, Sources, EditAnswer, job, same, removed, edit_refused, has_text, text_length, total_of, numbered, answer_for, edit_answer, text_or_none, after_edit, ResultAnswer, serve, refuse, late, is_outstanding, is_awaited, answer_of, result_answer, after_result, sources_after}
 use Rattle.core_model.specs.LookBack.{counts, counted_edits, edited_last, last_edit, good_left, good_last, last_good, source_edit}
 use Rattle.core_model.proofs.Naming.{same_true, both_true}
 use Rattle.core_model.proofs.Tables.{both_ways, at_without, at_with_row}
@@ -17,25 +17,25 @@ abbrev IsNext : ℕ → EditAnswer → Type 0
 IsNext counted (job v) = v ≡ counted + 1
 IsNext counted same = ⊤
 IsNext counted (removed v) = v ≡ counted + 1
-IsNext counted (refused w) = ⊤
+IsNext counted (edit_refused w) = ⊤
 
 next_if : (counted : ℕ) (b : Bool) (x y : EditAnswer) → IsNext counted x → IsNext counted y → IsNext counted (if b then x else y)
 next_if counted true x y p q = p
 next_if counted false x y p q = q
 
 answer_next : (old : Option Source) (s : Sources) (t : Option Text) → IsNext s.counted (answer_for old s t)
-answer_next old s None = next_if s.counted (is_some old) (numbered removed s.counted) same (next_if s.counted (nat_le LARGEST_NUMBER s.counted) (refused _) (removed (s.counted + 1)) tt refl) tt
-answer_next old s (Some t) = next_if s.counted (nat_lt TEXT_BYTES (length t)) (refused _) _ tt
+answer_next old s None = next_if s.counted (is_some old) (numbered removed s.counted) same (next_if s.counted (nat_le LARGEST_NUMBER s.counted) (edit_refused _) (removed (s.counted + 1)) tt refl) tt
+answer_next old s (Some t) = next_if s.counted (nat_lt TEXT_BYTES (length t)) (edit_refused _) _ tt
     (next_if s.counted (has_text old t) same _ tt
-    (next_if s.counted (not (is_some old) && nat_le SOURCE_NAMES (length s.current)) (refused _) _ tt
-    (next_if s.counted (nat_lt SOURCE_BYTES ((total_of s - text_length old) + length t)) (refused _) _ tt
-    (next_if s.counted (nat_le LARGEST_NUMBER s.counted) (refused _) (job (s.counted + 1)) tt refl))))
+    (next_if s.counted (not (is_some old) && nat_le SOURCE_NAMES (length s.current)) (edit_refused _) _ tt
+    (next_if s.counted (nat_lt SOURCE_BYTES ((total_of s - text_length old) + length t)) (edit_refused _) _ tt
+    (next_if s.counted (nat_le LARGEST_NUMBER s.counted) (edit_refused _) (job (s.counted + 1)) tt refl))))
 
 edit_counts : (answer : EditAnswer) (n : Name) (t : Option Text) (s : Sources) → IsNext s.counted answer → (after_edit answer n t s).counted ≡ s.counted + counts answer
 edit_counts (job v) n t s h = h
 edit_counts same n t s h = omega arith
 edit_counts (removed v) n t s h = h
-edit_counts (refused w) n t s h = omega arith
+edit_counts (edit_refused w) n t s h = omega arith
 
 result_counts : (answer : ResultAnswer) (n : Name) (t : Text) (v : ℕ) (s : Sources) → (after_result answer n t v s).counted ≡ s.counted
 result_counts (serve a) n t v s = refl
@@ -63,7 +63,7 @@ after_edit_is : (answer : EditAnswer) (m : Name) (t : Option Text) (s : Sources)
 after_edit_is (job v) m t s n e h = ap source_edit (at_with_row m (record { version = v; text = text_or_none t; verdict = outstanding }) s.current n) ∙ edit_if (same_name m n) (record { version = v; text = text_or_none t; verdict = outstanding }) (at s.current n) e h
 after_edit_is same m t s n e h = h ∙ both_ways (same_name m n) e
 after_edit_is (removed v) m t s n e h = ap source_edit (at_without m s.current n) ∙ none_if (same_name m n) (at s.current n) e h
-after_edit_is (refused w) m t s n e h = h ∙ both_ways (same_name m n) e
+after_edit_is (edit_refused w) m t s n e h = h ∙ both_ways (same_name m n) e
 
 -- a result that isn't late is of the current source
 abbrev IsOf : Option (ℕ × Text) → ResultAnswer → Text → ℕ → Type 0
@@ -111,7 +111,7 @@ served_edit : (answer : EditAnswer) (m : Name) (t : Option Text) (s : Sources) (
 served_edit (job v) m t s n e h = h ∙ both_ways (same_name m n) e
 served_edit same m t s n e h = h ∙ both_ways (same_name m n) e
 served_edit (removed v) m t s n e h = at_without m s.served n ∙ if_same (same_name m n) None (at s.served n) e h
-served_edit (refused w) m t s n e h = h ∙ both_ways (same_name m n) e
+served_edit (edit_refused w) m t s n e h = h ∙ both_ways (same_name m n) e
 
 served_result : (answer : ResultAnswer) (m : Name) (t : Text) (v : ℕ) (s : Sources) (n : Name) (e : Option Serving) → at s.served n ≡ e → at (after_result answer m t v s).served n ≡ (if same_name m n then good_last answer t v e else e)
 served_result (serve a) m t v s n e h = at_with_row m (record { version = v; text = t; analysis = a }) s.served n ∙ if_same (same_name m n) (Some (record { version = v; text = t; analysis = a })) (at s.served n) e h

@@ -7,7 +7,7 @@ use Rattle.std.proofs.lemmas.Bool.{false≢true}
 use Rattle.core_model.specs.Names.{Name, same_name, has, at, names_of, sorted, with_entry, collect}
 use Rattle.core_model.specs.Rounds.{reached_of}
 use Rattle.core_model.specs.Sources.{Text, Serving}
-use Rattle.core_model.specs.FreshLoad.{Served, imports, imported_of, reached_by, version_in, fresh_table, missing_of, linked_from, unlinked_edge, unlinked_module, unlinked_of}
+use Rattle.core_model.specs.FreshLoad.{Served, imports, imported_by_served, reached_by, version_in, fresh_table, missing_of, linked_from, unlinked_edge, unlinked_module, unlinked_of}
 use Rattle.core_model.specs.View.{View}
 use Rattle.core_model.specs.Spread.{is_pair, pairs_with, pairs_of}
 use Rattle.core_model.specs.Page.{Plan, entry_at, met_of, unfetched_of}
@@ -36,7 +36,7 @@ missing_is served roots n = (
 )
 
 pub missing_rise : (served : Served) (roots : List Name) → Rises IsBelow (missing_of served roots)
-missing_rise served roots = kept_rise (λ k. not (is_some (at served k))) (reached_by served roots) (names_rise (reached_by served roots) (sorted_rises (reached_of (imports served) (imported_of served) roots)))
+missing_rise served roots = kept_rise (λ k. not (is_some (at served k))) (reached_by served roots) (names_rise (reached_by served roots) (sorted_rises (reached_of (imports served) (imported_by_served served) roots)))
 
 pub unfetched_is : (roots : List Name) (p : Plan) (view : View) (n : Name) → Contains (unfetched_of roots p view) n ↔ IsUnfetched roots p view n
 unfetched_is roots p view n = (
@@ -206,7 +206,7 @@ module _ (links : Name → Text → List (Name × Name)) (served : Served) (root
   apart a b t u h c d = inl (subst (λ k. IsBelow k u.0) (sym (module_only links served a (at served a) t c).0) (subst (IsBelow a) (sym (module_only links served b (at served b) u d).0) h))
 
   pub unlinked_rise : Rises IsTripleBelow (unlinked_of links served roots)
-  unlinked_rise = all_rise IsBelow IsTripleBelow modules (λ n. module_rise links served n (at served n)) apart (reached_by served roots) (names_rise (reached_by served roots) (sorted_rises (reached_of (imports served) (imported_of served) roots)))
+  unlinked_rise = all_rise IsBelow IsTripleBelow modules (λ n. module_rise links served n (at served n)) apart (reached_by served roots) (names_rise (reached_by served roots) (sorted_rises (reached_of (imports served) (imported_by_served served) roots)))
 
 -- The fresh load's table.
 

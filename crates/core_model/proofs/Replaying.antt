@@ -4,7 +4,7 @@ use Rattle.std.proofs.Common.{◌≡◌, ℕ, Bool, true, false, List, [], ◌�
 use Rattle.std.specs.Prelude.{Option, Some, None}
 use Rattle.std.proofs.lemmas.List.{reverse-append}
 use Rattle.core_model.specs.Names.{Name}
-use Rattle.core_model.specs.Sources.{changed_by, sources_after, Sources, Change, edit, result, EditAnswer, job, same, removed, refused, edit_answer, ResultAnswer, serve, refuse, late, result_answer}
+use Rattle.core_model.specs.Sources.{changed_by, sources_after, Sources, Change, edit, result, EditAnswer, job, same, removed, edit_refused, edit_answer, ResultAnswer, serve, refuse, late, result_answer}
 use Rattle.core_model.specs.Client.{Client, told_of_edit, told_of_result}
 use Rattle.core_model.specs.Requests.{Request}
 use Rattle.core_model.specs.Roots.{are_bad, roots_or}
@@ -41,7 +41,7 @@ edit_same : (answer : EditAnswer) (n : Name) (c : Client) → (told_of_edit answ
 edit_same (job v) n c = refl
 edit_same same n c = refl
 edit_same (removed v) n c = refl
-edit_same (refused w) n c = refl
+edit_same (edit_refused w) n c = refl
 
 result_same : (answer : ResultAnswer) (n : Name) (c : Client) → (told_of_result answer n c).page ≡ c.page
 result_same (serve a) n c = refl

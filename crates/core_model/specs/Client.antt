@@ -4,7 +4,7 @@ use Rattle.hmr_types.specs.declared.limits.TheConstants.{LARGEST_NUMBER}
 use Rattle.hmr_types.specs.declared.analysis.TextFault.{TextFault}
 use Rattle.core_model.specs.Names.{Name, at, with_row, without, names_of, sorted, first_of}
 use Rattle.core_model.specs.Page.{Page, new_page}
-use Rattle.core_model.specs.Sources.{Sources, EditAnswer, job, same, removed, refused, ResultAnswer, serve, refuse, late}
+use Rattle.core_model.specs.Sources.{Sources, EditAnswer, job, same, removed, edit_refused, ResultAnswer, serve, refuse, late}
 use Rattle.core_model.specs.View.{changed_of, dropped_of}
 use Rattle.core_model.specs.Spread.{reason_of, replaced_of, pairs_of}
 
@@ -79,7 +79,7 @@ abbrev pub told_of_edit : EditAnswer → Name → Client → Client
 told_of_edit (job v) n c = c
 told_of_edit same n c = c
 told_of_edit (removed v) n c = without_notice n c
-told_of_edit (refused w) n c = c
+told_of_edit (edit_refused w) n c = c
 
 -- what a result for n is to each client: a good one takes its notice away, a bad one gives one
 abbrev pub told_of_result : ResultAnswer → Name → Client → Client

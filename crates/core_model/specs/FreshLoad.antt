@@ -18,12 +18,12 @@ abbrev pub imports : Served → Name → Name → Bool
 imports served n m = has (imports_in (at served n)) m
 
 -- all names that served sources import
-abbrev pub imported_of : Served → List Name
-imported_of served = flat_map (λ row. row.1.analysis.imports) served
+abbrev pub imported_by_served : Served → List Name
+imported_by_served served = flat_map (λ row. row.1.analysis.imports) served
 
 -- the names that lists of imports reach from the roots, each once, rising by bytes
 abbrev pub reached_by : Served → List Name → List Name
-reached_by served roots = sorted (reached_of (imports served) (imported_of served) roots)
+reached_by served roots = sorted (reached_of (imports served) (imported_by_served served) roots)
 
 -- the version that is served
 abbrev pub version_in : Option Serving → Option ℕ

@@ -2,14 +2,14 @@
 -- last good result with no removal after it.
 use Rattle.std.specs.Prelude.{ℕ, ◌+◌, List, [], ◌∷◌, Option, Some, None, if◌then◌else◌}
 use Rattle.core_model.specs.Names.{Name, same_name}
-use Rattle.core_model.specs.Sources.{Text, Change, edit, result, Source, Serving, EditAnswer, job, same, removed, refused, edit_answer, text_or_none, ResultAnswer, serve, refuse, late, result_answer, sources_after}
+use Rattle.core_model.specs.Sources.{Text, Change, edit, result, Source, Serving, EditAnswer, job, same, removed, edit_refused, edit_answer, text_or_none, ResultAnswer, serve, refuse, late, result_answer, sources_after}
 
 -- 1 for an edit that is counted, 0 for another
 abbrev pub counts : EditAnswer → ℕ
 counts (job v) = 1
 counts same = 0
 counts (removed v) = 1
-counts (refused w) = 0
+counts (edit_refused w) = 0
 
 -- how many edits were counted
 abbrev pub counted_edits : List Change → ℕ
@@ -23,7 +23,7 @@ abbrev pub edited_last : EditAnswer → Option Text → Option (ℕ × Text) →
 edited_last (job v) t before = Some (v, text_or_none t)
 edited_last same t before = before
 edited_last (removed v) t before = None
-edited_last (refused w) t before = before
+edited_last (edit_refused w) t before = before
 
 -- the last counted edit of n: its number and its text, none where it is a removal or there is none
 abbrev pub last_edit : List Change → Name → Option (ℕ × Text)
@@ -36,7 +36,7 @@ abbrev pub good_left : EditAnswer → Option Serving → Option Serving
 good_left (job v) before = before
 good_left same before = before
 good_left (removed v) before = None
-good_left (refused w) before = before
+good_left (edit_refused w) before = before
 
 -- a good result that isn't late comes in place of the one before it
 abbrev pub good_last : ResultAnswer → Text → ℕ → Option Serving → Option Serving

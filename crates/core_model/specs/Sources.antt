@@ -49,7 +49,7 @@ pub data EditAnswer : Type 0 where
   job : ℕ → EditAnswer
   same : EditAnswer
   removed : ℕ → EditAnswer
-  refused : EditRefusal → EditAnswer
+  edit_refused : EditRefusal → EditAnswer
 
 abbrev pub has_text : Option Source → Text → Bool
 has_text None t = false
@@ -65,16 +65,16 @@ total_of s = sum_by (λ row. length row.1.text) s.current
 
 -- the next number, or a refusal where all numbers are given
 abbrev pub numbered : (ℕ → EditAnswer) → ℕ → EditAnswer
-numbered answer counted = if nat_le LARGEST_NUMBER counted then refused NumbersSpent else answer (counted + 1)
+numbered answer counted = if nat_le LARGEST_NUMBER counted then edit_refused NumbersSpent else answer (counted + 1)
 
 -- the rows of the table of edits, in their order, for the name's old source
 abbrev pub answer_for : Option Source → Sources → Option Text → EditAnswer
 answer_for old s None = if is_some old then numbered removed s.counted else same
 answer_for old s (Some t) =
-    if nat_lt TEXT_BYTES (length t) then refused TextTooLong else (
+    if nat_lt TEXT_BYTES (length t) then edit_refused TextTooLong else (
     if has_text old t then same else (
-    if not (is_some old) && nat_le SOURCE_NAMES (length s.current) then refused TooManyNames else (
-    if nat_lt SOURCE_BYTES ((total_of s - text_length old) + length t) then refused SourceTotal else
+    if not (is_some old) && nat_le SOURCE_NAMES (length s.current) then edit_refused TooManyNames else (
+    if nat_lt SOURCE_BYTES ((total_of s - text_length old) + length t) then edit_refused SourceTotal else
     numbered job s.counted)))
 
 abbrev pub edit_answer : Sources → Name → Option Text → EditAnswer
@@ -89,7 +89,7 @@ abbrev pub after_edit : EditAnswer → Name → Option Text → Sources → Sour
 after_edit (job v) n t s = record s { counted = v; current = with_row n (record { version = v; text = text_or_none t; verdict = outstanding }) s.current }
 after_edit (removed v) n t s = record s { counted = v; current = without n s.current; served = without n s.served; served_no = s.served_no + 1 }
 after_edit same n t s = s
-after_edit (refused w) n t s = s
+after_edit (edit_refused w) n t s = s
 
 -- what a result answers
 pub data ResultAnswer : Type 0 where

@@ -18,11 +18,11 @@ abbrev pub most_bytes : ℕ
 most_bytes = 268_435_456
 
 -- an event, and the number of the pass that made it
-abbrev pub Entry : Type 0
-Entry = ℕ × Event
+abbrev pub Recorded : Type 0
+Recorded = ℕ × Event
 
 -- the events alone
-abbrev pub events_of : List Entry → List Event
+abbrev pub events_of : List Recorded → List Event
 events_of entries = map (λ entry. entry.1) entries
 
 -- the bytes of the names of a request
@@ -42,7 +42,7 @@ event_bytes (request i r) = request_bytes r
 event_bytes (disconnect i) = 0
 
 -- 64 bytes for each entry, and those of its event
-abbrev pub transcript_bytes : List Entry → ℕ
+abbrev pub transcript_bytes : List Recorded → ℕ
 transcript_bytes entries = sum_by (λ entry. 64 + event_bytes entry.1) entries
 
 -- a result that comes is the one that transforming its text gives
@@ -54,7 +54,7 @@ IsTrueEvent transformed (request i r) = ⊤
 IsTrueEvent transformed (disconnect i) = ⊤
 
 -- a transcript that a core with these roots can have: its events are well formed, and its results true
-pub record IsLegal (transformed : Name → Text → Outcome) (roots : List Name) (entries : List Entry) : Type 0 where
+pub record IsLegal (transformed : Name → Text → Outcome) (roots : List Name) (entries : List Recorded) : Type 0 where
   pub roots_are : AreRoots roots
   pub formed : All IsFormed (events_of entries)
   pub results : All (IsTrueEvent transformed) (events_of entries)
@@ -62,5 +62,5 @@ pub record IsLegal (transformed : Name → Text → Outcome) (roots : List Name)
   pub small : transcript_bytes entries ≤ most_bytes
 
 -- the reply at a place: the step's, after what stands before it
-abbrev pub reply_after : List Name → List Entry → Event → Reply
+abbrev pub reply_after : List Name → List Recorded → Event → Reply
 reply_after roots before event = (step roots (replay roots (events_of before)) event).1

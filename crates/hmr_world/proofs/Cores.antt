@@ -5,7 +5,7 @@ use Rattle.std.specs.declared.alloc.AllocError.{AllocError}
 use Rattle.core_model.specs.Core as model
 use Rattle.core_model.specs.Core.{core_after, step}
 use Rattle.core_model.specs.Requests as requests
-use Rattle.core_model.specs.Sources.{EditAnswer, job, same, removed, refused, ResultAnswer, serve, refuse, late}
+use Rattle.core_model.specs.Sources.{EditAnswer, job, same, removed, edit_refused, ResultAnswer, serve, refuse, late}
 use Rattle.output_lines.specs.declared.out_line.OutLine.TheVariants as line
 use Rattle.core_model.specs.Names.{Name}
 use Rattle.world_model.specs.Editing.{settle_line}
@@ -48,7 +48,7 @@ pub answer_said : (answer : EditAnswer) → answer_in (said (requests.edited ans
 answer_said (job v) = refl
 answer_said same = refl
 answer_said (removed v) = refl
-answer_said (refused word) = refl
+answer_said (edit_refused word) = refl
 
 pub word_said : (answer : ResultAnswer)
     → word_in (said (requests.settled answer)) ≡ Some (settled_word (settled_as answer))
@@ -64,7 +64,7 @@ pub message_said : (reply : requests.Reply) → message_in (said reply) ≡ mess
 message_said (requests.edited (job v)) = refl
 message_said (requests.edited same) = refl
 message_said (requests.edited (removed v)) = refl
-message_said (requests.edited (refused word)) = refl
+message_said (requests.edited (edit_refused word)) = refl
 message_said (requests.settled answer) = refl
 message_said (requests.to_client m) = refl
 message_said (requests.refused refusal) = refl

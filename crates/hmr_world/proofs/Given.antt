@@ -8,7 +8,7 @@ use Rattle.output_lines.specs.declared.out_line.OutLine.{OutLine}
 use Rattle.output_lines.specs.declared.out_line.OutLine.TheVariants as line
 use Rattle.output_lines.specs.declared.words.SettleWord.TheVariants as words
 use Rattle.core_model.specs.Names.{Name}
-use Rattle.core_model.specs.Sources.{Text, Sources, edit, result, EditAnswer, job, same, removed, refused, edit_answer, result_answer}
+use Rattle.core_model.specs.Sources.{Text, Sources, edit, result, EditAnswer, job, same, removed, edit_refused, edit_answer, result_answer}
 use Rattle.core_model.specs.Core.{change, step}
 use Rattle.module_language.specs.ModuleLanguage.{module_language}
 use Rattle.version_map.specs.Standing.{settled_as}
@@ -34,7 +34,7 @@ pub are_below : (answer : EditAnswer) (n : Name) (t : Text) (s : Sources) (jobs 
 are_below (job v) n t s jobs e h = below_all s.counted v jobs (edit_counts n t s v e) h
 are_below same n t s jobs e h = tt
 are_below (removed v) n t s jobs e h = tt
-are_below (refused word) n t s jobs e h = tt
+are_below (edit_refused word) n t s jobs e h = tt
 
 module _ {F : Type 0} (run : Run) (n : Name) (old new : World F) (stands : StandsFor run old) (roots : new.core.roots ≡ old.core.roots) (clients : new.clients.items ≡ old.clients.items) (shelves : new.shelves.items ≡ old.shelves.items) where
   -- an edit that gave a text

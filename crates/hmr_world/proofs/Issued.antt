@@ -9,7 +9,7 @@ use Rattle.hmr_types.specs.declared.words.EditRefusal.TheVariants.{TextTooLong, 
 use Rattle.update_msgs.specs.declared.message.ClientMsg.{ClientMsg}
 use Rattle.update_msgs.specs.declared.message.ClientMsg.TheVariants as told
 use Rattle.core_model.specs.Names.{Name, at}
-use Rattle.core_model.specs.Sources.{Text, Source, Sources, EditAnswer, job, same, removed, refused, ResultAnswer, serve, refuse, late, has_text, text_length, total_of, answer_for, edit_answer, result_answer, after_edit, after_result}
+use Rattle.core_model.specs.Sources.{Text, Source, Sources, EditAnswer, job, same, removed, edit_refused, ResultAnswer, serve, refuse, late, has_text, text_length, total_of, answer_for, edit_answer, result_answer, after_edit, after_result}
 use Rattle.core_model.specs.Client.{Client}
 use Rattle.core_model.specs.Requests.{Request, Reply}
 use Rattle.core_model.specs.Core.{Core, connect, disconnect, step, connected, if_room, is_full, requested, disconnected, client_at}
@@ -44,20 +44,20 @@ abbrev version_or : ℕ → EditAnswer → ℕ
 version_or counted (job v) = v
 version_or counted same = counted
 version_or counted (removed v) = v
-version_or counted (refused word) = counted
+version_or counted (edit_refused word) = counted
 
 counted_is : (answer : EditAnswer) (n : Name) (t : Option Text) (s : Sources) → (after_edit answer n t s).counted ≡ version_or s.counted answer
 counted_is (job v) n t s = refl
 counted_is same n t s = refl
 counted_is (removed v) n t s = refl
-counted_is (refused word) n t s = refl
+counted_is (edit_refused word) n t s = refl
 
-removed_if : (a b : Bool) (word : EditRefusal) (k : ℕ) → k ≤ version_or k (if a then (if b then refused word else removed (k + 1)) else same)
+removed_if : (a b : Bool) (word : EditRefusal) (k : ℕ) → k ≤ version_or k (if a then (if b then edit_refused word else removed (k + 1)) else same)
 removed_if true true word k = omega arith
 removed_if true false word k = omega arith
 removed_if false b word k = omega arith
 
-given_if : (a b c d e : Bool) (w x y z : EditRefusal) (k : ℕ) → k ≤ version_or k (if a then refused w else (if b then same else (if c then refused x else (if d then refused y else (if e then refused z else job (k + 1))))))
+given_if : (a b c d e : Bool) (w x y z : EditRefusal) (k : ℕ) → k ≤ version_or k (if a then edit_refused w else (if b then same else (if c then edit_refused x else (if d then edit_refused y else (if e then edit_refused z else job (k + 1))))))
 given_if true b c d e w x y z k = omega arith
 given_if false true c d e w x y z k = omega arith
 given_if false false true d e w x y z k = omega arith
@@ -74,21 +74,21 @@ abbrev is_a_job : EditAnswer → Bool
 is_a_job (job v) = true
 is_a_job same = false
 is_a_job (removed v) = false
-is_a_job (refused word) = false
+is_a_job (edit_refused word) = false
 
-short_if : (a : Bool) (w : EditRefusal) (rest : EditAnswer) → is_a_job (if a then refused w else rest) ≡ true → a ≡ false
+short_if : (a : Bool) (w : EditRefusal) (rest : EditAnswer) → is_a_job (if a then edit_refused w else rest) ≡ true → a ≡ false
 short_if true w rest h = absurd (false≢true h)
 short_if false w rest h = refl
 
 short_text : (old : Option Source) (s : Sources) (t : Text) → is_a_job (answer_for old s (Some t)) ≡ true → length t ≤ TEXT_BYTES
-short_text old s t h = ltb-false TEXT_BYTES (length t) (short_if (nat_lt TEXT_BYTES (length t)) TextTooLong (if has_text old t then same else (if not (is_some old) && nat_le SOURCE_NAMES (length s.current) then refused TooManyNames else (if nat_lt SOURCE_BYTES ((total_of s - text_length old) + length t) then refused SourceTotal else (if nat_le LARGEST_NUMBER s.counted then refused NumbersSpent else job (s.counted + 1))))) h)
+short_text old s t h = ltb-false TEXT_BYTES (length t) (short_if (nat_lt TEXT_BYTES (length t)) TextTooLong (if has_text old t then same else (if not (is_some old) && nat_le SOURCE_NAMES (length s.current) then edit_refused TooManyNames else (if nat_lt SOURCE_BYTES ((total_of s - text_length old) + length t) then edit_refused SourceTotal else (if nat_le LARGEST_NUMBER s.counted then edit_refused NumbersSpent else job (s.counted + 1))))) h)
 
 edit_issued : (answer : EditAnswer) (n : Name) (t : Option Text) (s : Sources) (jobs : List Job) → edit_answer s n t ≡ answer → AreIssued s.counted jobs → AreIssued (after_edit answer n t s).counted (with_job n t answer jobs)
 edit_issued answer n None s jobs e h = more_counted _ _ (subst (λ k. s.counted ≤ k) (sym (counted_is answer n None s)) (subst (λ a. s.counted ≤ version_or s.counted a) e (counts_up _ s None))) jobs h
 edit_issued (job v) n (Some t) s jobs e h = (record { given = omega arith; short = short_text _ s t (ap is_a_job e) }, more_counted _ _ (subst (λ a. s.counted ≤ version_or s.counted a) e (counts_up _ s (Some t))) jobs h)
 edit_issued same n (Some t) s jobs e h = h
 edit_issued (removed v) n (Some t) s jobs e h = more_counted _ _ (subst (λ a. s.counted ≤ version_or s.counted a) e (counts_up _ s (Some t))) jobs h
-edit_issued (refused word) n (Some t) s jobs e h = h
+edit_issued (edit_refused word) n (Some t) s jobs e h = h
 
 result_counted : (answer : ResultAnswer) (n : Name) (t : Text) (v : ℕ) (s : Sources) → (after_result answer n t v s).counted ≡ s.counted
 result_counted (serve a) n t v s = refl
@@ -182,7 +182,7 @@ are_issued language roots shelves [] = tt
 are_issued language roots shelves (s ∷ past) = next_order language roots shelves (world_after language roots shelves past) s (are_issued language roots shelves past)
 
 -- a job gets the next version
-version_if : (a b c d e : Bool) (w x y z : EditRefusal) (k v : ℕ) → (if a then refused w else (if b then same else (if c then refused x else (if d then refused y else (if e then refused z else job (k + 1)))))) ≡ job v → v ≡ k + 1
+version_if : (a b c d e : Bool) (w x y z : EditRefusal) (k v : ℕ) → (if a then edit_refused w else (if b then same else (if c then edit_refused x else (if d then edit_refused y else (if e then edit_refused z else job (k + 1)))))) ≡ job v → v ≡ k + 1
 version_if true b c d e w x y z k v h = absurd (false≢true (ap is_a_job h))
 version_if false true c d e w x y z k v h = absurd (false≢true (ap is_a_job h))
 version_if false false true d e w x y z k v h = absurd (false≢true (ap is_a_job h))

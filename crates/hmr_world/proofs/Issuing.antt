@@ -6,7 +6,7 @@ use Rattle.std.specs.declared.alloc.AllocError.{AllocError}
 use Rattle.std.proofs.Math.Path.{subst}
 use Rattle.std.proofs.lemmas.Bool.{false≢true}
 use Rattle.core_model.specs.Names.{Name}
-use Rattle.core_model.specs.Sources.{Text, EditAnswer, job, same, removed, refused}
+use Rattle.core_model.specs.Sources.{Text, EditAnswer, job, same, removed, edit_refused}
 use Rattle.world_model.specs.World.{Job}
 use Rattle.world_model.specs.Editing.{with_job}
 use Rattle.hmr_world.specs.Jobs.{AreBelow}
@@ -21,10 +21,10 @@ issued_one (job w) v n copy t old new result e same_name f below =
     subst (λ k. OnOk result (new ≡ record { name = n; version = k; text = t } ∷ old)) (sym at) (made_one v n copy t old new result same_name (f (subst (λ k. AllByRecursion (λ (j : Job). j.version < k) old) at below)))
 issued_one same v n copy t old new result e same_name f below = absurd (false≢true (ap is_some e))
 issued_one (removed w) v n copy t old new result e same_name f below = absurd (false≢true (ap is_some e))
-issued_one (refused word) v n copy t old new result e same_name f below = absurd (false≢true (ap is_some e))
+issued_one (edit_refused word) v n copy t old new result e same_name f below = absurd (false≢true (ap is_some e))
 
 pub issued_none : (answer : EditAnswer) (n : Name) (t : Text) (old : List Job) → job_in answer ≡ None → old ≡ with_job n (Some t) answer old
 issued_none (job w) n t old e = absurd (false≢true (ap is_some (sym e)))
 issued_none same n t old e = refl
 issued_none (removed w) n t old e = refl
-issued_none (refused word) n t old e = refl
+issued_none (edit_refused word) n t old e = refl

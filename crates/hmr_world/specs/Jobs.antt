@@ -3,7 +3,7 @@ use Rattle.std.specs.Prelude.{◌<◌, ◌≤◌, ℕ, ⊤, List, [], ◌∷◌,
 use Rattle.std.specs.List.{AllByRecursion}
 use Rattle.hmr_types.specs.declared.limits.TheConstants.{TEXT_BYTES}
 use Rattle.core_model.specs.Names.{Name}
-use Rattle.core_model.specs.Sources.{EditAnswer, job, same, removed, refused}
+use Rattle.core_model.specs.Sources.{EditAnswer, job, same, removed, edit_refused}
 use Rattle.world_model.specs.World as model
 use Rattle.hmr_world.specs.declared.jobs.Job.{Job}
 
@@ -35,4 +35,4 @@ abbrev pub AreBelow : EditAnswer → List model.Job → Type 0
 AreBelow (job v) jobs = AllByRecursion (λ j. j.version < v) jobs
 AreBelow same jobs = ⊤
 AreBelow (removed v) jobs = ⊤
-AreBelow (refused word) jobs = ⊤
+AreBelow (edit_refused word) jobs = ⊤

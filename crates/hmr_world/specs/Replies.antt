@@ -4,7 +4,7 @@ use Rattle.output_lines.specs.declared.words.SettleWord.{SettleWord}
 use Rattle.output_lines.specs.declared.words.SettleWord.TheVariants as words
 use Rattle.update_msgs.specs.declared.message.ServerMsg.{ServerMsg}
 use Rattle.update_msgs.specs.declared.message.ServerMsg.TheVariants as msg
-use Rattle.core_model.specs.Sources.{EditAnswer, job, same, removed, refused}
+use Rattle.core_model.specs.Sources.{EditAnswer, job, same, removed, edit_refused}
 use Rattle.core_model.specs.Exchange.{refusal_message}
 use Rattle.version_map.specs.declared.outcome.EditOutcome.{EditOutcome}
 use Rattle.version_map.specs.declared.outcome.EditOutcome.TheVariants as edits
@@ -22,7 +22,7 @@ outcome_as (edits.Removed v) = removed v
 -- the answer to an edit; no other reply has one
 abbrev pub answer_in : Reply → Option EditAnswer
 answer_in (replies.Edited outcome) = Some (outcome_as outcome)
-answer_in (replies.EditRefused refusal) = Some (refused refusal)
+answer_in (replies.EditRefused refusal) = Some (edit_refused refusal)
 answer_in (replies.Settled settled) = None
 answer_in (replies.To message) = None
 answer_in (replies.Refused refusal) = None
@@ -33,7 +33,7 @@ abbrev pub job_in : EditAnswer → Option ℕ
 job_in (job v) = Some v
 job_in same = None
 job_in (removed v) = None
-job_in (refused word) = None
+job_in (edit_refused word) = None
 
 -- what became of a result
 abbrev pub settled_word : Settled → SettleWord

@@ -35,7 +35,7 @@ use Rattle.page_deeds.specs.Tellings.{told}
 use Rattle.page_deeds.proofs.Each.{stand_kept}
 use Rattle.page_deeds.proofs.Following.{follows_as, follows_nothing, follows_then}
 use Rattle.page_deeds.proofs.Order.{live_named, live_numbered}
-use Rattle.hot_runtime.specs.Applying.{AreMade, HasChanged, IsUpdate, changed_by}
+use Rattle.hot_runtime.specs.Applying.{AreMade, HasChanged, IsUpdate, page_done}
 use Rattle.hot_runtime.specs.declared.changing.Update.{Update}
 use Rattle.hot_runtime.proofs.Applied.{HaveNumbers, SameLive, births_counted, drops_counted, made_counted, news_live, others_live, reload_counted, replaced_counted, same_live, told_all}
 use Rattle.hot_runtime.proofs.Counting.{IsCounted}
@@ -158,7 +158,7 @@ module _ (r : Runtime) (p : Plan) where
 
 -- a load
 pub loaded_changed : {F : Type 0} (r : Runtime) (p : Plan) (made : List Birth) (a c : Page F) (l l2 : List OutLine) → StandsFor r a → p.kind ≡ plan_kind.Load → AreMade r p a made
-    → FollowsBirths made a c l l2 → HasChanged (changed_by plan_kind.Load p r) r p a c l l2
+    → FollowsBirths made a c l l2 → HasChanged (page_done plan_kind.Load p r) r p a c l l2
 loaded_changed r p made a c l l2 s is m follows =
     has_changed r p plan_kind.Load made nothing a a c c c l l l2 l2 l2 s m (follows_nothing a l)
     (makes_followed r p made a a c l l2 m refl (λ n h. m.loads is n) follows) (follows_nothing c l2) (follows_nothing c l2) (λ k. k) (λ k. k) (λ n old none. m.loads is n)
@@ -166,7 +166,7 @@ loaded_changed r p made a c l l2 s is m follows =
 -- a reload
 pub reloaded_changed : {F : Type 0} (r : Runtime) (p : Plan) (made : List Birth) (a b c : Page F) (l l2 : List OutLine) → StandsFor r a → AreMade r p a made
     → length b.instances.items ≡ length a.instances.items → Follows reload_all a b l l → ((n : Name) → number_of b.live n ≡ None) → FollowsBirths made b c l l2
-    → HasChanged (changed_by plan_kind.Reload p r) r p a c l l2
+    → HasChanged (page_done plan_kind.Reload p r) r p a c l l2
 reloaded_changed r p made a b c l l2 s m count ended gone follows =
     has_changed r p plan_kind.Reload made reload_all a b c c c l l l2 l2 l2 s m ended
     (makes_followed r p made a b c l l2 m count (λ n h. gone n) follows) (follows_nothing c l2) (follows_nothing c l2) (reload_counted r) (λ k. k) (λ n old none. gone n)
@@ -216,7 +216,7 @@ module _ (r : Runtime) (p : Plan) (u : Update) (is : IsUpdate r p u) where
       → ((n : Name) → has u.replaced n ≡ true → number_of b.live n ≡ None) → ((n : Name) → number_of a.live n ≡ None → number_of b.live n ≡ None)
       → StandAt a places (live_of (has u.replaced) r)
       → FollowsBirths made b c l1 l2 → Follows (for_each told u.rows.items) c d l2 l3 → FollowsEach (λ i x. drop_each is_held i.number x) places d e l3 l3
-      → HasChanged (changed_by plan_kind.Update p r) r p a e l l3
+      → HasChanged (page_done plan_kind.Update p r) r p a e l l3
   updated_changed made a b c d e l l1 l2 l3 places s m count ended gone fewer stand births_follow rows_follow drops_follow =
       has_changed r p plan_kind.Update made replaces a b c d e l l1 l2 l3 l3 s m ended mades tolds
       (drops_follow.each (live_of test r) (stand_kept a d all_names places (live_of test r)

@@ -30,7 +30,7 @@ use Rattle.page_deeds.specs.declared.page.Page.{Page}
 use Rattle.page_deeds.specs.Live.{number_of}
 use Rattle.page_deeds.specs.Standing as deeds
 use Rattle.page_deeds.proofs.Following.{lines_then}
-use Rattle.hot_runtime.specs.Applying.{AreCountedIn, AreMade, AreNumbers, HasChanged, IsMadeOf, IsToApply, changed_by, planless}
+use Rattle.hot_runtime.specs.Applying.{AreCountedIn, AreMade, AreNumbers, HasChanged, IsMadeOf, IsToApply, page_done, planless}
 use Rattle.hot_runtime.specs.Becoming.{Becomes}
 use Rattle.hot_runtime.specs.Standing.{HasRoom, count_in, count_of, AreCounted, IsPlan, IsPlanned, IsPlannedWell, IsSound, Keeps}
 use Rattle.hot_runtime.specs.UnderWay.{IsNext, IsUnderWay, is_applied_told}
@@ -193,7 +193,7 @@ abbrev pub turned : {F : Type 0} → HotRuntime F → Page F → View → Vec Na
 turned h page view forced = record h { page = page; view = view; loaded = true; forced = forced }
 
 pub finished : {F : Type 0} (r : Runtime) (p kept : Plan) (h : HotRuntime F) (page : Page F) (view : View) (forced : Vec Name) (ready : Ready) (trees : List (Name × Module)) (pairs : List (Name × Name)) (began tells : List OutLine)
-    → Keeps (planless r) h → IsSound h → IsToApply r p kept ready trees pairs → HasChanged (changed_by p.kind p r) r p h.page page [] began
+    → Keeps (planless r) h → IsSound h → IsToApply r p kept ready trees pairs → HasChanged (page_done p.kind p r) r p h.page page [] began
     → view ≡ ready.view → forced.items ≡ [] → tells ≡ began ++ line.Applied page.client kept.kind ∷ []
     → Becomes (apply module_language p r) (turned h page view forced) tells
 finished {F} r p kept h page view forced ready trees pairs began tells k s t changed viewed none told =
@@ -217,19 +217,19 @@ finished {F} r p kept h page view forced ready trees pairs began tells k s t cha
       view = ap (λ z. new_view z.roots p z.page.view) changed.elsewhere ∙ sym whole;
       forced = sym none;
       plan = no_plan (planless r) (apply module_language p r).0 h.plan k.plan;
-      page = still (changed_by p.kind p r).0 (applied (changed_by p.kind p r).0.roots p (changed_by p.kind p r).0.page) [] [] None page changed.stands;
+      page = still (page_done p.kind p r).0 (applied (page_done p.kind p r).0.roots p (page_done p.kind p r).0.page) [] [] None page changed.stands;
       stopped = ap (λ z. z.stopped) changed.elsewhere ∙ k.stopped;
     }
 
-    same_client : h.page.client ≡ (changed_by p.kind p r).0.client
+    same_client : h.page.client ≡ (page_done p.kind p r).0.client
     same_client = sym changed.client ∙ sym changed.stands.client
 
-    lines : began ++ line.Applied page.client kept.kind ∷ [] ≡ lines_of_all (changed_by p.kind p r).0.client (apply module_language p r).1
+    lines : began ++ line.Applied page.client kept.kind ∷ [] ≡ lines_of_all (page_done p.kind p r).0.client (apply module_language p r).1
     lines = ap (λ ls. ls ++ line.Applied page.client kept.kind ∷ []) changed.lines
-        ∙ ap (λ c. lines_of_all c (changed_by p.kind p r).1 ++ line.Applied page.client kept.kind ∷ []) same_client
-        ∙ ap (λ c. lines_of_all (changed_by p.kind p r).0.client (changed_by p.kind p r).1 ++ line.Applied c kept.kind ∷ []) (sym changed.stands.client)
-        ∙ ap (λ w. lines_of_all (changed_by p.kind p r).0.client (changed_by p.kind p r).1 ++ line.Applied (changed_by p.kind p r).0.client w ∷ []) t.plan.kind
-        ∙ sym (lines_then (changed_by p.kind p r).0.client (changed_by p.kind p r).1 (journal.told (line.Applied (changed_by p.kind p r).0.client p.kind) ∷ []))
+        ∙ ap (λ c. lines_of_all c (page_done p.kind p r).1 ++ line.Applied page.client kept.kind ∷ []) same_client
+        ∙ ap (λ c. lines_of_all (page_done p.kind p r).0.client (page_done p.kind p r).1 ++ line.Applied c kept.kind ∷ []) (sym changed.stands.client)
+        ∙ ap (λ w. lines_of_all (page_done p.kind p r).0.client (page_done p.kind p r).1 ++ line.Applied (page_done p.kind p r).0.client w ∷ []) t.plan.kind
+        ∙ sym (lines_then (page_done p.kind p r).0.client (page_done p.kind p r).1 (journal.told (line.Applied (page_done p.kind p r).0.client p.kind) ∷ []))
 
     on_page : (n : Name) → at view n ≡ None → number_of page.live n ≡ None
     on_page n gone = by (has (new_names p r) n) refl

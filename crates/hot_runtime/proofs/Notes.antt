@@ -4,7 +4,7 @@ use Rattle.std.proofs.lemmas.Bool.{false≢true}
 use Rattle.update_msgs.specs.declared.message.ClientMsg.{ClientMsg}
 use Rattle.update_msgs.specs.declared.message.ServerMsg.{ServerMsg}
 use Rattle.update_msgs.specs.declared.message.ServerMsg.TheVariants as msg
-use Rattle.client_model.specs.Answering.{answered, done, refused}
+use Rattle.client_model.specs.Answering.{answered, done, took_refusal}
 use Rattle.client_model.specs.Expecting.{answers_told}
 use Rattle.client_model.specs.Runtime.{Runtime}
 use Rattle.module_language.specs.ModuleLanguage.{module_language}
@@ -26,7 +26,7 @@ is_done_message (msg.Refused code path told kept) e = absurd (false≢true e)
 pub done_answered : (asked : ClientMsg) (m : ServerMsg) (r : Runtime) → answers_told (λ code. false) m ≡ true → answered module_language asked m r ≡ done asked module_language r
 done_answered asked m r e = ap (λ n. answered module_language asked n r) (is_done_message m e)
 
-pub refused_answered : (asked : ClientMsg) (m : ServerMsg) (r : Runtime) → answers_told (λ code. false) m ≡ false → answers_told (λ code. true) m ≡ true → answered module_language asked m r ≡ refused asked r
+pub refused_answered : (asked : ClientMsg) (m : ServerMsg) (r : Runtime) → answers_told (λ code. false) m ≡ false → answers_told (λ code. true) m ≡ true → answered module_language asked m r ≡ took_refusal asked r
 refused_answered asked msg.Done r e t = absurd (false≢true (sym e))
 refused_answered asked (msg.Connected client roots) r e t = absurd (false≢true t)
 refused_answered asked (msg.Update replaced updates batch triggered) r e t = absurd (false≢true t)

@@ -18,7 +18,7 @@ use Rattle.core_model.specs.Page.{Plan, met_of, new_entry, new_view}
 use Rattle.core_model.specs.View.{View}
 use Rattle.core_model.proofs.Naming.{and_both, both_true}
 use Rattle.core_model.proofs.Rising.{collect_rises, left_out, sorted_rises, tail_rises}
-use Rattle.client_model.specs.Answering.{abort_in, accept_line, answered, apply_in, done, pair_of, refused, stage, stage_in, start_update, write_batch, write_cause}
+use Rattle.client_model.specs.Answering.{abort_in, accept_line, answered, apply_in, done, pair_of, took_refusal, stage, stage_in, start_update, write_batch, write_cause}
 use Rattle.client_model.specs.Applying.{live_of, prune, prune_instance}
 use Rattle.client_model.specs.Firing as fires
 use Rattle.client_model.specs.Firing.{Firing, busy, did_hear, fire, hear_all, unheard}
@@ -95,7 +95,7 @@ module _ (language : Language) where
   done_rises (request_is.Invalidate m v message) r h = h
   done_rises request_is.Bye r h = h
 
-  refused_rises : (asked : ClientMsg) (r : Runtime) → IsRising r → IsRising (refused asked r).0
+  refused_rises : (asked : ClientMsg) (r : Runtime) → IsRising r → IsRising (took_refusal asked r).0
   refused_rises (request_is.Hello format roots) r h = h
   refused_rises request_is.Ask r h = h
   refused_rises (request_is.Fetch m) r h = h

@@ -103,8 +103,8 @@ pub record IsFound {F : Type 0} (r : Runtime) (p : Plan) (page : Page F) (found 
   pub made : AreMade r p page found.births.items
 
 -- what a plan of this kind does, up to the moment at which the page is the plan's
-abbrev pub changed_by : PlanKind → Plan → Runtime → Did
-changed_by kind p r =
+abbrev pub page_done : PlanKind → Plan → Runtime → Did
+page_done kind p r =
     and_then (and_then (and_then (end_old kind module_language p r)
     (for_each (make module_language) (client.births (new_names p r) p r)))
     (tell_all kind module_language p r))

@@ -3,7 +3,7 @@ ghost use Rattle.std.specs.Option.{option_map};
 ghost use Rattle.std.specs.Prelude.{◌≡◌, true, false, drop, IfOk, OnOk};
 ghost use Rattle.update_msgs.specs.Writable.{IsWritable};
 ghost use Rattle.update_msgs.specs.declared.message.ClientMsg.{ClientMsg};
-ghost use Rattle.client_model.specs.Answering.{abort_in, answered, done, ignored, invalidated, outcome_of, refused, with_cause};
+ghost use Rattle.client_model.specs.Answering.{abort_in, answered, done, ignored, invalidated, outcome_of, took_refusal, with_cause};
 ghost use Rattle.client_model.specs.Expecting.{answers_told, is_answer};
 ghost use Rattle.client_model.specs.Requesting.{request};
 ghost use Rattle.client_model.specs.Runtime.{Runtime, nothing, write};
@@ -162,7 +162,7 @@ impl<F: FnOnce(Bag) -> Result<Ran, AllocError> + Drop> HotRuntime<F> {
 
     // What was told is refused.
     fn refused(&mut self, asked: ClientMsg) -> Result<Vec<OutLine>, AllocError>
-        ensures becomes { (r : Runtime) → Keeps r self.old → IsSound self.old → IfOk result (λ lines. Becomes (refused asked r) self.new lines.items) }
+        ensures becomes { (r : Runtime) → Keeps r self.old → IsSound self.old → IfOk result (λ lines. Becomes (took_refusal asked r) self.new lines.items) }
         ensures words { KeepsWords F.post self.old → KeepsWords F.post self.new }
         ensures format { self.new.format ≡ self.old.format }
         ensures stopped { self.new.stopped ≡ self.old.stopped }

@@ -9,7 +9,7 @@ ghost use Rattle.client_model.specs.Runtime.{Runtime};
 ghost use Rattle.page_plan.specs.Numbers.{new_number};
 ghost use Rattle.page_plan.specs.Plans.{IsSamePlan};
 ghost use Rattle.page_deeds.specs.Standing.{KeepWords, StandsFor};
-ghost use Rattle.hot_runtime.specs.Applying.{AreMade, AreNumbers, CanChange, CanUpdate, HasChanged, IsChange, IsUpdate, changed_by};
+ghost use Rattle.hot_runtime.specs.Applying.{AreMade, AreNumbers, CanChange, CanUpdate, HasChanged, IsChange, IsUpdate, page_done};
 
 use crate::cause::copy_name;
 use const_eval::Ran;
@@ -131,7 +131,7 @@ pub(crate) fn change_page<F: FnOnce(Bag) -> Result<Ran, AllocError> + Drop>(
     requires words { KeepWords F.post page.old }
     ensures words { OnOk result (KeepWords F.post page.new) }
     ensures changed { (r : Runtime) (p : Plan) → StandsFor r page.old → IsChange r p change
-        → AreMade r p page.old births.items → OnOk result (HasChanged (changed_by p.kind p r) r p
+        → AreMade r p page.old births.items → OnOk result (HasChanged (page_done p.kind p r) r p
         page.old page.new lines.old.items lines.new.items) }
 {
     match change {
@@ -154,7 +154,7 @@ fn load<F: FnOnce(Bag) -> Result<Ran, AllocError> + Drop>(
     ensures words { OnOk result (KeepWords F.post page.new) }
     ensures changed { (r : Runtime) (p : Plan) → StandsFor r page.old → p.kind ≡ plan_kind.Load
         → AreMade r p page.old births.items → OnOk result (HasChanged
-        (changed_by plan_kind.Load p r) r p page.old page.new lines.old.items lines.new.items) }
+        (page_done plan_kind.Load p r) r p page.old page.new lines.old.items lines.new.items) }
 {
     page.make_all(alloc, births, lines)?;
     Ok(())
@@ -173,7 +173,7 @@ fn reload<F: FnOnce(Bag) -> Result<Ran, AllocError> + Drop>(
     ensures words { OnOk result (KeepWords F.post page.new) }
     ensures changed { (r : Runtime) (p : Plan) → StandsFor r page.old → p.kind ≡ plan_kind.Reload
         → AreMade r p page.old births.items → OnOk result (HasChanged
-        (changed_by plan_kind.Reload p r) r p page.old page.new lines.old.items lines.new.items) }
+        (page_done plan_kind.Reload p r) r p page.old page.new lines.old.items lines.new.items) }
 {
     page.reload_all(alloc)?;
     page.make_all(alloc, births, lines)?;
@@ -196,7 +196,7 @@ fn replace<F: FnOnce(Bag) -> Result<Ran, AllocError> + Drop>(
     ensures words { OnOk result (KeepWords F.post page.new) }
     ensures changed { (r : Runtime) (p : Plan) → StandsFor r page.old → IsUpdate r p update
         → AreMade r p page.old births.items → OnOk result (HasChanged
-        (changed_by plan_kind.Update p r) r p page.old page.new lines.old.items lines.new.items) }
+        (page_done plan_kind.Update p r) r p page.old page.new lines.old.items lines.new.items) }
 {
     let Update {
         replaced,

@@ -9,7 +9,7 @@ use Rattle.std.proofs.lemmas.Bool.{false≢true}
 use Rattle.core_model.specs.Names.{Name, same_name, has, at}
 use Rattle.core_model.specs.Paths.{Reaches}
 use Rattle.core_model.specs.Sources.{Serving}
-use Rattle.core_model.specs.FreshLoad.{Served, imports, imports_in, imported_of}
+use Rattle.core_model.specs.FreshLoad.{Served, imports, imports_in, imported_by_served}
 use Rattle.core_model.proofs.Naming.{has_is, or_left, or_right, true_same, has_append, false_from, head_has, tail_has, has_cases}
 use Rattle.core_model.proofs.Reaching.{reaches_on, reaches_start, reaches_within}
 use Rattle.core_model.proofs.Loading.{reached_is, imports_listed}
@@ -120,17 +120,17 @@ module _ (language : Language) (served : Served) (want : Name → Option Valued)
 -- The walk of the fresh load.
 
 module _ (served : Served) (roots : List Name) where
-  over : (n m : Name) → has (imports_in (at served n)) m ≡ true → has (roots ++ imported_of served) m ≡ true
-  over n m h = has_append roots (imported_of served) m ∙ or_right (has roots m) _ (listed_over (λ (s : Serving). s.analysis.imports) served n m (imports_listed (at served n) m h))
+  over : (n m : Name) → has (imports_in (at served n)) m ≡ true → has (roots ++ imported_by_served served) m ≡ true
+  over n m h = has_append roots (imported_by_served served) m ∙ or_right (has roots m) _ (listed_over (λ (s : Serving). s.analysis.imports) served n m (imports_listed (at served n) m h))
 
-  starts : (n : Name) → has roots n ≡ true → has (roots ++ imported_of served) n ≡ true
-  starts n h = has_append roots (imported_of served) n ∙ or_left (has roots n) _ h
+  starts : (n : Name) → has roots n ≡ true → has (roots ++ imported_by_served served) n ≡ true
+  starts n h = has_append roots (imported_by_served served) n ∙ or_left (has roots n) _ h
 
   order_is : IsPostOrder (λ n. imports_in (at served n)) [] (post_order served roots)
-  order_is = walk_ordered (λ n. imports_in (at served n)) (roots ++ imported_of served) over roots starts
+  order_is = walk_ordered (λ n. imports_in (at served n)) (roots ++ imported_by_served served) over roots starts
 
   order_once : Distinct (post_order served roots)
-  order_once = walk_once (λ n. imports_in (at served n)) (roots ++ imported_of served) over roots starts
+  order_once = walk_once (λ n. imports_in (at served n)) (roots ++ imported_by_served served) over roots starts
 
   module _ (acyclic : IsAcyclic served roots) where
     on_way : (n m : Name) → Reaches (imports served) roots n → imports served n m ≡ true → (has [] m ≡ true) ⊎ ((has (post_order served roots) m ≡ true) ⊎ Reaches (imports served) (m ∷ []) n) → has (post_order served roots) m ≡ true
@@ -141,7 +141,7 @@ module _ (served : Served) (roots : List Name) where
     -- the order has all that is reached
     in_order : (n : Name) → Reaches (imports served) roots n → has (post_order served roots) n ≡ true
     in_order n r = (reaches_within (imports served) roots (λ k. Reaches (imports served) roots k × (has (post_order served roots) k ≡ true))
-        (λ k c. (reaches_start (imports served) roots k c, walk_begins (λ n. imports_in (at served n)) (roots ++ imported_of served) over roots starts k ((has_is roots k).0 c)))
+        (λ k c. (reaches_start (imports served) roots k c, walk_begins (λ n. imports_in (at served n)) (roots ++ imported_by_served served) over roots starts k ((has_is roots k).0 c)))
         (λ k j s e. (reaches_on (imports served) roots k j s.0 e, on_way k j s.0 e (after_in (λ n. imports_in (at served n)) [] (post_order served roots) order_is k j s.1 e))) n r).1
 
 -- the values that a fresh load computes are the given ones

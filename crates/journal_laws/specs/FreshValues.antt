@@ -11,7 +11,7 @@ use Rattle.output_lines.specs.declared.words.InstanceStatus.TheVariants.{Unrun}
 use Rattle.core_model.specs.Names.{Name, has, at}
 use Rattle.core_model.specs.Paths.{Reaches}
 use Rattle.core_model.specs.Sources.{Serving}
-use Rattle.core_model.specs.FreshLoad.{Served, imports, imports_in, imported_of, reached_by}
+use Rattle.core_model.specs.FreshLoad.{Served, imports, imports_in, imported_by_served, reached_by}
 use Rattle.client_model.specs.Language.{Language, Slots, Bag, Evaluated, Ran, slot_at}
 use Rattle.client_model.specs.Instance.{Instance, is_done_status, is_live, numbered, live_at}
 use Rattle.client_model.specs.Journal.{Journal, ran}
@@ -59,7 +59,7 @@ next_valued language done n (Some s) = done ++ (n, fresh_valued language done n 
 -- through it
 abbrev pub post_order : Served → List Name → List Name
 post_order served roots =
-    (walk (suc (length (roots ++ imported_of served))) (λ n. imports_in (at served n)) roots
+    (walk (suc (length (roots ++ imported_by_served served))) (λ n. imports_in (at served n)) roots
     (record { met = []; left = [] })).left
 
 -- the modules of a page that is loaded anew

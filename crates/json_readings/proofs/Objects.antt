@@ -8,7 +8,7 @@ use Rattle.std.specs.Ordering.{match_ordering, ordering_reverse}
 use Rattle.serde_json.specs.Data.{Data, null, boolean, number, string, array, object, Members, no_members, member}
 use Rattle.serde_json.specs.Find.{get, get_member}
 use Rattle.json_readings.specs.Ordered.{IsAbove, IsInOrder, IsOrdered, AreMembersOrdered}
-use Rattle.json_readings.specs.Object.{Entry, first_member, members_of, keys, rises_from, rises, HasMembers, one_of, further_member}
+use Rattle.json_readings.specs.Object.{KeyValue, first_member, members_of, keys, rises_from, rises, HasMembers, one_of, further_member}
 use Rattle.json_readings.proofs.Ordered.{lifted}
 
 pub here : (k : List ℕ) (d : Data) (ms : Members) → get_member k (member k d ms) ≡ Some d
@@ -71,14 +71,14 @@ order_first : (l : List ℕ) (o : Option Data) (ms : Members) → IsAbove l ms �
 order_first l None ms a h = h
 order_first l (Some d) ms a h = (a, h)
 
-rising : (k : List ℕ) (es : List Entry) → rises_from k (keys es) ≡ true → IsAbove k (members_of es) × IsInOrder (members_of es)
+rising : (k : List ℕ) (es : List KeyValue) → rises_from k (keys es) ≡ true → IsAbove k (members_of es) × IsInOrder (members_of es)
 rising k [] h = (tt, tt)
 rising k (e ∷ es) h =
     let first = less_of _ _ h in
     let rest = rising e.0 es first.1 in
     (above_first k e.0 e.1 (members_of es) first.0 rest.0, order_first e.0 e.1 (members_of es) rest.0 rest.1)
 
-pub in_order_of : (es : List Entry) → rises (keys es) ≡ true → IsInOrder (members_of es)
+pub in_order_of : (es : List KeyValue) → rises (keys es) ≡ true → IsInOrder (members_of es)
 in_order_of [] h = tt
 in_order_of (e ∷ es) h = let r = rising e.0 es h in order_first e.0 e.1 (members_of es) r.0 r.1
 
@@ -97,7 +97,7 @@ unknown_absent known (member k d ms) q h u =
     later q k d ms (λ (same : q ≡ k). let bad : true ≡ false = sym first.0 ∙ ap known (sym same) ∙ u in cc) ∙ unknown_absent known ms q first.1 u
 
 -- what a look-up gives, where it gives nothing at other keys
-turn : (k q : List ℕ) (o : Option Data) (es : List Entry) (ms : Members) (b : Bool) → bytes_eq k q ≡ b → IsAbove k (members_of es) → get_member k ms ≡ o
+turn : (k q : List ℕ) (o : Option Data) (es : List KeyValue) (ms : Members) (b : Bool) → bytes_eq k q ≡ b → IsAbove k (members_of es) → get_member k ms ≡ o
     → ((one_of (keys es) q ≡ false → get_member q ms ≡ None) → get_member q ms ≡ get_member q (members_of es))
     → (one_of (k ∷ keys es) q ≡ false → get_member q ms ≡ None) → get_member q ms ≡ get_member q (first_member k o (members_of es))
 turn k q None es ms true is above found rest none =
@@ -112,17 +112,17 @@ turn k q (Some x) es ms false is above found rest none =
     rest (λ u. none (ap (λ b. b || one_of (keys es) q) is ∙ u)) ∙ sym (later q k x (members_of es) apart)
 
 -- the keys after the first rise too
-rises_after : (k : List ℕ) (es : List Entry) → rises_from k (keys es) ≡ true → rises (keys es) ≡ true
+rises_after : (k : List ℕ) (es : List KeyValue) → rises_from k (keys es) ≡ true → rises (keys es) ≡ true
 rises_after k [] h = refl
 rises_after k (e ∷ es) h = (less_of _ _ h).1
 
-answers : (es : List Entry) (ms : Members) (q : List ℕ) → rises (keys es) ≡ true → HasMembers es (object ms) → (one_of (keys es) q ≡ false → get_member q ms ≡ None)
+answers : (es : List KeyValue) (ms : Members) (q : List ℕ) → rises (keys es) ≡ true → HasMembers es (object ms) → (one_of (keys es) q ≡ false → get_member q ms ≡ None)
     → get_member q ms ≡ get_member q (members_of es)
 answers [] ms q rise found none = none refl
 answers (e ∷ es) ms q rise found none = turn e.0 q e.1 es ms _ refl (rising e.0 es rise).0 found.0 (answers es ms q (rises_after e.0 es rise) found.1) none
 
 -- An object in order whose keys are among these, and which has at each this value or nothing, is this object.
-pub same_object : (es : List Entry) (ms : Members) → rises (keys es) ≡ true → IsInOrder ms → HasMembers es (object ms) → further_member (one_of (keys es)) ms ≡ None → ms ≡ members_of es
+pub same_object : (es : List KeyValue) (ms : Members) → rises (keys es) ≡ true → IsInOrder ms → HasMembers es (object ms) → further_member (one_of (keys es)) ms ≡ None → ms ≡ members_of es
 same_object es ms rise order found none =
     same_members ms (members_of es) order (in_order_of es rise) (λ q. answers es ms q rise found (λ u. unknown_absent (one_of (keys es)) ms q none u))
 

@@ -6,7 +6,7 @@ use Rattle.serde_json.specs.Data.{Data, Num, null, boolean, number, unsigned, ne
 use Rattle.serde_json.specs.View.{items_of}
 use Rattle.serde_json.specs.Find.{get, as_str, as_null, as_number, as_u64, as_array}
 use Rattle.json_readings.specs.Ordered.{IsOrdered, AreItemsOrdered}
-use Rattle.json_readings.specs.Object.{Entry, entries, keys, rises, HasMembers}
+use Rattle.json_readings.specs.Object.{KeyValue, entries, keys, rises, HasMembers}
 use Rattle.json_readings.proofs.Objects.{same_object, ordered_get}
 use Rattle.hmr_types.specs.ModName.{is_name}
 use Rattle.hmr_types.specs.Table.{is_table}
@@ -226,7 +226,7 @@ none_only None u h = refl
 none_only (Some k) u h = cc
 
 -- A value with some member, whose keys are among these, and which has at each this value or nothing, is this object.
-pub same_value : (es : List Entry) (k : List ℕ) (x d : Data) (u : ⊤) → rises (keys es) ≡ true → IsOrdered d → get k d ≡ Some x → HasMembers es d → only (keys es) d ≡ Ok u → d ≡ entries es
+pub same_value : (es : List KeyValue) (k : List ℕ) (x d : Data) (u : ⊤) → rises (keys es) ≡ true → IsOrdered d → get k d ≡ Some x → HasMembers es d → only (keys es) d ≡ Ok u → d ≡ entries es
 unfolding only
 same_value es k x null u r a g m h = let bad : None ≡ Some x = g in cc
 same_value es k x (boolean b) u r a g m h = let bad : None ≡ Some x = g in cc

@@ -10,7 +10,7 @@ use Rattle.hmr_types.specs.declared.analysis.Outcome.{Outcome}
 use Rattle.hmr_types.specs.declared.analysis.Outcome.TheVariants.{Good, Bad}
 use Rattle.hmr_types.specs.declared.words.EditRefusal.{EditRefusal}
 use Rattle.core_model.specs.Names.{Name, same_name, at}
-use Rattle.core_model.specs.Sources.{Text, Source, Serving, Sources, Change, edit, result, EditAnswer, job, same, removed, refused, edit_answer, answer_for, numbered, has_text, text_length, total_of, after_edit, text_or_none, ResultAnswer, serve, refuse, late, result_answer, answer_of, is_awaited, after_result, changed_by, sources_after, outstanding, good, bad}
+use Rattle.core_model.specs.Sources.{Text, Source, Serving, Sources, Change, edit, result, EditAnswer, job, same, removed, edit_refused, edit_answer, answer_for, numbered, has_text, text_length, total_of, after_edit, text_or_none, ResultAnswer, serve, refuse, late, result_answer, answer_of, is_awaited, after_result, changed_by, sources_after, outstanding, good, bad}
 use Rattle.core_model.specs.Client.{Client, told_of_edit, told_of_result, with_notice, without_notice}
 use Rattle.core_model.specs.Requests as model
 use Rattle.core_model.specs.Core.{Core, Event, change, each_client, step, core_after, changes_of, told_of, answer_change, after_change}
@@ -100,19 +100,19 @@ abbrev pub is_removal : EditAnswer → Bool
 is_removal (job v) = false
 is_removal same = false
 is_removal (removed v) = true
-is_removal (refused w) = false
+is_removal (edit_refused w) = false
 
 edit_serves : (a : EditAnswer) (n : Name) (t : Option Text) (s : Sources) → is_removal a ≡ false → (after_edit a n t s).served ≡ s.served
 edit_serves (job v) n t s h = refl
 edit_serves same n t s h = refl
 edit_serves (removed v) n t s h = absurd (false≢true (sym h))
-edit_serves (refused w) n t s h = refl
+edit_serves (edit_refused w) n t s h = refl
 
 edit_tells : (a : EditAnswer) (n : Name) (c : Client) → is_removal a ≡ false → told_of_edit a n c ≡ c
 edit_tells (job v) n c h = refl
 edit_tells same n c h = refl
 edit_tells (removed v) n c h = absurd (false≢true (sym h))
-edit_tells (refused w) n c h = refl
+edit_tells (edit_refused w) n c h = refl
 
 elsewhere : {X : Type 0} (b : Bool) (x o : Option X) → b ≡ false → (if b then x else o) ≡ o
 elsewhere true x o h = absurd (false≢true (sym h))
@@ -146,7 +146,7 @@ module _ (past : List Change) (old new : Sources) (h : sources.StandsFor past ol
 
 -- a removal isn't refused for want of memory
 
-numbered_removal : (b : Bool) (w : EditRefusal) (v : ℕ) → is_job (if b then refused w else removed v) ≡ false
+numbered_removal : (b : Bool) (w : EditRefusal) (v : ℕ) → is_job (if b then edit_refused w else removed v) ≡ false
 numbered_removal true w v = refl
 numbered_removal false w v = refl
 
@@ -158,14 +158,14 @@ no_memory : (a : EditAnswer) → is_job a ≡ false → sources.Answers (Err NoM
 no_memory (job v) h e = false≢true (sym h)
 no_memory same h e = e
 no_memory (removed v) h e = e
-no_memory (refused w) h e = e
+no_memory (edit_refused w) h e = e
 
 -- an edit for which memory is wanting is a job
 pub wanting : (a : EditAnswer) → sources.Answers (Err NoMemory) a → not (is_job a) ≡ true → ⊥
 wanting (job v) h e = false≢true e
 wanting same h e = h
 wanting (removed v) h e = h
-wanting (refused w) h e = h
+wanting (edit_refused w) h e = h
 
 pub removal_free : (s : Sources) (n : Name) → sources.Answers (Err NoMemory) (edit_answer s n None) → ⊥
 removal_free s n e = no_memory (edit_answer s n None) (removal_answers (is_some (at s.current n)) s.counted) e
@@ -194,7 +194,7 @@ not_removed (edits.Job v) f = refl
 not_removed edits.Same f = refl
 not_removed (edits.Removed v) f = absurd (f v refl)
 
-or_refused : (b : Bool) (w : EditRefusal) (rest : EditAnswer) → is_removal rest ≡ false → is_removal (if b then refused w else rest) ≡ false
+or_refused : (b : Bool) (w : EditRefusal) (rest : EditAnswer) → is_removal rest ≡ false → is_removal (if b then edit_refused w else rest) ≡ false
 or_refused true w rest h = refl
 or_refused false w rest h = h
 

@@ -10,7 +10,7 @@ use Rattle.std.proofs.Math.Path.{subst}
 use Rattle.hmr_types.specs.Table.{IsTable}
 use Rattle.core_model.specs.Names.{Name, collect, with_entry}
 use Rattle.core_model.specs.Rounds.{reached_of}
-use Rattle.core_model.specs.FreshLoad.{Served, imports, imported_of, reached_by}
+use Rattle.core_model.specs.FreshLoad.{Served, imports, imported_by_served, reached_by}
 use Rattle.module_graph.proofs.Sorting.{IsRising, sorted_rising}
 use Rattle.server_core.specs.Fresh.{HasVersion}
 
@@ -34,6 +34,6 @@ collect_rises get (n ∷ names) s = rising_entry n (get n) (collect get names) (
 
 pub rows_are_table : (served : Served) (roots names : List Name) (get : Name → Option ℕ) (rows : List (Name × ℕ)) → names ≡ reached_by served roots → rows ≡ collect get names → All HasVersion rows → IsTable rows
 rows_are_table served roots names get rows e f v = record {
-  rising = subst (λ r. IsRising (keys_of r)) (sym f) (collect_rises get names (subst IsRising (sym e) (sorted_rising (reached_of (imports served) (imported_of served) roots))));
+  rising = subst (λ r. IsRising (keys_of r)) (sym f) (collect_rises get names (subst IsRising (sym e) (sorted_rising (reached_of (imports served) (imported_by_served served) roots))));
   versions = v;
 }

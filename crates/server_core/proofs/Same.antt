@@ -5,7 +5,7 @@ use Rattle.core_model.specs.Names.{Name, has, at, collect, sorted, with_entry}
 use Rattle.core_model.specs.Paths.{Reaches}
 use Rattle.core_model.specs.Rounds.{reached_of}
 use Rattle.core_model.specs.Sources.{Text, Serving}
-use Rattle.core_model.specs.FreshLoad.{Served, FreshLoad, fresh_load, imports, imports_in, imported_of, reached_by, unlinked_edge, unlinked_module, version_in}
+use Rattle.core_model.specs.FreshLoad.{Served, FreshLoad, fresh_load, imports, imports_in, imported_by_served, reached_by, unlinked_edge, unlinked_module, version_in}
 use Rattle.core_model.proofs.Loading.{reached_is}
 use Rattle.core_model.proofs.Naming.{same_test}
 use Rattle.core_model.proofs.Reaching.{reaches_on, reaches_start, reaches_within}
@@ -36,7 +36,7 @@ module _ (links : Name → Text → List (Name × Name)) where
     carried m r = reaches_within (imports s) roots (Reaches (imports t) roots) (λ n c. reaches_start (imports t) roots n c) (λ n k q h. reaches_on (imports t) roots n k q (sym (same_edge n k) ∙ h)) m r
 
   pub same_reached : (s t : Served) → ((n : Name) → at s n ≡ at t n) → (roots : List Name) → reached_by s roots ≡ reached_by t roots
-  same_reached s t e roots = same_rising (reached_by s roots) (reached_by t roots) (sorted_rising (reached_of (imports s) (imported_of s) roots)) (sorted_rising (reached_of (imports t) (imported_of t) roots))
+  same_reached s t e roots = same_rising (reached_by s roots) (reached_by t roots) (sorted_rising (reached_of (imports s) (imported_by_served s) roots)) (sorted_rising (reached_of (imports t) (imported_by_served t) roots))
       (λ n. same_test (has (reached_by s roots) n) (has (reached_by t roots) n)
       (λ h. (reached_is t roots n).1 (carried s t e roots n ((reached_is s roots n).0 h)))
       (λ h. (reached_is s roots n).1 (carried t s (λ k. sym (e k)) roots n ((reached_is t roots n).0 h))))

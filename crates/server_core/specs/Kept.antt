@@ -3,7 +3,7 @@ use Rattle.std.specs.Prelude.{◌≡◌, ℕ, ◌==◌, Bool, true, false, not, 
 use Rattle.std.specs.declared.alloc.AllocError.{AllocError}
 use Rattle.core_model.specs.Names.{Name}
 use Rattle.core_model.specs.Roots.{are_bad}
-use Rattle.core_model.specs.Sources.{Sources, edit, result, EditAnswer, job, same, removed, refused, edit_answer}
+use Rattle.core_model.specs.Sources.{Sources, edit, result, EditAnswer, job, same, removed, edit_refused, edit_answer}
 use Rattle.core_model.specs.Client.{Client}
 use Rattle.core_model.specs.Requests.{Request, ask, fetch, applied_as, aborted, invalidate}
 use Rattle.core_model.specs.Core as model
@@ -38,7 +38,7 @@ abbrev pub is_job : EditAnswer → Bool
 is_job (job v) = true
 is_job same = false
 is_job (removed v) = false
-is_job (refused w) = false
+is_job (edit_refused w) = false
 
 -- a request of a connected client takes memory, but for one that gives the plan up
 abbrev pub is_free_request : Option Client → Request → Bool

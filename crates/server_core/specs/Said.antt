@@ -7,7 +7,7 @@ use Rattle.update_msgs.specs.declared.message.ServerMsg.{ServerMsg}
 use Rattle.update_msgs.specs.declared.message.ServerMsg.TheVariants as msg
 use Rattle.update_msgs.specs.Writable.{IsFormat, IsWritable}
 use Rattle.core_model.specs.Names.{Name}
-use Rattle.core_model.specs.Sources.{edit, result, EditAnswer, job, same, removed, refused}
+use Rattle.core_model.specs.Sources.{edit, result, EditAnswer, job, same, removed, edit_refused}
 use Rattle.core_model.specs.Requests.{ask, fetch, applied_as, aborted, invalidate}
 use Rattle.core_model.specs.Requests as reply
 use Rattle.core_model.specs.Core as model
@@ -35,7 +35,7 @@ abbrev pub edit_said : EditAnswer → Reply
 edit_said (job v) = replies.Edited (edits.Job v)
 edit_said same = replies.Edited edits.Same
 edit_said (removed v) = replies.Edited (edits.Removed v)
-edit_said (refused refusal) = replies.EditRefused refusal
+edit_said (edit_refused refusal) = replies.EditRefused refusal
 
 -- a reply, as the core says it
 abbrev pub said : reply.Reply → Reply

@@ -8,7 +8,7 @@ use Rattle.hmr_types.specs.declared.words.EditRefusal.TheVariants.{TextTooLong, 
 use Rattle.hmr_types.specs.declared.words.EditRefusal.{EditRefusal}
 use Rattle.std.proofs.Math.Path.{subst}
 use Rattle.core_model.specs.Names.{Name, same_name, at}
-use Rattle.core_model.specs.Sources.{Text, Change, edit, result, Source, Serving, Sources, EditAnswer, job, same, removed, refused, ResultAnswer, serve, refuse, late, after_edit, after_result, answer_for, edit_answer, result_answer, changed_by, sources_after, outstanding, text_or_none, good, bad, answer_of, is_outstanding, is_awaited, total_of, has_text, text_length, numbered}
+use Rattle.core_model.specs.Sources.{Text, Change, edit, result, Source, Serving, Sources, EditAnswer, job, same, removed, edit_refused, ResultAnswer, serve, refuse, late, after_edit, after_result, answer_for, edit_answer, result_answer, changed_by, sources_after, outstanding, text_or_none, good, bad, answer_of, is_outstanding, is_awaited, total_of, has_text, text_length, numbered}
 use Rattle.core_model.proofs.Naming.{same_true, both_true}
 use Rattle.std.proofs.lemmas.Bool.{eqb-true, false≢true, leb-false, ltb-false}
 use Rattle.core_model.proofs.Tables.{at_without, at_with_row}
@@ -23,7 +23,7 @@ once_edit : (a : EditAnswer) (n : Name) (t : Option Text) (s : Sources) → IsOn
 once_edit (job v) n t s o = once_with n (record { version = v; text = text_or_none t; verdict = outstanding }) s.current o
 once_edit (removed v) n t s o = once_without n s.current o
 once_edit same n t s o = o
-once_edit (refused w) n t s o = o
+once_edit (edit_refused w) n t s o = o
 
 once_result : (a : ResultAnswer) (n : Name) (t : Text) (v : ℕ) (s : Sources) → IsOnce s.current → IsOnce (after_result a n t v s).current
 once_result (serve a) n t v s o = once_with n (record { version = v; text = t; verdict = good }) s.current o
@@ -60,10 +60,10 @@ stands past map h = record {
 abbrev row_answer : Option Source → ℕ → ℕ → ℕ → Option Text → EditAnswer
 row_answer old names bytes counted None = if is_some old then numbered removed counted else same
 row_answer old names bytes counted (Some t) =
-    if nat_lt TEXT_BYTES (length t) then refused TextTooLong else (
+    if nat_lt TEXT_BYTES (length t) then edit_refused TextTooLong else (
     if has_text old t then same else (
-    if not (is_some old) && nat_le SOURCE_NAMES names then refused TooManyNames else (
-    if nat_lt SOURCE_BYTES ((bytes - text_length old) + length t) then refused SourceTotal else
+    if not (is_some old) && nat_le SOURCE_NAMES names then edit_refused TooManyNames else (
+    if nat_lt SOURCE_BYTES ((bytes - text_length old) + length t) then edit_refused SourceTotal else
     numbered job counted)))
 
 rows_are : (old : Option Source) (s : Sources) (t : Option Text) → answer_for old s t ≡ row_answer old (length s.current) (total_of s) s.counted t
@@ -100,13 +100,13 @@ abbrev is_job : EditAnswer → Bool
 is_job (job v) = true
 is_job same = false
 is_job (removed v) = false
-is_job (refused w) = false
+is_job (edit_refused w) = false
 
 abbrev number_in : EditAnswer → ℕ
 number_in (job v) = v
 number_in same = 0
 number_in (removed v) = v
-number_in (refused w) = 0
+number_in (edit_refused w) = 0
 
 past_row : (b : Bool) (w rest : EditAnswer) (v : ℕ) → is_job w ≡ false → (if b then w else rest) ≡ job v → (b ≡ false) × (rest ≡ job v)
 past_row true w rest v n h = absurd (false≢true (sym n ∙ ap is_job h))
@@ -114,11 +114,11 @@ past_row false w rest v n h = (refl, h)
 
 pub job_room : (old : Option Source) (s : Sources) (t : Text) (v : ℕ) → answer_for old s (Some t) ≡ job v → IsRoom old s t v
 job_room old s t v h =
-    let r1 = past_row (nat_lt TEXT_BYTES (length t)) (refused TextTooLong) _ v refl h in
+    let r1 = past_row (nat_lt TEXT_BYTES (length t)) (edit_refused TextTooLong) _ v refl h in
     let r2 = past_row (has_text old t) same _ v refl r1.1 in
-    let r3 = past_row (not (is_some old) && nat_le SOURCE_NAMES (length s.current)) (refused TooManyNames) _ v refl r2.1 in
-    let r4 = past_row (nat_lt SOURCE_BYTES ((total_of s - text_length old) + length t)) (refused SourceTotal) _ v refl r3.1 in
-    let r5 = past_row (nat_le LARGEST_NUMBER s.counted) (refused NumbersSpent) _ v refl r4.1 in
+    let r3 = past_row (not (is_some old) && nat_le SOURCE_NAMES (length s.current)) (edit_refused TooManyNames) _ v refl r2.1 in
+    let r4 = past_row (nat_lt SOURCE_BYTES ((total_of s - text_length old) + length t)) (edit_refused SourceTotal) _ v refl r3.1 in
+    let r5 = past_row (nat_le LARGEST_NUMBER s.counted) (edit_refused NumbersSpent) _ v refl r4.1 in
     record {
       number = ap number_in (sym r5.1);
       number_fits = omega (arith, leb-false LARGEST_NUMBER s.counted r5.0, ap number_in (sym r5.1));
@@ -130,9 +130,9 @@ abbrev is_removal : EditAnswer → Bool
 is_removal (job k) = false
 is_removal same = false
 is_removal (removed k) = true
-is_removal (refused w) = false
+is_removal (edit_refused w) = false
 
-removed_number : (counted v : ℕ) (b : Bool) → nat_le LARGEST_NUMBER counted ≡ b → (if b then refused NumbersSpent else removed (counted + 1)) ≡ removed v → (v ≡ counted + 1) × (v ≤ LARGEST_NUMBER)
+removed_number : (counted v : ℕ) (b : Bool) → nat_le LARGEST_NUMBER counted ≡ b → (if b then edit_refused NumbersSpent else removed (counted + 1)) ≡ removed v → (v ≡ counted + 1) × (v ≤ LARGEST_NUMBER)
 removed_number counted v true e h = absurd (false≢true (ap is_removal h))
 removed_number counted v false e h = (ap number_in (sym h), omega (arith, leb-false LARGEST_NUMBER counted e, ap number_in (sym h)))
 
@@ -186,7 +186,7 @@ module _ (past : List Change) (n : Name) (old new : Sources) (h : StandsFor past
   pub same_stands : (t : Option Text) → edit_answer old n t ≡ same → StandsFor (edit n t ∷ past) old
   same_stands t e = subst (λ a. Matches (after_edit a n t (sources_after past)) old) (sym e ∙ same_answer past old h n t) h
 
-  pub refused_stands : (t : Option Text) (w : EditRefusal) → edit_answer old n t ≡ refused w → StandsFor (edit n t ∷ past) old
+  pub refused_stands : (t : Option Text) (w : EditRefusal) → edit_answer old n t ≡ edit_refused w → StandsFor (edit n t ∷ past) old
   refused_stands t w e = subst (λ a. Matches (after_edit a n t (sources_after past)) old) (sym e ∙ same_answer past old h n t) h
 
 -- how often something was served after a result

@@ -3,7 +3,7 @@ use Rattle.std.specs.Prelude.{◌≡◌, Bool, false, ⊤, List, length, Option,
 use Prim.{⊥}
 use Rattle.core_model.specs.Names.{Name, at}
 use Rattle.hmr_types.specs.declared.analysis.TextFault.{TextFault}
-use Rattle.core_model.specs.Sources.{Change, Source, Sources, is_outstanding, sources_after, total_of, EditAnswer, job, same, removed, refused, ResultAnswer, serve, refuse, late}
+use Rattle.core_model.specs.Sources.{Change, Source, Sources, is_outstanding, sources_after, total_of, EditAnswer, job, same, removed, edit_refused, ResultAnswer, serve, refuse, late}
 use Rattle.hmr_types.specs.declared.words.EditRefusal.{EditRefusal}
 use Rattle.version_map.specs.Entries.{fault_of}
 use Rattle.version_map.specs.declared.outcome.EditOutcome.{EditOutcome}
@@ -32,11 +32,11 @@ abbrev pub Answers : Result EditOutcome EditFault → EditAnswer → Type 0
 Answers (Ok (edits.Job v)) answer = answer ≡ job v
 Answers (Ok edits.Same) answer = answer ≡ same
 Answers (Ok (edits.Removed v)) answer = answer ≡ removed v
-Answers (Err (faults.Refused refusal)) answer = answer ≡ refused refusal
+Answers (Err (faults.Refused refusal)) answer = answer ≡ edit_refused refusal
 Answers (Err faults.NoMemory) (job v) = ⊤
 Answers (Err faults.NoMemory) same = ⊥
 Answers (Err faults.NoMemory) (removed v) = ⊥
-Answers (Err faults.NoMemory) (refused refusal) = ⊥
+Answers (Err faults.NoMemory) (edit_refused refusal) = ⊥
 
 -- what follows an answer, which want of memory isn't
 abbrev pub Answered : Result EditOutcome EditFault → Type 0 → Type 0
@@ -55,7 +55,7 @@ abbrev pub answer_in : Result EditOutcome EditRefusal → EditAnswer
 answer_in (Ok (edits.Job v)) = job v
 answer_in (Ok edits.Same) = same
 answer_in (Ok (edits.Removed v)) = removed v
-answer_in (Err refusal) = refused refusal
+answer_in (Err refusal) = edit_refused refusal
 
 -- the name has a source whose result hasn't come
 abbrev pub outstanding_in : Option Source → Bool

@@ -18,7 +18,7 @@ use Rattle.core_model.specs.Client.{Client}
 use Rattle.core_model.specs.Core.{Core, connect, client_at, step, core_after, changes_of}
 use Rattle.core_model.specs.Exchange.{event_of, message_for}
 use Rattle.core_model.proofs.Clients.{at_with, at_without}
-use Rattle.core_laws.specs.Given.{given}
+use Rattle.core_laws.specs.Given.{analysis_given}
 use Rattle.core_laws.specs.Facts.{ClientFacts, PlanIs, KindIs}
 use Rattle.core_laws.proofs.Events.{client_facts}
 use Rattle.client_model.specs.Language.{Language}
@@ -62,7 +62,7 @@ sane_of by s c facts = record { closed = closed_of by s c c.page.loaded refl fac
 
 sane_record : (roots : List Name) (core : Core) (i : ℕ) → IsMade roots core → IfSome (client_at core.clients i) (λ c. IsSane c.page)
 sane_record roots core i m = subst (λ k. IfSome (client_at k.clients i) (λ c. IsSane c.page)) (sym m.made)
-    (IfSome_then (client_at (core_after roots m.events).clients i) (client_facts roots m.events i) (λ c facts. sane_of (given (changes_of m.events)) (core_after roots m.events).sources c facts))
+    (IfSome_then (client_at (core_after roots m.events).clients i) (client_facts roots m.events i) (λ c facts. sane_of (analysis_given (changes_of m.events)) (core_after roots m.events).sources c facts))
 
 -- an open client's page
 abbrev SaneAt : Option Runtime → Type 0

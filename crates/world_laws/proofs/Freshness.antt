@@ -20,7 +20,7 @@ use Rattle.core_model.specs.Core.{Core, Event, change, connect, disconnect, clie
 use Rattle.core_model.specs.View.{table_of}
 use Rattle.core_model.specs.Exchange.{event_of, message_for}
 use Rattle.core_model.specs.Core.{changes_of}
-use Rattle.core_laws.specs.Given.{given}
+use Rattle.core_laws.specs.Given.{analysis_given}
 use Rattle.core_laws.specs.Fresh.{IsUpToDate, IsFreshLoad}
 use Rattle.core_laws.proofs.Events.{client_facts, served_given}
 use Rattle.core_laws.proofs.Freshness.{is_fresh}
@@ -98,7 +98,7 @@ core_made language roots shelves (s ∷ past) = step_core language roots (IsMade
 
 fresh_record : (roots : List Name) (events : List Event) (i : ℕ) → IfSome (client_at (core_after roots events).clients i) (λ c. IsUpToDate (core_after roots events).sources c → IsFreshLoad (core_after roots events).sources c)
 fresh_record roots events i = IfSome_then (client_at (core_after roots events).clients i) (client_facts roots events i)
-    (λ client facts. is_fresh (given (changes_of events)) (core_after roots events).sources client (served_given roots events) facts)
+    (λ client facts. is_fresh (analysis_given (changes_of events)) (core_after roots events).sources client (served_given roots events) facts)
 
 pub fresh_in : (roots : List Name) (core : Core) (i : ℕ) → IsMade roots core → IfSome (client_at core.clients i) (λ c. IsUpToDate core.sources c → IsFreshLoad core.sources c)
 fresh_in roots core i h = subst (λ k. IfSome (client_at k.clients i) (λ c. IsUpToDate k.sources c → IsFreshLoad k.sources c)) (sym h.made) (fresh_record roots h.events i)

@@ -23,7 +23,7 @@ use Rattle.client_model.specs.Runtime.{Runtime, Opening, new_runtime, Cause, not
 use Rattle.client_model.specs.Linking.{next_needed, link_cause}
 use Rattle.client_model.specs.Requesting.{cause_by}
 use Rattle.client_model.specs.Applying.{apply, prune, prune_instance, live_of}
-use Rattle.client_model.specs.Answering.{accept_line, pair_of, start_reload, start_update, stage, stage_in, apply_in, abort_in, write_cause, done, refused, answered}
+use Rattle.client_model.specs.Answering.{accept_line, pair_of, start_reload, start_update, stage, stage_in, apply_in, abort_in, write_cause, done, took_refusal, answered}
 use Rattle.client_model.specs.Expecting.{is_answer}
 use Rattle.client_model.specs.Taking.{take}
 use Rattle.client_model.specs.Firing.{fire, hear_all}
@@ -199,7 +199,7 @@ module _ (language : Language) (r : Runtime) (h : HoldsOf r) where
   done_goes (request_is.Invalidate m v message) n = same_page language r r.client (forced_too m r.page) r.texts h refl refl h.planned h.talks
   done_goes request_is.Bye n = unchanged language r h
 
-  refused_goes : (asked : ClientMsg) → GoesTo language r (refused asked r).0
+  refused_goes : (asked : ClientMsg) → GoesTo language r (took_refusal asked r).0
   refused_goes (request_is.Hello format names) = unchanged language r h
   refused_goes request_is.Ask = unchanged language r h
   refused_goes (request_is.Fetch m) = unchanged language r h

@@ -24,7 +24,7 @@ use Rattle.client_model.specs.Runtime.{Runtime, Cause, nothing, and_then, for_ea
 use Rattle.client_model.specs.Linking.{exports_of, is_kept_kind}
 use Rattle.client_model.specs.Requesting.{cause_by}
 use Rattle.client_model.specs.Applying.{prune_instance, live_of}
-use Rattle.client_model.specs.Answering.{stage, stage_in, apply_in, abort_in, write_cause, done, refused, answered}
+use Rattle.client_model.specs.Answering.{stage, stage_in, apply_in, abort_in, write_cause, done, took_refusal, answered}
 use Rattle.client_model.specs.Expecting.{is_answer}
 use Rattle.client_model.specs.Taking.{take}
 use Rattle.client_model.specs.Firing.{fire, hear_all}
@@ -117,7 +117,7 @@ module _ (language : Language) (P : Name → Fit) where
   done_texts (request_is.Invalidate m v message) r old = old
   done_texts request_is.Bye r old = old
 
-  refused_texts : (asked : ClientMsg) (r : Runtime) → Texts r → Texts (refused asked r).0
+  refused_texts : (asked : ClientMsg) (r : Runtime) → Texts r → Texts (took_refusal asked r).0
   refused_texts (request_is.Hello format names) r old = old
   refused_texts request_is.Ask r old = old
   refused_texts (request_is.Fetch m) r old = old

@@ -26,7 +26,7 @@ use Rattle.core_model.proofs.Tables.{at_with_row}
 use Rattle.core_model.proofs.Clients.{at_with, at_without, at_each}
 use Rattle.core_model.proofs.Loading.{reached_is}
 use Rattle.core_model.proofs.Replaying.{change_stays}
-use Rattle.core_laws.specs.Given.{given, entry_of, IsGiven}
+use Rattle.core_laws.specs.Given.{analysis_given, entry_of, IsGiven}
 use Rattle.core_laws.specs.Facts.{PlanIsServed, IsAtMost, ClientFacts}
 use Rattle.core_laws.proofs.Events.{IsLater, changed_later, client_facts, served_given}
 use Rattle.client_model.specs.Language.{Language, Bag, BindsImports}
@@ -52,7 +52,7 @@ use Rattle.world_model.specs.Turning.{turn_of, open_by, close_of, shown, fire_of
 use Rattle.world_model.specs.Steps.{world_step, world_after}
 use Rattle.world_model.specs.Ties.{IsTied, TiedAt, IsServedRight, AreServedRight, WentOn}
 use Rattle.world_model.proofs.Tying.{IsSound, change_roots, run_sound}
-use Rattle.world_laws.specs.Quiet.{IsServedWhole, IsMissing, CauseIs, IsServedText, IsCurrent, IsIdle, IsBusy, EndsBy, EndsAt, Ends, IsOpen, EachClient}
+use Rattle.world_laws.specs.Quiet.{IsServedWhole, IsMissing, CauseIs, IsServedText, IsCurrent, IsIdle, IsBusy, IsIdleOrBusy, EndsAt, Ends, IsOpen, EachClient}
 use Rattle.world_laws.proofs.Freshness.{IsMade, core_made}
 use Rattle.world_laws.proofs.TurnsServed.{met_reached, needed_is, cause_counts, none_to_link}
 use Rattle.world_laws.proofs.TurnsTaken.{heard_by, done_by, Turned, turned}
@@ -94,9 +94,9 @@ module _ (language : Language) (s : Sources) (right : AreServedRight language s.
 
   -- what holds once this is told and answered
   abbrev After : Option Plan → Option Cause → List Invalidation → ClientMsg → Type 0
-  After plan cause unsent asked = EndsBy (heard_by asked i s (cl plan)).0.page.plan language s (heard_by asked i s (cl plan)).0 (done_by language asked (heard_by asked i s (cl plan)).1 (rt plan cause unsent))
+  After plan cause unsent asked = IsIdleOrBusy (heard_by asked i s (cl plan)).0.page.plan language s (heard_by asked i s (cl plan)).0 (done_by language asked (heard_by asked i s (cl plan)).1 (rt plan cause unsent))
 
-  ask_ends : (cause : Option Cause) (row : AskRow) → IsIdle language s (cl None) (rt None cause []) → EndsBy (asked row s (cl None)).page.plan language s (asked row s (cl None)) (done_by language told.Ask (ask_reply i s (asked row s (cl None)) row) (rt None cause []))
+  ask_ends : (cause : Option Cause) (row : AskRow) → IsIdle language s (cl None) (rt None cause []) → IsIdleOrBusy (asked row s (cl None)).page.plan language s (asked row s (cl None)) (done_by language told.Ask (ask_reply i s (asked row s (cl None)) row) (rt None cause []))
   ask_ends cause out_of_turn h = h
   ask_ends cause (tell n fault) h = record { causeless = h.causeless; held = h.held }
   ask_ends cause load h = record { sent = refl; current = λ e. record { cause = tt; texts = λ n. tt } }
@@ -116,7 +116,7 @@ module _ (language : Language) (s : Sources) (right : AreServedRight language s.
         current = λ e. record { cause = tt; texts = λ n. tt };
       }
 
-  invalidate_ends : (cause : Option Cause) (n : Name) (v : ℕ) (message : Text) (more : List Invalidation) (there : Bool) → IsIdle language s (cl None) (rt None cause (record { name = n; version = v; message = message } ∷ more)) → EndsBy (invalidated there n (cl None)).page.plan language s (invalidated there n (cl None)) (done_by language (told.Invalidate n v message) (invalidate_reply there) (rt None cause (record { name = n; version = v; message = message } ∷ more)))
+  invalidate_ends : (cause : Option Cause) (n : Name) (v : ℕ) (message : Text) (more : List Invalidation) (there : Bool) → IsIdle language s (cl None) (rt None cause (record { name = n; version = v; message = message } ∷ more)) → IsIdleOrBusy (invalidated there n (cl None)).page.plan language s (invalidated there n (cl None)) (done_by language (told.Invalidate n v message) (invalidate_reply there) (rt None cause (record { name = n; version = v; message = message } ∷ more)))
   invalidate_ends cause n v message more true h = record { causeless = h.causeless; held = λ binds held. absurd (false≢true held) }
   invalidate_ends cause n v message more false h = record { causeless = h.causeless; held = h.held }
 
@@ -145,8 +145,8 @@ module _ (language : Language) (s : Sources) (right : AreServedRight language s.
   text_served n v e h m = subst (λ o. IsServedText o (at s.served m)) (sym (at_with_row n v.text texts m))
       (text_if (same_name n m) v.text (at texts m) (at s.served m) (λ t. subst (IsServedText (Some v.text)) (sym (ap (at s.served) (sym (same_true n m t)) ∙ e)) refl) (h m))
 
-  fetch_ends : (p : Plan) (unsent : List Invalidation) (n : Name) (o : Option Serving) (row : FetchRow) → at s.served n ≡ o → row ≡ row_served o (at s.current n) → Current p → next_needed p (rt (Some p) None []) ≡ Some n → IsBusy s (cl (Some p)) (rt (Some p) None unsent) → EndsBy (fetched row p n (cl (Some p))).page.plan language s (fetched row p n (cl (Some p))) (done_by language (told.Fetch n) (fetch_reply row n) (rt (Some p) None unsent))
-  fetch_ends p unsent n o row e is current needed h = subst (λ w. EndsBy (fetched w p n (cl (Some p))).page.plan language s (fetched w p n (cl (Some p))) (done_by language (told.Fetch n) (fetch_reply w n) (rt (Some p) None unsent))) (sym is) (by_served o e (at s.current n))
+  fetch_ends : (p : Plan) (unsent : List Invalidation) (n : Name) (o : Option Serving) (row : FetchRow) → at s.served n ≡ o → row ≡ row_served o (at s.current n) → Current p → next_needed p (rt (Some p) None []) ≡ Some n → IsBusy s (cl (Some p)) (rt (Some p) None unsent) → IsIdleOrBusy (fetched row p n (cl (Some p))).page.plan language s (fetched row p n (cl (Some p))) (done_by language (told.Fetch n) (fetch_reply row n) (rt (Some p) None unsent))
+  fetch_ends p unsent n o row e is current needed h = subst (λ w. IsIdleOrBusy (fetched w p n (cl (Some p))).page.plan language s (fetched w p n (cl (Some p))) (done_by language (told.Fetch n) (fetch_reply w n) (rt (Some p) None unsent))) (sym is) (by_served o e (at s.current n))
     where
       by_outcome : (v : Serving) (outcome : Outcome) → outcome ≡ Good v.analysis → at s.served n ≡ Some v → IsBusy s (fetched (text v) p n (cl (Some p))) (stage outcome p n v.version v.text (rt (Some p) None unsent)).0
       by_outcome v outcome g e = subst (λ k. IsBusy s (fetched (text v) p n (cl (Some p))) (stage k p n v.version v.text (rt (Some p) None unsent)).0) (sym g)
@@ -155,23 +155,23 @@ module _ (language : Language) (s : Sources) (right : AreServedRight language s.
       found : (cause : Cause) → (IsMissing roots s.served n → CauseIs roots s.served (Some cause)) → at s.served n ≡ None → IsBusy s (cl (Some p)) (rt (Some p) (Some cause) unsent)
       found cause f e = record { sent = h.sent; current = λ now. record { cause = f (needed_missing p n current needed e now); texts = (h.current now).texts } }
 
-      by_verdict : (verdict : Verdict) → at s.served n ≡ None → EndsBy (fetched (row_verdict verdict) p n (cl (Some p))).page.plan language s (fetched (row_verdict verdict) p n (cl (Some p))) (done_by language (told.Fetch n) (fetch_reply (row_verdict verdict) n) (rt (Some p) None unsent))
+      by_verdict : (verdict : Verdict) → at s.served n ≡ None → IsIdleOrBusy (fetched (row_verdict verdict) p n (cl (Some p))).page.plan language s (fetched (row_verdict verdict) p n (cl (Some p))) (done_by language (told.Fetch n) (fetch_reply (row_verdict verdict) n) (rt (Some p) None unsent))
       by_verdict outstanding e = h
       by_verdict good e = found (causes.missing n) (λ m. m) e
       by_verdict (bad fault) e = found (causes.broken n) (λ m. m) e
 
-      by_source : (source : Option Source) → at s.served n ≡ None → EndsBy (fetched (row_source source) p n (cl (Some p))).page.plan language s (fetched (row_source source) p n (cl (Some p))) (done_by language (told.Fetch n) (fetch_reply (row_source source) n) (rt (Some p) None unsent))
+      by_source : (source : Option Source) → at s.served n ≡ None → IsIdleOrBusy (fetched (row_source source) p n (cl (Some p))).page.plan language s (fetched (row_source source) p n (cl (Some p))) (done_by language (told.Fetch n) (fetch_reply (row_source source) n) (rt (Some p) None unsent))
       by_source None e = found (causes.missing n) (λ m. m) e
       by_source (Some source) e = by_verdict source.verdict e
 
-      by_served : (o : Option Serving) → at s.served n ≡ o → (source : Option Source) → EndsBy (fetched (row_served o source) p n (cl (Some p))).page.plan language s (fetched (row_served o source) p n (cl (Some p))) (done_by language (told.Fetch n) (fetch_reply (row_served o source) n) (rt (Some p) None unsent))
+      by_served : (o : Option Serving) → at s.served n ≡ o → (source : Option Source) → IsIdleOrBusy (fetched (row_served o source) p n (cl (Some p))).page.plan language s (fetched (row_served o source) p n (cl (Some p))) (done_by language (told.Fetch n) (fetch_reply (row_served o source) n) (rt (Some p) None unsent))
       by_served None e source = by_source source e
       by_served (Some v) e source = by_outcome v (language.transformed n v.text) (right_at (at s.served n) e (right n)) e
         where
           right_at : (o : Option Serving) → o ≡ Some v → IsServedRight language n o → language.transformed n v.text ≡ Good v.analysis
           right_at o g k = subst (IsServedRight language n) g k
 
-  applied_ends : (p : Plan) (unsent : List Invalidation) (table : List (Name × ℕ)) (row : AppliedRow) → IsBusy s (cl (Some p)) (rt (Some p) None unsent) → EndsBy (after_applied row p (cl (Some p))).page.plan language s (after_applied row p (cl (Some p))) (done_by language (told.Applied table) (applied_reply row) (rt (Some p) None unsent))
+  applied_ends : (p : Plan) (unsent : List Invalidation) (table : List (Name × ℕ)) (row : AppliedRow) → IsBusy s (cl (Some p)) (rt (Some p) None unsent) → IsIdleOrBusy (after_applied row p (cl (Some p))).page.plan language s (after_applied row p (cl (Some p))) (done_by language (told.Applied table) (applied_reply row) (rt (Some p) None unsent))
   applied_ends p unsent table (unfetched n) h = h
   applied_ends p unsent table (mismatch n a b) h = h
   applied_ends p unsent table done h = record { causeless = refl; held = λ binds held. absurd (false≢true held) }
@@ -188,14 +188,14 @@ module _ (language : Language) (s : Sources) (right : AreServedRight language s.
   by_found p None unsent current h = by_needed p unsent current (next_needed p (rt (Some p) None [])) refl h
   by_found p (Some k) unsent current h = abort_ends p (Some k) k unsent (λ binds now whole. cause_counts language roots s k (h.current now).cause whole)
 
-  by_plan : (plan : Option Plan) (cause : Option Cause) (unsent : List Invalidation) → (plan_at ≡ s.served_no → PlanIsServed plan view s.served) → EndsBy plan language s (cl plan) (rt plan cause unsent) → After plan cause unsent (request_by plan language (rt plan cause unsent))
+  by_plan : (plan : Option Plan) (cause : Option Cause) (unsent : List Invalidation) → (plan_at ≡ s.served_no → PlanIsServed plan view s.served) → IsIdleOrBusy plan language s (cl plan) (rt plan cause unsent) → After plan cause unsent (request_by plan language (rt plan cause unsent))
   by_plan None cause unsent current h = by_unsent cause unsent h
   by_plan (Some p) cause unsent current h = by_found p cause unsent current h
 
 abbrev TurnKeeps : Language → ℕ → Sources → Client → Runtime → Type 0
 TurnKeeps language i s c r =
-    (c.plan_at ≡ s.served_no → PlanIsServed c.page.plan c.page.view s.served) → EndsBy c.page.plan language s c r
-    → EndsBy (heard_by (request_by r.page.plan language r) i s c).0.page.plan language s (heard_by (request_by r.page.plan language r) i s c).0 (done_by language (request_by r.page.plan language r) (heard_by (request_by r.page.plan language r) i s c).1 r)
+    (c.plan_at ≡ s.served_no → PlanIsServed c.page.plan c.page.view s.served) → IsIdleOrBusy c.page.plan language s c r
+    → IsIdleOrBusy (heard_by (request_by r.page.plan language r) i s c).0.page.plan language s (heard_by (request_by r.page.plan language r) i s c).0 (done_by language (request_by r.page.plan language r) (heard_by (request_by r.page.plan language r) i s c).1 r)
 
 turn_keeps : (language : Language) (i : ℕ) (s : Sources) (c : Client) (r : Runtime) → AreServedRight language s.served → IsTied i c r → TurnKeeps language i s c r
 turn_keeps language i s c r right tie =
@@ -216,7 +216,7 @@ HaveFacts core = (i : ℕ) → IfSome (client_at core.clients i) (HasFacts core.
 
 pub facts_of : (roots : List Name) (core : Core) → IsMade roots core → HaveFacts core
 facts_of roots core h i = subst (λ k. IfSome (client_at k.clients i) (HasFacts k.sources)) (sym h.made)
-    (IfSome_then (client_at (core_after roots h.events).clients i) (client_facts roots h.events i) (λ client facts. record { by = given (changes_of h.events); all_given = served_given roots h.events; facts = facts }))
+    (IfSome_then (client_at (core_after roots h.events).clients i) (client_facts roots h.events i) (λ client facts. record { by = analysis_given (changes_of h.events); all_given = served_given roots h.events; facts = facts }))
 
 -- Edits and results.
 
@@ -227,7 +227,7 @@ not_held : (o : Option ℕ) (k m : ℕ) → IsAtMost o k → k < m → same_numb
 not_held None k m l g e = false≢true e
 not_held (Some j) k m l g e = omega (arith, l, g, eqb-true j m e)
 
-later_ends : (language : Language) (s t : Sources) (c d : Client) (r : Runtime) (plan : Option Plan) → IsLater s t → d.roots ≡ c.roots → d.plan_at ≡ c.plan_at → d.held_at ≡ c.held_at → c.plan_at ≤ s.served_no → IsAtMost c.held_at s.served_no → EndsBy plan language s c r → EndsBy plan language t d r
+later_ends : (language : Language) (s t : Sources) (c d : Client) (r : Runtime) (plan : Option Plan) → IsLater s t → d.roots ≡ c.roots → d.plan_at ≡ c.plan_at → d.held_at ≡ c.held_at → c.plan_at ≤ s.served_no → IsAtMost c.held_at s.served_no → IsIdleOrBusy plan language s c r → IsIdleOrBusy plan language t d r
 later_ends language s t c d r None (inl e) roots_same at_same held_same low lows h = record {
   causeless = h.causeless;
   held = λ binds held whole. h.held binds (same_numbers c.held_at d.held_at s.served_no t.served_no (sym held_same) (sym e.1) ∙ held) (subst (λ roots. IsServedWhole language roots s) roots_same (subst (λ served. IsServedWhole language d.roots (record s { served = served })) e.0 whole));
@@ -249,7 +249,7 @@ edit_times : (answer : EditAnswer) (n : Name) (c : Client) → ((told_of_edit an
 edit_times (job v) n c = (refl, refl)
 edit_times same n c = (refl, refl)
 edit_times (removed v) n c = (refl, refl)
-edit_times (sources.refused word) n c = (refl, refl)
+edit_times (sources.edit_refused word) n c = (refl, refl)
 
 result_times : (answer : ResultAnswer) (n : Name) (c : Client) → ((told_of_result answer n c).plan_at ≡ c.plan_at) × ((told_of_result answer n c).held_at ≡ c.held_at)
 result_times (serve a) n c = (refl, refl)
@@ -263,7 +263,7 @@ told_times s (result n t o v) c = result_times (result_answer s n t o v) n c
 told_ends : (language : Language) (s : Sources) (ch : Change) (c : Option Client) (r : Option Runtime) → IfSome c (HasFacts s) → EndsAt language s c r → EndsAt language (changed_by s ch) (option_map (told_of s ch) c) r
 told_ends language s ch None r f h = tt
 told_ends language s ch (Some c) None f h = tt
-told_ends language s ch (Some c) (Some r) f h = subst (λ plan. EndsBy plan language (changed_by s ch) (told_of s ch c) r) (sym (ap (λ (page : Page). page.plan) (change_stays s ch c)))
+told_ends language s ch (Some c) (Some r) f h = subst (λ plan. IsIdleOrBusy plan language (changed_by s ch) (told_of s ch c) r) (sym (ap (λ (page : Page). page.plan) (change_stays s ch c)))
     (later_ends language s (changed_by s ch) c (told_of s ch c) r c.page.plan (changed_later s ch) (change_roots s ch c) (told_times s ch c).0 (told_times s ch c).1 f.facts.begun f.facts.held h)
 
 change_ends : (language : Language) (core : Core) (clients : List (ℕ × Runtime)) (ch : Change) → HaveFacts core → ((i : ℕ) → EndsAt language core.sources (client_at core.clients i) (client_at clients i)) → (i : ℕ) → EndsAt language (changed_by core.sources ch) (client_at (after_change core ch).clients i) (client_at clients i)
@@ -275,11 +275,11 @@ settled_ends language roots n v w (Some j) f h = change_ends language w.core w.c
 
 -- Clients that come and go.
 
-ends_with : (language : Language) (s : Sources) (b : Bool) (c : Client) (r : Runtime) (oc : Option Client) (or : Option Runtime) → EndsBy c.page.plan language s c r → EndsAt language s oc or → EndsAt language s (if b then Some c else oc) (if b then Some r else or)
+ends_with : (language : Language) (s : Sources) (b : Bool) (c : Client) (r : Runtime) (oc : Option Client) (or : Option Runtime) → IsIdleOrBusy c.page.plan language s c r → EndsAt language s oc or → EndsAt language s (if b then Some c else oc) (if b then Some r else or)
 ends_with language s true c r oc or h k = h
 ends_with language s false c r oc or h k = k
 
-both_with : (language : Language) (s : Sources) (i : ℕ) (c : Client) (r : Runtime) (clients : List (ℕ × Client)) (runtimes : List (ℕ × Runtime)) → EndsBy c.page.plan language s c r → ((j : ℕ) → EndsAt language s (client_at clients j) (client_at runtimes j)) → (j : ℕ) → EndsAt language s (client_at (with_client i c clients) j) (client_at (with_client i r runtimes) j)
+both_with : (language : Language) (s : Sources) (i : ℕ) (c : Client) (r : Runtime) (clients : List (ℕ × Client)) (runtimes : List (ℕ × Runtime)) → IsIdleOrBusy c.page.plan language s c r → ((j : ℕ) → EndsAt language s (client_at clients j) (client_at runtimes j)) → (j : ℕ) → EndsAt language s (client_at (with_client i c clients) j) (client_at (with_client i r runtimes) j)
 both_with language s i c r clients runtimes h k j = subst (λ o. EndsAt language s o (client_at (with_client i r runtimes) j)) (sym (at_with i c clients j))
     (subst (λ o. EndsAt language s (if i == j then Some c else client_at clients j) o) (sym (at_with i r runtimes j)) (ends_with language s (i == j) c r (client_at clients j) (client_at runtimes j) h (k j)))
 
@@ -315,7 +315,7 @@ shown_ends language i w lines (Some r) h = h
 
 -- Turns.
 
-turn_by : (language : Language) (w after : World) (i : ℕ) (c : Client) (r : Runtime) → Turned language w after i c r → IsTied i c r → AreServedRight language w.core.sources.served → HasFacts w.core.sources c → EndsBy c.page.plan language w.core.sources c r → Ends language w → Ends language after
+turn_by : (language : Language) (w after : World) (i : ℕ) (c : Client) (r : Runtime) → Turned language w after i c r → IsTied i c r → AreServedRight language w.core.sources.served → HasFacts w.core.sources c → IsIdleOrBusy c.page.plan language w.core.sources c r → Ends language w → Ends language after
 turn_by language w after i c r t tie right f own h j =
     subst (λ s. EndsAt language s (client_at after.core.clients j) (client_at after.clients j)) (sym t.sources)
     (subst (λ o. EndsAt language w.core.sources o (client_at after.clients j)) (sym (t.clients j))
@@ -332,12 +332,12 @@ turned_ends language roots w i (Some r) e sound f h some = turned_record languag
 
 -- An event that is fired.
 
-fire_ends : (language : Language) (s : Sources) (i : ℕ) (n : Name) (value : Value) (c : Client) (r : Runtime) (plan : Option Plan) → r.page.plan ≡ plan → EndsBy plan language s c r → EndsBy plan language s c (fire language n value r).after
+fire_ends : (language : Language) (s : Sources) (i : ℕ) (n : Name) (value : Value) (c : Client) (r : Runtime) (plan : Option Plan) → r.page.plan ≡ plan → IsIdleOrBusy plan language s c r → IsIdleOrBusy plan language s c (fire language n value r).after
 fire_ends language s i n value c r None e h =
-    fire_by language r n value (λ did. EndsBy None language s c did.0) h
+    fire_by language r n value (λ did. IsIdleOrBusy None language s c did.0) h
     (λ loaded none. record { causeless = (kept_hear CauseStays cause_kept language n value r).cause ∙ h.causeless; held = h.held })
 fire_ends language s i n value c r (Some p) e h =
-    fire_by language r n value (λ did. EndsBy (Some p) language s c did.0) h
+    fire_by language r n value (λ did. IsIdleOrBusy (Some p) language s c did.0) h
     (λ loaded none. absurd (false≢true (sym (ap is_some none) ∙ ap is_some e)))
 
 fire_ends_at : (language : Language) (s : Sources) (i : ℕ) (n : Name) (value : Value) (r : Runtime) (o : Option Client) → TiedAt i o (Some r) → EndsAt language s o (Some r) → EndsAt language s o (Some (fire language n value r).after)
@@ -376,16 +376,16 @@ run_ends language roots shelves (s ∷ past) h = step_ends language roots shelve
 
 -- The same, of each client and fact by fact.
 
-ends_of : (language : Language) (roots : List Name) (shelves : List (List (Text × ℕ))) (past : List Step) (i : ℕ) (c : Client) (r : Runtime) → WentOn language roots shelves past → IsOpen (world_after language roots shelves past) i c r → EndsBy c.page.plan language (world_after language roots shelves past).core.sources c r
+ends_of : (language : Language) (roots : List Name) (shelves : List (List (Text × ℕ))) (past : List Step) (i : ℕ) (c : Client) (r : Runtime) → WentOn language roots shelves past → IsOpen (world_after language roots shelves past) i c r → IsIdleOrBusy c.page.plan language (world_after language roots shelves past).core.sources c r
 ends_of language roots shelves past i c r went is_open =
     let w : World = world_after language roots shelves past in
     subst (λ o. EndsAt language w.core.sources o (Some r)) is_open.connected (subst (EndsAt language w.core.sources (client_at w.core.clients i)) is_open.open_is (run_ends language roots shelves past went i))
 
-busy_by : (plan : Option Plan) (language : Language) (roots : List Name) (s : Sources) (c : Client) (r : Runtime) → is_some plan ≡ true → EndsBy plan language s c r → IsBusy s c r
+busy_by : (plan : Option Plan) (language : Language) (roots : List Name) (s : Sources) (c : Client) (r : Runtime) → is_some plan ≡ true → IsIdleOrBusy plan language s c r → IsBusy s c r
 busy_by None language roots s c r e h = absurd (false≢true e)
 busy_by (Some p) language roots s c r e h = h
 
-idle_by : (plan : Option Plan) (language : Language) (roots : List Name) (s : Sources) (c : Client) (r : Runtime) → is_some plan ≡ false → EndsBy plan language s c r → IsIdle language s c r
+idle_by : (plan : Option Plan) (language : Language) (roots : List Name) (s : Sources) (c : Client) (r : Runtime) → is_some plan ≡ false → IsIdleOrBusy plan language s c r → IsIdle language s c r
 idle_by None language roots s c r e h = h
 idle_by (Some p) language roots s c r e h = absurd (false≢true (sym e))
 

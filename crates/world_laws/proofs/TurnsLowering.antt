@@ -26,7 +26,7 @@ use Rattle.world_model.specs.Turning.{turn_of}
 use Rattle.world_model.specs.Steps.{world_step, world_after}
 use Rattle.world_model.specs.Ties.{IsTied, TiedAt, AreServedRight, WentOn}
 use Rattle.world_model.proofs.Tying.{IsSound, run_sound}
-use Rattle.world_laws.specs.Quiet.{EndsBy, EndsAt, Ends, IsSettled, unsent_of, IsOpen, OwesLess, AreQuiet, IsUpWithin}
+use Rattle.world_laws.specs.Quiet.{IsIdleOrBusy, EndsAt, Ends, IsSettled, unsent_of, IsOpen, OwesLess, AreQuiet, IsUpWithin}
 use Rattle.world_laws.proofs.CatchingUp.{test_is, empty_is}
 use Rattle.world_laws.proofs.Freshness.{core_made}
 use Rattle.world_laws.proofs.TurnsTaken.{heard_by, heard_by_roots, done_by, is_answered, Turned, turned}
@@ -47,7 +47,7 @@ module _ (language : Language) (s : Sources) (right : AreServedRight language s.
   cl plan = record { roots = roots; batches = batches; page = page plan; plan_at = plan_at; held_at = held_at; notices = notices }
 
   lower_by : (plan : Option Plan) (cause : Option Cause) (unsent : List Invalidation) → BindsImports language → IsSettled language roots s → (plan_at ≡ s.served_no → PlanIsServed plan view s.served) → ((n : Name) → has forced n ≡ true → self_accepts view n ≡ true)
-      → EndsBy plan language s (cl plan) (rt plan cause unsent) → (IsCaughtUp s (cl plan) (rt plan cause unsent) → ⊥)
+      → IsIdleOrBusy plan language s (cl plan) (rt plan cause unsent) → (IsCaughtUp s (cl plan) (rt plan cause unsent) → ⊥)
       → is_answered loaded (request_by plan language (rt plan cause unsent)) (message_for format (heard_by (request_by plan language (rt plan cause unsent)) i s (cl plan)).1) ≡ true
       → length (done_by language (request_by plan language (rt plan cause unsent)) (heard_by (request_by plan language (rt plan cause unsent)) i s (cl plan)).1 (rt plan cause unsent)).unsent ≤ length unsent
       → debt s (heard_by (request_by plan language (rt plan cause unsent)) i s (cl plan)).0 (done_by language (request_by plan language (rt plan cause unsent)) (heard_by (request_by plan language (rt plan cause unsent)) i s (cl plan)).1 (rt plan cause unsent)) < debt_by plan s (cl plan) (rt plan cause unsent)
@@ -57,7 +57,7 @@ module _ (language : Language) (s : Sources) (right : AreServedRight language s.
 abbrev TurnLowers : Language → ℕ → Sources → Client → Runtime → Type 0
 TurnLowers language i s c r =
     BindsImports language → IsSettled language c.roots s → (c.plan_at ≡ s.served_no → PlanIsServed c.page.plan c.page.view s.served) → ((n : Name) → has c.page.forced n ≡ true → self_accepts c.page.view n ≡ true)
-    → EndsBy c.page.plan language s c r → (IsCaughtUp s c r → ⊥)
+    → IsIdleOrBusy c.page.plan language s c r → (IsCaughtUp s c r → ⊥)
     → is_answered r.page.loaded (request_by r.page.plan language r) (message_for r.format (heard_by (request_by r.page.plan language r) i s c).1) ≡ true
     → length (done_by language (request_by r.page.plan language r) (heard_by (request_by r.page.plan language r) i s c).1 r).unsent ≤ length r.unsent
     → debt s (heard_by (request_by r.page.plan language r) i s c).0 (done_by language (request_by r.page.plan language r) (heard_by (request_by r.page.plan language r) i s c).1 r) < debt s c r
@@ -81,7 +81,7 @@ own : {X : Type 0} → (b : Bool) (x : X) (o : Option X) → b ≡ true → (if 
 own true x o e = refl
 own false x o e = absurd (false≢true e)
 
-stepped_by : (language : Language) (w after : World) (i : ℕ) (c : Client) (r : Runtime) → Turned language w after i c r → IsTied i c r → AreServedRight language w.core.sources.served → HasFacts w.core.sources c → EndsBy c.page.plan language w.core.sources c r
+stepped_by : (language : Language) (w after : World) (i : ℕ) (c : Client) (r : Runtime) → Turned language w after i c r → IsTied i c r → AreServedRight language w.core.sources.served → HasFacts w.core.sources c → IsIdleOrBusy c.page.plan language w.core.sources c r
     → BindsImports language → IsSettled language c.roots w.core.sources → (IsCaughtUp w.core.sources c r → ⊥) → unsent_of (client_at after.clients i) ≤ length r.unsent → Stepped c.roots w after i (debt w.core.sources c r)
 stepped_by language w after i c r t tie right f ends binds settled behind calm =
     let connected : client_at after.core.clients i ≡ Some (heard_by (request_by r.page.plan language r) i w.core.sources c).0 = t.clients i ∙ own (i == i) _ _ (eq-eqb i i refl) in
@@ -104,7 +104,7 @@ stepped : (language : Language) (roots : List Name) (w : World) (i : ℕ) (c : C
 stepped language roots w i c r sound facts ends there open_is binds settled behind some calm =
     let tie : IsTied i c r = subst (λ o. TiedAt i o (Some r)) there (subst (TiedAt i (client_at w.core.clients i)) open_is (sound.tied i)) in
     let f : HasFacts w.core.sources c = subst (λ o. IfSome o (HasFacts w.core.sources)) there (facts i) in
-    let e : EndsBy c.page.plan language w.core.sources c r = subst (λ o. EndsAt language w.core.sources o (Some r)) there (subst (EndsAt language w.core.sources (client_at w.core.clients i)) open_is (ends i)) in
+    let e : IsIdleOrBusy c.page.plan language w.core.sources c r = subst (λ o. EndsAt language w.core.sources o (Some r)) there (subst (EndsAt language w.core.sources (client_at w.core.clients i)) open_is (ends i)) in
     let goes : is_some (turn_of language roots i w (Some r)).lines ≡ true = subst (λ o. is_some (turn_of language roots i w o).lines ≡ true) open_is some in
     let calm_here : unsent_of (client_at (turn_of language roots i w (Some r)).world.clients i) ≤ length r.unsent = subst (λ o. unsent_of (client_at (turn_of language roots i w o).world.clients i) ≤ unsent_of o) open_is calm in
     subst (λ o. Stepped c.roots w (turn_of language roots i w o).world i (debt w.core.sources c r)) (sym open_is)

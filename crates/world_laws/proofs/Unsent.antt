@@ -13,7 +13,7 @@ use Rattle.update_msgs.specs.declared.message.ClientMsg.TheVariants as request_i
 use Rattle.update_msgs.specs.declared.message.ServerMsg.{ServerMsg}
 use Rattle.update_msgs.specs.declared.message.ServerMsg.TheVariants as msg
 use Rattle.core_model.specs.Names.{Name, same_name, has, at}
-use Rattle.core_model.specs.Sources.{Text, Change, edit, result, Serving, EditAnswer, job, same, removed, refused, edit_answer, text_or_none, sources_after}
+use Rattle.core_model.specs.Sources.{Text, Change, edit, result, Serving, EditAnswer, job, same, removed, edit_refused, edit_answer, text_or_none, sources_after}
 use Rattle.core_model.specs.View.{Entry}
 use Rattle.core_model.specs.Page.{Plan, given_up}
 use Rattle.core_model.specs.Client.{Client}
@@ -25,7 +25,7 @@ use Rattle.client_model.specs.Language.{Language}
 use Rattle.client_model.specs.Runtime.{Runtime, Opening, new_runtime, Invalidation, Cause, missing, broken, unlinked, nothing, and_then, for_each, write}
 use Rattle.client_model.specs.Linking.{new_names, next_needed, link_cause}
 use Rattle.client_model.specs.Requesting.{ask_or_invalidate, abort_message, apply_or_abort, fetch_or_finish, carry_on, request_by, hello, request, cause_by}
-use Rattle.client_model.specs.Answering.{accept_line, pair_of, start_update, start_reload, stage, stage_in, apply_in, abort_in, write_cause, without_first, done, refused as refused_by, answered}
+use Rattle.client_model.specs.Answering.{accept_line, pair_of, start_update, start_reload, stage, stage_in, apply_in, abort_in, write_cause, without_first, done, took_refusal, answered}
 use Rattle.client_model.specs.Expecting.{is_answer}
 use Rattle.client_model.specs.Past.{Incoming, message, event, met}
 use Rattle.client_model.proofs.Needs.{IsDue, Needs}
@@ -105,7 +105,7 @@ module _ (language : Language) (r : Runtime) (h : HoldsOf r) (all : AllVersioned
   done_versions (request_is.Invalidate m v text) n after = rest_versions r.unsent u
   done_versions request_is.Bye n after = u
 
-  refused_versions : (asked : ClientMsg) → AreUnsentVersions (refused_by asked r).0
+  refused_versions : (asked : ClientMsg) → AreUnsentVersions (took_refusal asked r).0
   refused_versions (request_is.Hello format names) = u
   refused_versions request_is.Ask = u
   refused_versions (request_is.Fetch m) = u
@@ -214,7 +214,7 @@ written_version (edit m x ∷ past) n v t e =
     by (job w) f rest e = counted w (text_or_none x) f.0 rest (same_name m n && w == v) refl e
     by same f rest e = rest e
     by (removed w) f rest e = rest e
-    by (refused word) f rest e = rest e
+    by (edit_refused word) f rest e = rest e
 
 -- Every step.
 

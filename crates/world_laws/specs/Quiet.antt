@@ -54,15 +54,15 @@ pub record IsBusy (s : Sources) (c : Client) (r : Runtime) : Type 0 where
   pub current : c.plan_at ≡ s.served_no → IsCurrent c.roots s.served r
 
 -- by the plan under way, if there is one
-abbrev pub EndsBy : Option Plan → Language → Sources → Client → Runtime → Type 0
-EndsBy None language s c r = IsIdle language s c r
-EndsBy (Some p) language s c r = IsBusy s c r
+abbrev pub IsIdleOrBusy : Option Plan → Language → Sources → Client → Runtime → Type 0
+IsIdleOrBusy None language s c r = IsIdle language s c r
+IsIdleOrBusy (Some p) language s c r = IsBusy s c r
 
 -- the same of each client that has a record and is open
 abbrev pub EndsAt : Language → Sources → Option Client → Option Runtime → Type 0
 EndsAt language s None r = ⊤
 EndsAt language s (Some c) None = ⊤
-EndsAt language s (Some c) (Some r) = EndsBy c.page.plan language s c r
+EndsAt language s (Some c) (Some r) = IsIdleOrBusy c.page.plan language s c r
 
 -- of every client
 abbrev pub Ends : Language → World → Type 0

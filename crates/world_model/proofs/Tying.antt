@@ -53,7 +53,7 @@ edit_right : (language : Language) (answer : EditAnswer) (n : Name) (t : Option 
 edit_right language (job v) n t s h m = h m
 edit_right language same n t s h m = h m
 edit_right language (removed v) n t s h m = subst (IsServedRight language m) (sym (tables.at_without n s.served m)) (without_right language (same_name n m) m (at s.served m) (h m))
-edit_right language (sources.refused word) n t s h m = h m
+edit_right language (sources.edit_refused word) n t s h m = h m
 
 result_right : (language : Language) (awaited : Bool) (o : Outcome) (n : Name) (t : Text) (v : ℕ) (s : Sources) → o ≡ language.transformed n t → AreServedRight language s.served → AreServedRight language (after_result (if awaited then answer_of o else late) n t v s).served
 result_right language true (Good a) n t v s e h m = subst (IsServedRight language m) (sym (tables.at_with_row n _ s.served m)) (with_right language n (record { version = v; text = t; analysis = a }) (same_name n m) m (at s.served m) (same_true n m) (sym e) (h m))
@@ -66,7 +66,7 @@ told_of_edit_roots : (answer : EditAnswer) (n : Name) (c : Client) → (told_of_
 told_of_edit_roots (job v) n c = refl
 told_of_edit_roots same n c = refl
 told_of_edit_roots (removed v) n c = refl
-told_of_edit_roots (sources.refused word) n c = refl
+told_of_edit_roots (sources.edit_refused word) n c = refl
 
 told_of_result_roots : (answer : ResultAnswer) (n : Name) (c : Client) → (told_of_result answer n c).roots ≡ c.roots
 told_of_result_roots (serve a) n c = refl

@@ -6,7 +6,7 @@ use Rattle.output_lines.specs.declared.words.SettleWord.TheVariants as settles_a
 use Rattle.output_lines.specs.declared.out_line.OutLine.{OutLine}
 use Rattle.output_lines.specs.declared.out_line.OutLine.TheVariants as line
 use Rattle.core_model.specs.Names.{Name, same_name}
-use Rattle.core_model.specs.Sources.{Text, result, EditAnswer, job, same, removed, refused, ResultAnswer, serve, refuse, late}
+use Rattle.core_model.specs.Sources.{Text, result, EditAnswer, job, same, removed, edit_refused, ResultAnswer, serve, refuse, late}
 use Rattle.core_model.specs.Requests.{Reply, edited, settled, to_client, gone}
 use Rattle.core_model.specs.Requests as replies
 use Rattle.core_model.specs.Core.{Core, change, step}
@@ -18,14 +18,14 @@ abbrev pub edit_line : Name → EditAnswer → OutLine
 edit_line n (job v) = line.Edit n (edits_are.Job v)
 edit_line n same = line.Edit n edits_are.Same
 edit_line n (removed v) = line.Remove n (removes.Removed v)
-edit_line n (refused word) = line.Edit n (edits_are.Refused word)
+edit_line n (edit_refused word) = line.Edit n (edits_are.Refused word)
 
 -- the line of a removal
 abbrev pub remove_line : Name → EditAnswer → OutLine
 remove_line n (job v) = line.Edit n (edits_are.Job v)
 remove_line n same = line.Remove n removes.Same
 remove_line n (removed v) = line.Remove n (removes.Removed v)
-remove_line n (refused word) = line.Remove n removes.NumbersSpent
+remove_line n (edit_refused word) = line.Remove n removes.NumbersSpent
 
 -- the line of an edit
 abbrev pub line_of_edit : Name → Option Text → EditAnswer → OutLine
@@ -46,7 +46,7 @@ with_job n None answer jobs = jobs
 with_job n (Some t) (job v) jobs = record { name = n; version = v; text = t } ∷ jobs
 with_job n (Some t) same jobs = jobs
 with_job n (Some t) (removed v) jobs = jobs
-with_job n (Some t) (refused word) jobs = jobs
+with_job n (Some t) (edit_refused word) jobs = jobs
 
 -- the jobs after an edit, by the core's reply
 abbrev pub jobs_after : Name → Option Text → Reply → List Job → List Job

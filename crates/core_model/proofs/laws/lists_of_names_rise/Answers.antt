@@ -4,7 +4,7 @@ use Rattle.std.specs.List.{list_any}
 use Rattle.core_model.specs.Names.{Name, has, at, names_of, sorted, rising}
 use Rattle.core_model.specs.View.{View, reached_in}
 use Rattle.core_model.specs.Page.{Plan, met_of, new_entry, new_view}
-use Rattle.core_model.specs.FreshLoad.{imports, imported_of, reached_by, version_in}
+use Rattle.core_model.specs.FreshLoad.{imports, imported_by_served, reached_by, version_in}
 use Rattle.core_model.specs.Rounds.{reached_of}
 use Rattle.core_model.specs.Spread.{passes, spread_of}
 use Rattle.core_model.proofs.Rising.{sorted_rises, collect_rises, table_rises}
@@ -26,4 +26,4 @@ pub returns-clause-replaced : goal.returns-clause-replaced
 returns-clause-replaced c view changed forced = sorted_rises (changed ++ filter (λ m. list_any (λ n. passes view forced n m) (spread_of view changed forced)) (names_of view))
 
 pub returns-clause-fresh : goal.returns-clause-fresh
-returns-clause-fresh c served roots = collect_rises (λ n. version_in (at served n)) (reached_by served roots) (sorted_rises (reached_of (imports served) (imported_of served) roots))
+returns-clause-fresh c served roots = collect_rises (λ n. version_in (at served n)) (reached_by served roots) (sorted_rises (reached_of (imports served) (imported_by_served served) roots))
