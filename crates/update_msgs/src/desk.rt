@@ -30,11 +30,14 @@ impl From<AllocError> for HubStop {
 
 /// What answers the messages of one client. `full` says whether a message was answered by
 /// [`HubStop::TranscriptFull`] so far. `told` has the messages with their answers so far, in order,
-/// where the desk tells them.
+/// where the desk tells them. `stays` is what each answer keeps of the desk, as of which hub it is: it
+/// holds of a desk and itself, and over one answer after another.
 pub trait Desk {
     ghost full: { Self → Bool };
 
     ghost told: { Self → Option (List (ClientMsg × ServerMsg)) };
+
+    ghost stays: { Self → Self → Type 0 };
 
     /// Answers a message whose names and texts have at most 16,777,216 bytes together. After
     /// [`HubStop::NoMemory`] the desk is as it was, but for the memory of its own. Each answer can be
@@ -43,5 +46,10 @@ pub trait Desk {
         requires size { bytes_of msg ≤ MESSAGE_BYTES }
         ensures full { full self.new ≡ (full self.old || is_full result) }
         ensures written { IfOk result (λ m. (format : ℕ) → IsFormat format → IsWritable format m) }
-        ensures told { told self.new ≡ told_after (told self.old) msg result };
+        ensures told { told self.new ≡ told_after (told self.old) msg result }
+        ensures stays { stays self.old self.new };
+
+    ghost same: { (desk : Self) → stays desk desk };
+
+    ghost then: { (desk next last : Self) → stays desk next → stays next last → stays desk last };
 }

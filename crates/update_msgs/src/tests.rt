@@ -1,5 +1,5 @@
 // What no clause says: that a desk can be written and called through the trait.
-ghost use Rattle.std.specs.Prelude.{None, ◌==◌};
+ghost use Rattle.std.specs.Prelude.{None, ◌==◌, ⊤};
 
 use super::*;
 use std::test::Fail;
@@ -16,6 +16,8 @@ impl Desk for IdleDesk {
 
     ghost told = { λ d. None };
 
+    ghost stays = { λ old new. ⊤ };
+
     fn answer(&mut self, _msg: ClientMsg) -> Result<ServerMsg, HubStop> {
         if self.left == 0 {
             self.full = true;
@@ -24,6 +26,10 @@ impl Desk for IdleDesk {
         self.left -= 1;
         Ok(ServerMsg::Idle)
     }
+
+    ghost same = { λ d. tt };
+
+    ghost then = { λ d n l p q. tt };
 }
 
 fn ask<D: Desk>(desk: &mut D) -> Result<ServerMsg, HubStop> {
