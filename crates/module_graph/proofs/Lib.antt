@@ -1,3 +1,5 @@
 pub mod Sorting
 pub mod Rows
+pub mod Sets
+pub mod Distinct
 pub mod Searches

@@ -5,10 +5,14 @@
 //! changes, of roots or of clients.
 #![tactic(auto)]
 
+mod known;
+mod name_set;
 mod names;
 mod search;
 mod view;
 
-pub use names::{copy_of, has_name, rising};
+pub use known::Known;
+pub use name_set::NameSet;
+pub use names::{copy_name, copy_of, has_name, rising};
 pub use search::{Edges, Imports, reached};
 pub use view::View;

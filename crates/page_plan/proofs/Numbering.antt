@@ -11,7 +11,7 @@ use Rattle.std.proofs.lemmas.List.{take_more, length-take}
 use Rattle.core_model.specs.Names.{Name, same_name, has, at}
 use Rattle.core_model.proofs.Naming.{same_true}
 use Rattle.client_model.specs.Linking.{place_of}
-use Rattle.page_plan.proofs.Sets.{compared_same}
+use Rattle.module_graph.proofs.Sets.{compared_same}
 
 -- the map finds the first entry of a name
 pub found : {X : Type 0} (n : Name) (rows : List (Name × X)) → lookup (is_at (slice_cmp nat_cmp n)) rows ≡ at rows n

@@ -7,7 +7,6 @@
 
 mod apply;
 pub mod laws;
-mod name_set;
 mod numbers;
 mod plan;
 mod tasks;
@@ -17,7 +16,7 @@ mod walk;
 mod walker;
 
 pub use apply::Applied;
-pub use name_set::NameSet;
+pub use module_graph::NameSet;
 pub use numbers::{Numbers, new_names};
 pub use plan::Plan;
 pub use tasks::Task;

@@ -5,10 +5,9 @@ ghost use Rattle.core_model.specs.Names.{Name, has, same_name};
 ghost use Rattle.page_plan.specs.Numbers.{new_number};
 ghost use Rattle.client_model.specs.Linking.{is_kept, place_of};
 
-use crate::name_set::copy_name;
 use crate::plan::Plan;
 use hmr_types::{ModName, PlanKind};
-use module_graph::View;
+use module_graph::{View, copy_name};
 use std::alloc::{AllocError, Global};
 use std::collections::BTreeMap;
 use std::marker::Model;

@@ -7,9 +7,8 @@ ghost use Rattle.hmr_types.specs.Table.{is_table};
 ghost use Rattle.page_plan.specs.Applied.{IsCompared};
 
 use crate::apply::Applied;
-use crate::name_set::copy_name;
 use hmr_types::{ModName, Table, Ver};
-use module_graph::{View, rising};
+use module_graph::{View, copy_name, rising};
 use std::alloc::{AllocError, Global};
 
 /// The table of a view: its modules with their versions. The names have to rise, and the versions have to

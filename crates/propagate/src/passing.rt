@@ -1,7 +1,7 @@
 // The edges that a change passes, against the direction of imports: from a module to each that imports
 // it and doesn't accept it, unless the module takes its own change.
 ghost use Rattle.std.specs.Prelude.{◌≡◌, ◌↔◌, ◌++◌, true, Contains, IfOk, OnOk, filter};
-ghost use Rattle.core_model.specs.Names.{Name};
+ghost use Rattle.core_model.specs.Names.{Name, names_of};
 ghost use Rattle.core_model.specs.Spread.{passes, ends_badly};
 ghost use Rattle.propagate.specs.Passing.{lets_pass};
 
@@ -28,6 +28,8 @@ impl<'a> Passing<'a> {
 
 impl<'a> Edges for Passing<'a> {
     ghost edge = { λ s. passes s.view.now s.forced.now };
+
+    ghost names = { λ s. names_of s.view.now };
 
     fn next(&self, alloc: Global, name: &ModName) -> Result<Vec<ModName>, AllocError> {
         let importers = self.view.importers(alloc, name)?;

@@ -20,5 +20,5 @@ returns c =
     (subst (λ f. (m : Name) → has firsts m ≡ touched (passes c.of-graph.result.view.now f) c.deref.result.now m) c.of-graph.ensures.forced c.in_ok-firsts.ensures)))
     (subst (λ s. (m : Name) → Contains passed m ↔ Reaches (passes view forced) s m) c.deref-2.ensures.value
     (subst (λ v. (m : Name) → Contains passed m ↔ Reaches (passes v forced) c.deref-2.result.now m) c.of-graph.ensures.view
-    (subst (λ f. (m : Name) → Contains passed m ↔ Reaches (passes c.of-graph.result.view.now f) c.deref-2.result.now m) c.of-graph.ensures.forced c.in_ok-passed.ensures)))
+    (subst (λ f. (m : Name) → Contains passed m ↔ Reaches (passes c.of-graph.result.view.now f) c.deref-2.result.now m) c.of-graph.ensures.forced c.in_ok-passed.ensures.exact)))
     c.in_ok-names.names.items c.in_ok-replaced.replaced.items (c.in_ok-names.ensures ∙ ap (λ l. changed ++ l) c.deref-3.ensures.value) c.in_ok-replaced.ensures

@@ -19,7 +19,7 @@ pub returns-clause-computed : goal.returns-clause-computed
 returns-clause-computed c =
     let known = c.in_ok-known.known.items in
     left_is c.args.view.now c.args.roots.now known c.in_ok-unreached.unreached.items
-    (subst (λ v. (m : Name) → Contains known m ↔ Reaches (imports v) c.args.roots.now m) c.of.ensures c.in_ok-known.ensures)
+    (subst (λ v. (m : Name) → Contains known m ↔ Reaches (imports v) c.args.roots.now m) c.of.ensures c.in_ok-known.ensures.exact)
     (c.in_ok-unreached.ensures ∙ ap sorted (c.in_ok-left.ensures ∙ ap (filter (λ n. not (has c.deref-2.result.now n))) (c.deref.ensures.value ∙ c.in_ok-names.ensures.names) ∙ ap (λ l. filter (λ n. not (has l n)) (names_of c.args.view.now)) c.deref-2.ensures.value))
 
 pub returns-clause-exact : goal.returns-clause-exact

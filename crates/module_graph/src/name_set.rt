@@ -63,10 +63,3 @@ impl NameSet {
         Ok(new)
     }
 }
-
-/// An equal name.
-pub(crate) fn copy_name(name: &ModName) -> Result<ModName, AllocError>
-    ensures { IfOk result (λ copy. copy ≡ name.now) }
-{
-    name.clone()
-}

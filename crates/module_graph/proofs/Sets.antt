@@ -40,7 +40,7 @@ pub insert_has : (keys : List Name) (n m : Name) → has (insert_key (slice_cmp 
 insert_has [] n m = refl
 insert_has (x ∷ xs) n m = insert_step n x xs m (slice_cmp nat_cmp n x) refl (insert_has xs n m)
 
-or_last : (a b : Bool) → (a || (b || false)) ≡ (b || a)
+pub or_last : (a b : Bool) → (a || (b || false)) ≡ (b || a)
 or_last true true = refl
 or_last true false = refl
 or_last false true = refl
