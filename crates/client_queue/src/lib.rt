@@ -8,7 +8,8 @@
 //! Knows nothing of views, of plans or of messages.
 #![tactic(auto)]
 
-mod marks;
+mod known;
+mod name_row;
 mod queue;
 mod sorted;
 
