@@ -6,11 +6,13 @@
 #![tactic(auto)]
 
 mod apply;
+mod firsts;
 pub mod laws;
 mod name_set;
 mod numbers;
 mod plan;
 mod tasks;
+mod told;
 mod versions;
 mod view;
 mod walk;
