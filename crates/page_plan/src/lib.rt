@@ -6,10 +6,12 @@
 #![tactic(auto)]
 
 mod apply;
+mod firsts;
 pub mod laws;
 mod numbers;
 mod plan;
 mod tasks;
+mod told;
 mod versions;
 mod view;
 mod walk;
