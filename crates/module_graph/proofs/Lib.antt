@@ -3,3 +3,5 @@ pub mod Rows
 pub mod Sets
 pub mod Distinct
 pub mod Searches
+pub mod Turning
+pub mod Marking
