@@ -358,5 +358,5 @@ module _ (edge : Name → Name → Bool) (starts met : List Name) (paths : List 
     pub ranked_none : (m : Name) → Reaches edge starts m → bad m ≡ false
     ranked_none m c =
         let k : Contains met m = reaches_within edge starts (Contains met) (λ n s. stands_has n (n ∷ []) (r.begun n s))
-            (λ n j h e. stands_has j (get_or paths h.0 [] ++ j ∷ []) (r.covered h.0 j (omega (arith, h.1, all_seen)) (ap (λ i. edge i j) (get_or_default met h.0 [] n h.1 ∙ h.2) ∙ e))) m c in
+        (λ n j h e. stands_has j (get_or paths h.0 [] ++ j ∷ []) (r.covered h.0 j (omega (arith, h.1, all_seen)) (ap (λ i. edge i j) (get_or_default met h.0 [] n h.1 ∙ h.2) ∙ e))) m c in
         ap bad (sym (get_or_default met k.0 [] m k.1 ∙ k.2)) ∙ fine k.0 (omega (arith, k.1, all_seen))

@@ -5,6 +5,7 @@ ghost use Rattle.core_model.specs.Names.{Name, names_of};
 ghost use Rattle.core_model.specs.Spread.{passes, ends_badly};
 ghost use Rattle.propagate.specs.Passing.{lets_pass};
 
+use crate::change::Change;
 use crate::trails::Ends;
 use hmr_types::ModName;
 use module_graph::{Edges, View, copy_of, has_name};
@@ -18,11 +19,14 @@ pub(crate) struct Passing<'a> {
 }
 
 impl<'a> Passing<'a> {
-    pub(crate) fn of(view: &'a View, forced: &'a [ModName]) -> Passing<'a>
-        ensures view { result.view.now ≡ view.now }
-        ensures forced { result.forced.now ≡ forced.now }
+    pub(crate) fn of(change: &Change<'a>) -> Passing<'a>
+        ensures view { result.view.now ≡ change.now.view.now }
+        ensures forced { result.forced.now ≡ change.now.forced.now }
     {
-        Passing { view, forced }
+        Passing {
+            view: change.view,
+            forced: change.forced,
+        }
     }
 }
 
@@ -72,15 +76,15 @@ pub(crate) struct BadEnds<'a> {
 }
 
 impl<'a> BadEnds<'a> {
-    pub(crate) fn of(view: &'a View, roots: &'a [ModName], forced: &'a [ModName]) -> BadEnds<'a>
-        ensures view { result.view.now ≡ view.now }
-        ensures roots { result.roots.now ≡ roots.now }
-        ensures forced { result.forced.now ≡ forced.now }
+    pub(crate) fn of(change: &Change<'a>) -> BadEnds<'a>
+        ensures view { result.view.now ≡ change.now.view.now }
+        ensures roots { result.roots.now ≡ change.now.roots.now }
+        ensures forced { result.forced.now ≡ change.now.forced.now }
     {
         BadEnds {
-            view,
-            roots,
-            forced,
+            view: change.view,
+            roots: change.roots,
+            forced: change.forced,
         }
     }
 }

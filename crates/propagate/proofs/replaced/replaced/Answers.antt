@@ -9,9 +9,9 @@ use Rattle.propagate.proofs.replaced.replaced.Goals as goal
 
 pub returns : goal.returns
 returns c =
-    let view = c.args.view.now in
-    let changed = c.args.changed.now in
-    let forced = c.args.forced.now in
+    let view = c.args.change.now.view.now in
+    let changed = c.args.change.now.changed.now in
+    let forced = c.args.change.now.forced.now in
     let firsts = c.in_ok-firsts.firsts.items in
     let passed = c.in_ok-passed.passed.items in
     replaced_is view changed forced firsts passed
