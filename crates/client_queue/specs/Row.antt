@@ -4,7 +4,7 @@ use Rattle.std.specs.BTreeMap.{IsOrdered}
 use Rattle.std.specs.Cmp.Lexicographic.{slice_cmp}
 use Rattle.std.specs.Option.{option_map}
 use Rattle.std.specs.Ordering.{nat_cmp}
-use Rattle.core_model.specs.Names.{Name, at}
+use Rattle.core_model.specs.Names.{Name, at, same_name}
 use Rattle.client_queue.specs.declared.name_row.NameRow.{NameRow}
 
 -- each name has the place at which it stands
@@ -12,6 +12,10 @@ pub record IsRow (row : NameRow) : Type 0 where
   pub ordered : IsOrdered (slice_cmp nat_cmp) row.places
   pub stands : (n : Name) (p : ℕ) → at row.places.entries n ≡ Some p → slice_get row.names.items p ≡ Some n
   pub told : (n : Name) (p : ℕ) → slice_get row.names.items p ≡ Some n → at row.places.entries n ≡ Some p
+
+-- afterwards the name has this value, or isn't there, and each other name is as it was
+abbrev pub IsSetAt : {X : Type 0} → Name → Option X → List (Name × X) → List (Name × X) → Type 0
+IsSetAt n value old new = (m : Name) → at new m ≡ (if same_name n m then value else at old m)
 
 -- where a place comes to when two places are exchanged
 abbrev pub exchanged : ℕ → ℕ → ℕ → ℕ

@@ -1,11 +1,12 @@
 // The known names, of which some are marked. They stand in a row, the marked ones first: a name is
 // marked by an exchange with the first unmarked one, and unmarked by an exchange with the last marked one.
-ghost use Rattle.std.specs.Prelude.{◌≡◌, [], None, Some, IfOk, OnErr, OnOk, if◌then◌else◌, not, true, false};
+ghost use Rattle.std.specs.Prelude.{◌≡◌, [], None, Some, IfOk, OnErr, OnOk, not, true, false};
 ghost use Rattle.std.specs.Cmp.Lexicographic.{slice_cmp};
 ghost use Rattle.std.specs.List.Sorted.{IsStrictlySortedBy};
 ghost use Rattle.std.specs.Ordering.{nat_cmp};
-ghost use Rattle.core_model.specs.Names.{Name, at, has, same_name};
+ghost use Rattle.core_model.specs.Names.{Name, at, has};
 ghost use Rattle.client_queue.specs.Queue.{is_none_left, mark_in, mark_where_known, marked_of};
+ghost use Rattle.client_queue.specs.Row.{IsSetAt};
 
 use crate::name_row::NameRow;
 use hmr_types::ModName;
@@ -45,7 +46,7 @@ impl KnownNames {
 
     /// Makes a name known and unmarked; where it is known, nothing changes.
     pub(crate) fn enter(&mut self, name: ModName) -> Result<(), AllocError>
-        ensures ok { OnOk result ((m : Name) → at self.new m ≡ (if same_name name m then Some (mark_in (at self.old name)) else at self.old m)) }
+        ensures ok { OnOk result (IsSetAt name (Some (mark_in (at self.old name))) self.old self.new) }
         ensures err { OnErr result (self.new ≡ self.old) }
     {
         if self.row.place(&name).is_none() {
@@ -56,7 +57,7 @@ impl KnownNames {
 
     /// Makes a name unknown.
     pub(crate) fn leave(&mut self, name: &ModName)
-        ensures { (m : Name) → at self.new m ≡ (if same_name name.now m then None else at self.old m) }
+        ensures { IsSetAt name.now None self.old self.new }
     {
         self.unmark(name);
         if let Some(place) = self.row.place(name) {
@@ -66,7 +67,7 @@ impl KnownNames {
 
     /// Marks a name, where it is known.
     pub(crate) fn mark(&mut self, name: &ModName)
-        ensures { (m : Name) → at self.new m ≡ (if same_name name.now m then mark_where_known true (at self.old name.now) else at self.old m) }
+        ensures { IsSetAt name.now (mark_where_known true (at self.old name.now)) self.old self.new }
     {
         if let Some(place) = self.row.place(name) {
             if place >= self.marked_count {
@@ -78,7 +79,7 @@ impl KnownNames {
 
     /// Takes the mark of a name away.
     pub(crate) fn unmark(&mut self, name: &ModName)
-        ensures { (m : Name) → at self.new m ≡ (if same_name name.now m then mark_where_known false (at self.old name.now) else at self.old m) }
+        ensures { IsSetAt name.now (mark_where_known false (at self.old name.now)) self.old self.new }
     {
         if let Some(place) = self.row.place(name) {
             if place < self.marked_count {

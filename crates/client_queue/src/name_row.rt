@@ -7,7 +7,7 @@ ghost use Rattle.std.specs.List.{swap};
 ghost use Rattle.std.specs.Option.{option_map};
 ghost use Rattle.std.specs.Ordering.{nat_cmp};
 ghost use Rattle.core_model.specs.Names.{Name, at, same_name};
-ghost use Rattle.client_queue.specs.Row.{IsRow, exchanged};
+ghost use Rattle.client_queue.specs.Row.{IsRow, IsSetAt, exchanged};
 
 use hmr_types::ModName;
 use std::alloc::{AllocError, Global};
@@ -53,7 +53,7 @@ impl NameRow {
         requires row { IsRow self.old }
         requires unknown { at self.old.places.entries name ≡ None }
         ensures row { IsRow self.new }
-        ensures places { OnOk result ((m : Name) → at self.new.places.entries m ≡ (if same_name name m then Some (length self.old.names.items) else at self.old.places.entries m)) }
+        ensures places { OnOk result (IsSetAt name (Some (length self.old.names.items)) self.old.places.entries self.new.places.entries) }
         ensures names { OnOk result (self.new.names.items ≡ self.old.names.items ++ name ∷ []) }
         ensures places_kept { OnErr result (self.new.places.entries ≡ self.old.places.entries) }
         ensures names_kept { OnErr result (self.new.names.items ≡ self.old.names.items) }
@@ -98,7 +98,7 @@ impl NameRow {
 // Gives a name of the map this place.
 fn set_place(places: &mut BTreeMap<ModName, usize>, name: &ModName, place: usize)
     requires { IsSome (at places.old.entries name.now) }
-    ensures places { (m : Name) → at places.new.entries m ≡ (if same_name name.now m then Some place else at places.old.entries m) }
+    ensures places { IsSetAt name.now (Some place) places.old.entries places.new.entries }
     ensures ordered { IsOrdered (slice_cmp nat_cmp) places.old → IsOrdered (slice_cmp nat_cmp) places.new }
 {
     if let Some(old) = places.get_mut(name) {
