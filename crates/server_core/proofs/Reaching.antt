@@ -2,7 +2,7 @@
 use Rattle.std.proofs.Common.{◌≡◌, ◌↔◌, List, ◌∙◌, Contains}
 use Rattle.core_model.specs.Names.{Name, at, has, sorted}
 use Rattle.core_model.specs.Paths.{Reaches}
-use Rattle.core_model.specs.FreshLoad.{Served, imports, imports_in, imported_by_served, reached_by}
+use Rattle.core_model.specs.FreshLoad.{Served, imports, imported_by_served, reached_by}
 use Rattle.core_model.specs.Rounds.{IsOver, reached_of}
 use Rattle.core_model.specs.Sources.{Serving}
 use Rattle.core_model.proofs.Naming.{has_is, same_test, sorted_has}
