@@ -1,0 +1,4 @@
+pub mod Feeds
+pub mod Lanes
+pub mod LineStarts
+pub mod Runs

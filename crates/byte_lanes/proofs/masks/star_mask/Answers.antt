@@ -1,0 +1,12 @@
+use Rattle.std.proofs.Common.{ℕ, refl}
+use Rattle.std.proofs.lemmas.Simd.{zip2_splat}
+use Rattle.byte_lanes.proofs.Lanes.{masked, equal}
+use Rattle.byte_lanes.specs.Classes.{is_star}
+use Rattle.byte_lanes.proofs.masks.star_mask.Goals as goal
+
+pub returns : goal.returns
+unfolding is_star
+returns c =
+    let v = c.args.lanes in
+    let is = λ (y : ℕ). zip2_splat equal v 64 y c.fits-lanes.0 in
+    masked _ is_star v _ c.fits-lanes (is 42) refl
