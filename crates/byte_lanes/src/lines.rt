@@ -1,5 +1,5 @@
 // Lines: how many LFs a text has, and where its lines begin.
-ghost use Rattle.std.specs.Prelude.{◌≡◌, ◌+◌, ◌^◌, ◌<◌, ◌≤◌, ◌++◌, length, drop, suc};
+ghost use Rattle.std.specs.Prelude.{◌≡◌, ◌^◌, ◌<◌, ◌≤◌, ◌++◌, length, drop, suc};
 ghost use Rattle.module_semantics.specs.Lines.{line_feeds};
 ghost use Rattle.byte_lanes.specs.Starts.{starts_of};
 

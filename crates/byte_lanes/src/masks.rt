@@ -16,8 +16,8 @@ pub struct ClassMasks {
     pub quote: u64,
 }
 
-/// The masks of a block: bit i is set exactly where byte i is in the class. Costs some twenty
-/// comparisons of whole blocks.
+/// The masks of a block: bit i is set exactly where byte i is in the class. Costs a dozen
+/// comparisons of the whole block.
 pub fn classes(block: &[u8; 64]) -> ClassMasks
     ensures word { IsMaskOf is_name_byte block.now result.word }
     ensures space { IsMaskOf is_blank block.now result.space }

@@ -1,5 +1,5 @@
 // The first byte that is in a class, or that isn't: whole blocks by their masks, and then byte by byte.
-ghost use Rattle.std.specs.Prelude.{◌≡◌, ◌+◌, ◌≤◌, length, drop, map, not};
+ghost use Rattle.std.specs.Prelude.{◌≡◌, ◌≤◌, length, map, not};
 ghost use Rattle.std.specs.List.{position, position_or_len};
 ghost use Rattle.std.specs.Simd.Lanes.{mask_l};
 ghost use Rattle.byte_lanes.specs.Classes.{is_in};
@@ -17,24 +17,25 @@ enum Sought {
     Out,
 }
 
-/// The least place with a byte of the class. Goes up to there, and no farther than the block's end.
+/// The least place with a byte of the class. Linear in that place; reads nothing past its block.
 pub fn first_of(text: &[u8], class: Class) -> Option<usize>
     ensures { result ≡ position (is_in class) text.now }
 {
-    let before = run(text, class, Sought::In);
-    if before < text.len() {
-        Some(before)
-    } else {
-        None
-    }
+    first(text, class, Sought::In)
 }
 
-/// The least place with a byte that isn't of the class. Goes up to there, and no farther than the
-/// block's end.
+/// The least place with a byte that isn't of the class. Linear in that place; reads nothing past its
+/// block.
 pub fn first_not(text: &[u8], class: Class) -> Option<usize>
     ensures { result ≡ position (λ b. not (is_in class b)) text.now }
 {
-    let before = run(text, class, Sought::Out);
+    first(text, class, Sought::Out)
+}
+
+fn first(text: &[u8], class: Class, sought: Sought) -> Option<usize>
+    ensures { result ≡ position (is_sought class sought) text.now }
+{
+    let before = run(text, class, sought);
     if before < text.len() {
         Some(before)
     } else {
