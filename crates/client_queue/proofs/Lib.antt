@@ -1,2 +1,4 @@
+mod Exchanging
 mod Knowing
+mod Marking
 mod Placing

@@ -7,12 +7,11 @@ ghost use Rattle.std.specs.Ordering.{nat_cmp};
 ghost use Rattle.core_model.specs.Names.{Name, at, first_of, has, names_of, put_name, same_name, without};
 ghost use Rattle.client_queue.specs.Queue.{MarkIs, is_clear, is_marked, mark_where_known, marked_of, put_row};
 
-use crate::marks;
+use crate::known::KnownNames;
 use crate::sorted::{first, put_name, put_row, without_name, without_row};
 use hmr_types::{ModName, TextFault};
 use module_graph::copy_of;
 use std::alloc::{AllocError, Global};
-use std::collections::BTreeMap;
 use std::marker::Model;
 
 /// What the server has in store for a client. Contracts see it as a record: the known names, each with
@@ -20,7 +19,7 @@ use std::marker::Model;
 /// `spare`, for how many more notices there is room.
 #[derive(Drop)]
 pub struct ClientQueue {
-    known: BTreeMap<ModName, bool>,
+    known: KnownNames,
     forced: Vec<ModName>,
     notices: Vec<(ModName, TextFault)>,
     held: Option<u64>,
@@ -32,14 +31,13 @@ impl Model for ClientQueue {
     ghost use Rattle.std.specs.List.Sorted.{IsStrictlySortedBy};
     ghost use Rattle.std.specs.Ordering.{nat_cmp};
     ghost use Rattle.core_model.specs.Names.{names_of};
-    ghost use Rattle.std.specs.BTreeMap.{IsOrdered};
     ghost use Rattle.client_queue.specs.Queue.{Queue};
 
     ghost Value = { Queue };
 
-    ghost view = { λ q. record { known = q.known.entries; forced = q.forced.items; notices = q.notices.items; held = q.held; spare = vec_capacity q.notices - vec_len q.notices } };
+    ghost view = { λ q. record { known = q.known; forced = q.forced.items; notices = q.notices.items; held = q.held; spare = vec_capacity q.notices - vec_len q.notices } };
 
-    ghost invariant = { λ q. IsOrdered (slice_cmp nat_cmp) q.known × IsStrictlySortedBy (slice_cmp nat_cmp) q.forced.items × IsStrictlySortedBy (slice_cmp nat_cmp) (names_of q.notices.items) };
+    ghost invariant = { λ q. IsStrictlySortedBy (slice_cmp nat_cmp) q.forced.items × IsStrictlySortedBy (slice_cmp nat_cmp) (names_of q.notices.items) };
 }
 
 impl ClientQueue {
@@ -51,7 +49,7 @@ impl ClientQueue {
         ensures held { result.held ≡ None }
     {
         ClientQueue {
-            known: BTreeMap::new(alloc),
+            known: KnownNames::new(alloc),
             forced: Vec::new(alloc),
             notices: Vec::new(alloc),
             held: None,
@@ -59,14 +57,14 @@ impl ClientQueue {
     }
 
     /// The name is known from now on, and unmarked; where it is known, nothing changes. A refusal changes
-    /// nothing. It takes as many comparisons of names as the logarithm of the number of known ones, and so
-    /// do `leave`, `mark` and `unmark`.
+    /// nothing. It takes the time of a few look-ups among the known names, in proportion to the logarithm
+    /// of their number, and so do `leave`, `mark` and `unmark`.
     pub fn enter(&mut self, name: ModName) -> Result<(), AllocError>
         ensures ok { OnOk result (MarkIs name (Some (is_marked self.old name)) self.old self.new) }
         ensures err { OnErr result (self.new ≡ self.old) }
         ensures kept { self.new ≡ record self.old { known = self.new.known } }
     {
-        marks::enter(&mut self.known, name)
+        self.known.enter(name)
     }
 
     /// The name is known no more. It takes no memory.
@@ -74,7 +72,7 @@ impl ClientQueue {
         ensures mark { MarkIs name.now None self.old self.new }
         ensures kept { self.new ≡ record self.old { known = self.new.known } }
     {
-        marks::leave(&mut self.known, name);
+        self.known.leave(name);
     }
 
     /// The name is marked from now on, where it is known; else nothing changes. It takes no memory.
@@ -82,7 +80,7 @@ impl ClientQueue {
         ensures mark { MarkIs name.now (mark_where_known true (at self.old.known name.now)) self.old self.new }
         ensures kept { self.new ≡ record self.old { known = self.new.known } }
     {
-        marks::set(&mut self.known, name, true);
+        self.known.mark(name);
     }
 
     /// The name is marked no more. It takes no memory.
@@ -90,24 +88,27 @@ impl ClientQueue {
         ensures mark { MarkIs name.now (mark_where_known false (at self.old.known name.now)) self.old self.new }
         ensures kept { self.new ≡ record self.old { known = self.new.known } }
     {
-        marks::set(&mut self.known, name, false);
+        self.known.unmark(name);
     }
 
-    /// The marked names, rising by bytes, each once.
+    /// The marked names, rising by bytes, each once. It takes the time of sorting them, however many are
+    /// known.
     pub fn marked(&self, alloc: Global) -> Result<Vec<ModName>, AllocError>
         ensures names { IfOk result (λ names. (n : Name) → has names.items n ≡ is_marked self.now n) }
         ensures rising { IfOk result (λ names. IsStrictlySortedBy (slice_cmp nat_cmp) names.items) }
     {
-        let names = marks::marked(alloc, &self.known)?;
+        let names = self.known.marked(alloc)?;
         Ok(names)
     }
 
-    /// Whether nothing is marked, forced or waiting as a notice. It takes no memory.
+    /// Whether nothing is marked, forced or waiting as a notice. It takes no memory, and the same time
+    /// whatever is known.
     pub fn is_clear(&self) -> bool
         ensures clear { result ≡ is_clear self.now }
         ensures marked { (n : Name) → has (marked_of self.now.known) n ≡ is_marked self.now n }
     {
-        self.forced.is_empty() && self.notices.is_empty() && !marks::is_any_marked(&self.known)
+        let any_marked = self.known.is_any_marked();
+        self.forced.is_empty() && self.notices.is_empty() && !any_marked
     }
 
     /// The name is forced from now on. A refusal changes nothing.
@@ -123,6 +124,13 @@ impl ClientQueue {
         ensures { self.new ≡ record self.old { forced = filter (λ m. not (same_name m name.now)) self.old.forced } }
     {
         without_name(&mut self.forced, name);
+    }
+
+    /// No name is forced any more. It takes no memory, and time in proportion to the forced names.
+    pub fn unforce_all(&mut self)
+        ensures { self.new ≡ record self.old { forced = [] } }
+    {
+        self.forced.clear();
     }
 
     /// The forced names, rising by bytes, each once.

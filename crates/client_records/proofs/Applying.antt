@@ -1,6 +1,6 @@
 -- What an Applied makes of what is kept.
 use Rattle.std.proofs.Common.{◌≡◌, ℕ, Bool, true, false, List, [], ◌∷◌, ◌++◌, refl, ap, sym, ◌∙◌}
-use Rattle.std.specs.Prelude.{cond, not, filter, Option, Some, None, IfSome, is_some, if◌then◌else◌}
+use Rattle.std.specs.Prelude.{cond, filter, Option, Some, None, IfSome, is_some, if◌then◌else◌}
 use Rattle.std.specs.Cmp.Lexicographic.{slice_cmp}
 use Rattle.std.specs.List.Sorted.{IsStrictlySortedBy}
 use Rattle.std.specs.Ordering.{nat_cmp}
@@ -27,7 +27,7 @@ use Rattle.client_records.specs.Inside.{AreCounted, AreFetched, IsCounted}
 use Rattle.client_records.specs.Made.{AreRenewed, HasMade, IsGrown}
 use Rattle.client_records.specs.Record.{IsPlan, IsRecord, Kept}
 use Rattle.client_records.proofs.Fetching.{counted_step}
-use Rattle.client_records.proofs.Renewing.{known_made, marks_made, none_left}
+use Rattle.client_records.proofs.Renewing.{known_made, marks_made}
 
 -- The view that a plan makes.
 
@@ -99,10 +99,10 @@ pub record IsTaken (s : Sources) (k : Kept) (made : View) (dropped : List Name) 
   pub known : (n : Name) → is_in made n ≡ true → knows queue n ≡ true
 
 -- once the names of both pages are entered and marked, no name is forced and the hold is released, it has
-pub taken : (s : Sources) (k : Kept) (made : View) (names forced dropped : List Name) (mid new unforced released : Queue) → names ≡ names_of k.view ++ names_of made → forced ≡ k.queue.forced → dropped ≡ dropped_of made k.roots
+pub taken : (s : Sources) (k : Kept) (made : View) (names dropped : List Name) (mid new unforced released : Queue) → names ≡ names_of k.view ++ names_of made → dropped ≡ dropped_of made k.roots
     → ((n : Name) → is_marked k.queue n ≡ true → is_in k.view n ≡ true) → IsGrown k.queue mid → ((n : Name) → has names n ≡ true → knows mid n ≡ true) → AreRenewed names made s mid new
-    → unforced ≡ record new { forced = filter (λ m. not (has forced m)) new.forced } → released ≡ record unforced { held = None } → IsTaken s k made dropped released
-taken s k made names forced dropped mid new unforced released both f d within grown there renewed u r = record {
+    → unforced ≡ record new { forced = [] } → released ≡ record unforced { held = None } → IsTaken s k made dropped released
+taken s k made names dropped mid new unforced released both d within grown there renewed u r = record {
   page = record {
     kept = ap (λ l. record k { loaded = true; view = made; queue = released; plan = None; dropped = l }) d;
     queue = all ∙ ap (λ l. record k.queue { known = l; forced = []; held = None }) (sym (ap (λ (q : Queue). q.known) all));
@@ -114,11 +114,8 @@ taken s k made names forced dropped mid new unforced released both f d within gr
     same : new ≡ record k.queue { known = new.known }
     same = renewed.kept ∙ ap (λ (q : Queue). record q { known = new.known }) grown.kept
 
-    none : filter (λ m. not (has forced m)) new.forced ≡ []
-    none = ap (filter (λ m. not (has forced m))) (ap (λ (q : Queue). q.forced) same) ∙ none_left forced k.queue.forced f
-
     all : released ≡ record k.queue { known = new.known; forced = []; held = None }
-    all = r ∙ ap (λ (q : Queue). record q { held = None }) u ∙ ap (λ l. record new { forced = l; held = None }) none ∙ ap (λ (q : Queue). record q { forced = []; held = None }) same
+    all = r ∙ ap (λ (q : Queue). record q { held = None }) u ∙ ap (λ (q : Queue). record q { forced = []; held = None }) same
 
 -- nothing is forced on it
 pub none_forced : (s : Sources) (made : View) (k new : Kept) → HasMade s made k new → AreIn new.queue.forced made

@@ -1,17 +1,16 @@
 -- The marks of a page whose modules become others.
 use Rattle.std.proofs.Common.{◌≡◌, ℕ, ◌<◌, ◌+◌, Bool, true, false, List, [], ◌∷◌, ◌++◌, length, take, get_or, refl, ap, sym, ◌∙◌, ◌⊎◌, inl, inr}
-use Rattle.std.specs.Prelude.{◌||◌, not, filter, Option, Some, None, is_some, if◌then◌else◌}
+use Rattle.std.specs.Prelude.{◌||◌, Option, Some, None, is_some, if◌then◌else◌}
 use Rattle.std.proofs.lemmas.Bool.{false≢true}
 use Rattle.std.proofs.lemmas.List.{take_more}
 use Rattle.std.proofs.Math.Path.{subst}
 use Rattle.core_model.specs.Names.{Name, same_name, has, at, names_of}
 use Rattle.core_model.specs.Sources.{Serving, Sources}
 use Rattle.core_model.specs.View.{View, Entry, differs, is_in}
-use Rattle.core_model.proofs.Naming.{has_append, has_more, more_cases, filtered_from, false_from, no_names, not_true, or_left, or_right, same_true, true_same}
+use Rattle.core_model.proofs.Naming.{has_append, has_more, more_cases, false_from, or_left, or_right, same_true, true_same}
 use Rattle.core_model.proofs.Tables.{named}
 use Rattle.client_queue.specs.Queue.{MarkIs, Queue, is_marked, knows, mark_in, mark_where_known}
 use Rattle.client_records.specs.Made.{AreRenewed, IsGrown, mark_on}
-use Rattle.client_records.proofs.Pruning.{unforced_step}
 
 -- More names are known.
 
@@ -135,18 +134,3 @@ marked_step (Some e) served h = refl
 -- what is marked is on the page
 pub marked_made : (made : View) (s : Sources) (q : Queue) → ((n : Name) → is_marked q n ≡ differs (at made n) (at s.served n)) → (n : Name) → is_marked q n ≡ true → is_in made n ≡ true
 marked_made made s q f n h = marked_step (at made n) (at s.served n) (sym (f n) ∙ h)
-
--- Names that are forced no more.
-
--- one name more isn't forced
-pub unforced_more : (names : List Name) (i : ℕ) (n : Name) (old now new : Queue) → i < length names → n ≡ get_or names i n → now ≡ record old { forced = filter (λ m. not (has (take i names) m)) old.forced } → new ≡ record now { forced = filter (λ m. not (same_name m n)) now.forced }
-    → new ≡ record old { forced = filter (λ m. not (has (take (i + 1) names) m)) old.forced }
-unforced_more names i n old now new h e f g = g ∙ ap (λ (q : Queue). record q { forced = filter (λ m. not (same_name m n)) q.forced }) f
-    ∙ ap (λ l. record old { forced = l }) (unforced_step (take i names) n old.forced ∙ ap (λ l. filter (λ m. not (has l m)) old.forced) (ap (λ x. take i names ++ x ∷ []) e ∙ sym (take_more names i n h)))
-
--- nothing is left of a list without its names
-pub none_left : (names forced : List Name) → names ≡ forced → filter (λ m. not (has names m)) forced ≡ []
-none_left names forced e = no_names (filter (λ m. not (has names m)) forced) (λ n h. go n (filtered_from (λ m. not (has names m)) forced n h))
-  where
-    go : (n : Name) → (not (has names n) ≡ true) × (has forced n ≡ true) → ⊥
-    go n p = false≢true (sym (not_true (has names n) p.0) ∙ ap (λ l. has l n) e ∙ p.1)

@@ -1,12 +1,12 @@
 // A client tells that it applied the plan under way, and what is now on its page. Where that is what the
 // plan makes of the page, the page has these modules from now on. All that takes memory comes before
 // any change that counts: a name that is known and unmarked is as good as one that isn't known.
-ghost use Rattle.std.specs.Prelude.{◌≡◌, ◌++◌, ℕ, IfOk, OnErr, OnOk, filter, not};
+ghost use Rattle.std.specs.Prelude.{◌≡◌, ◌++◌, ℕ, IfOk, OnErr, OnOk};
 ghost use Rattle.std.specs.Cmp.Lexicographic.{slice_cmp};
 ghost use Rattle.std.specs.List.Sorted.{IsStrictlySortedBy};
 ghost use Rattle.std.specs.Ordering.{nat_cmp};
 ghost use Rattle.core_model.specs.Client.{Client};
-ghost use Rattle.core_model.specs.Names.{has, names_of};
+ghost use Rattle.core_model.specs.Names.{names_of};
 ghost use Rattle.core_model.specs.Requests.{applied_as, heard};
 ghost use Rattle.core_model.specs.Sources.{Sources};
 ghost use Rattle.client_records.specs.Answers.{IsWritten, reply_of};
@@ -17,7 +17,6 @@ ghost use Rattle.client_records.specs.Record.{IsRecord};
 use crate::answer::Answer;
 use crate::client_record::ClientRecord;
 use crate::marks::{enter_all, renew_all};
-use client_queue::ClientQueue;
 use core_model::Refusal;
 use hmr_types::{ModName, Sequence, Table};
 use module_graph::View;
@@ -65,10 +64,9 @@ impl ClientRecord {
     {
         let dropped = unreached(alloc, &made, self.roots.as_slice())?;
         let names = both_names(alloc, &self.view, &made)?;
-        let forced = self.queue.forced(alloc)?;
         enter_all(&mut self.queue, &names)?;
         renew_all(&mut self.queue, &names, &made, sources);
-        unforce_all(&mut self.queue, &forced);
+        self.queue.unforce_all();
         self.queue.release();
         self.loaded = true;
         self.view = made;
@@ -86,13 +84,4 @@ fn both_names(alloc: Global, view: &View, made: &View) -> Result<Vec<ModName>, A
     let mut more = made.names(alloc)?;
     names.append(&mut more)?;
     Ok(names)
-}
-
-// None of the names is forced any more. It takes no memory.
-fn unforce_all(queue: &mut ClientQueue, names: &[ModName])
-    ensures { queue.new ≡ record queue.old { forced = filter (λ m. not (has names.now m)) queue.old.forced } }
-{
-    for name in names {
-        queue.unforce(name);
-    }
 }

@@ -232,7 +232,7 @@ pub fn messages_can_be_written()
 /// that of the text of the counted edit of that version; and so is that of each module that is served,
 /// that stands on a page, or that was fetched for the plan under way.
 pub fn true_results_are_of_the_texts()
-    ensures analysis_given { (transformed : Name → Text → Outcome) (past : List Change) →
+    ensures given { (transformed : Name → Text → Outcome) (past : List Change) →
         All (IsTrueChange transformed) past → (n : Name) (v : ℕ) (a : Analysis) →
         analysis_given past n v ≡ Some a → IsOfText transformed (written past) n v a }
     ensures served { (transformed : Name → Text → Outcome) (roots : List Name) (past : List Event) →

@@ -22,7 +22,7 @@ use Rattle.module_graph.specs.Entries.{put_entry}
 use Rattle.module_language.specs.ModuleLanguage.{module_in}
 use Rattle.page_plan.proofs.Making.{at_put}
 use Rattle.page_plan.proofs.Numbering.{found}
-use Rattle.page_plan.proofs.Sets.{compared_same}
+use Rattle.module_graph.proofs.Sets.{compared_same}
 use Rattle.hot_runtime.specs.Standing.{IsPlanned}
 use Rattle.hot_runtime.specs.UnderWay.{HasTrees}
 use Rattle.hot_runtime.specs.declared.under_way.UnderWay.{UnderWay}

@@ -1,29 +1,21 @@
 -- The entries of a view: where an entry is put, that no two have one name, and which import a name.
-use Rattle.std.proofs.Common.{◌≡◌, ◌↔◌, ℕ, ◌<◌, ◌+◌, Bool, true, false, List, [], ◌∷◌, ◌++◌, length, take, drop, get_or, refl, ap, sym, ◌∙◌, arith, Contains}
-use Rattle.std.specs.Prelude.{slice_set, filter, not, ◌||◌, Some, if◌then◌else◌, cond}
+use Rattle.std.proofs.Common.{◌≡◌, ℕ, ◌<◌, ◌+◌, Bool, true, false, List, [], ◌∷◌, ◌++◌, length, take, drop, refl, ap, sym, ◌∙◌, arith}
+use Rattle.std.specs.Prelude.{slice_set, filter, not, ◌||◌, if◌then◌else◌, cond}
 use Rattle.std.proofs.lemmas.Bool.{false≢true}
-use Rattle.std.proofs.lemmas.List.{drop_more, take-append-drop, take_more_set, drop-set-lt, append_assoc}
-use Rattle.core_model.specs.Names.{Name, same_name, has, at, names_of, sorted}
+use Rattle.std.proofs.lemmas.List.{take-append-drop, take_more_set, drop-set-lt, append_assoc}
+use Rattle.core_model.specs.Names.{Name, same_name, has, names_of}
 use Rattle.core_model.specs.Roots.{are_distinct}
-use Rattle.core_model.specs.View.{View, Entry, imports_of, imports}
-use Rattle.core_model.proofs.Naming.{same_true, true_same, has_is, both_true, and_both, not_true, not_from, sorted_has, or_right}
-use Rattle.module_graph.specs.Entries.{put_entry, importing}
+use Rattle.core_model.specs.View.{View, Entry}
+use Rattle.core_model.proofs.Naming.{same_true, true_same, both_true, and_both, not_true, not_from, or_right}
+use Rattle.module_graph.specs.Entries.{put_entry}
 
 abbrev pub Row : Type 0
 Row = Name × Entry
-
--- an entry put where its name stands first
 
 -- a list with another element at a place
 pub set_parts : {X : Type 0} (xs : List X) (i : ℕ) (y : X) → i < length xs → slice_set xs i y ≡ take i xs ++ y ∷ drop (i + 1) xs
 set_parts xs i y h = sym (take-append-drop (i + 1) (slice_set xs i y)) ∙ ap (λ l. l ++ drop (i + 1) (slice_set xs i y)) (take_more_set xs i y h)
     ∙ append_assoc (take i xs) (y ∷ []) (drop (i + 1) (slice_set xs i y)) ∙ ap (λ l. take i xs ++ y ∷ l) (drop-set-lt (i + 1) xs i y (omega arith))
-
-put_drop : (n : Name) (e : Entry) (rows : View) (i : ℕ) (d : Row) → i < length rows → (b : Bool) → same_name (get_or rows i d).0 n ≡ b → put_entry n e (drop i rows) ≡ (if b then (n, e) ∷ drop (i + 1) rows else get_or rows i d ∷ put_entry n e (drop (i + 1) rows))
-put_drop n e rows i d h b s = ap (put_entry n e) (drop_more rows i d h) ∙ ap (λ c. if c then (n, e) ∷ drop (i + 1) rows else get_or rows i d ∷ put_entry n e (drop (i + 1) rows)) s
-
-pub place_found : (n : Name) (e : Entry) (rows : View) (i : ℕ) (d : Row) → i < length rows → put_entry n e rows ≡ take i rows ++ put_entry n e (drop i rows) → same_name (get_or rows i d).0 n ≡ true → put_entry n e rows ≡ slice_set rows i (n, e)
-place_found n e rows i d h so_far s = so_far ∙ ap (λ l. take i rows ++ l) (put_drop n e rows i d h true s) ∙ sym (set_parts rows i (n, e) h)
 
 -- no two entries have one name
 
@@ -83,30 +75,3 @@ kept_distinct p [] d = refl
 kept_distinct p (row ∷ rows) d =
     let q = both_true (not (has (names_of rows) row.0)) _ d in
     kept_apart p row rows (p row) q.0 (kept_distinct p rows q.1)
-
--- an entry that imports a name, by the entry or by its name
-
-rows_import : (n : Name) (row : Row) (rows : View) (m : Name) (same here : Bool) → same_name row.0 m ≡ same → importing n row ≡ here → (same ≡ true → has (names_of (filter (importing n) rows)) m ≡ false) → has (names_of (filter (importing n) rows)) m ≡ imports rows m n
-    → has (names_of (cond here (row ∷ filter (importing n) rows) (filter (importing n) rows))) m ≡ has (imports_of (if same then Some row.1 else at rows m)) n
-rows_import n row rows m true true s e f h = ap (λ b. b || has (names_of (filter (importing n) rows)) m) s ∙ sym e
-rows_import n row rows m true false s e f h = f refl ∙ sym e
-rows_import n row rows m false true s e f h = ap (λ b. b || has (names_of (filter (importing n) rows)) m) s ∙ h
-rows_import n row rows m false false s e f h = h
-
-gone : (b : Bool) → (b ≡ true → false ≡ true) → b ≡ false
-gone true f = absurd (false≢true (f refl))
-gone false f = refl
-
--- the entries that import a name are those of the names that import it
-pub importing_has : (n : Name) (rows : View) → are_distinct (names_of rows) ≡ true → (m : Name) → has (names_of (filter (importing n) rows)) m ≡ imports rows m n
-importing_has n [] d m = refl
-importing_has n (row ∷ rows) d m =
-    let q = both_true (not (has (names_of rows) row.0)) _ d in
-    rows_import n row rows m (same_name row.0 m) (importing n row) refl refl
-    (λ s. gone _ (λ t. sym (not_true _ q.0) ∙ ap (has (names_of rows)) (same_true row.0 m s) ∙ kept_named (importing n) rows m t))
-    (importing_has n rows q.1 m)
-
-pub importers_are : (n : Name) (rows : View) (out : List Name) → are_distinct (names_of rows) ≡ true → out ≡ sorted (names_of (filter (importing n) rows)) → (m : Name) → Contains out m ↔ (imports rows m n ≡ true)
-importers_are n rows out d e m =
-    let same : has out m ≡ imports rows m n = ap (λ l. has l m) e ∙ sorted_has (names_of (filter (importing n) rows)) m ∙ importing_has n rows d m in
-    ((λ c. sym same ∙ (has_is out m).0 c), (λ h. (has_is out m).1 (same ∙ h)))

@@ -1,2 +1,4 @@
 pub mod Entries
+pub mod Importers
 pub mod Paths
+pub mod Rows

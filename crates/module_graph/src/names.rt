@@ -33,7 +33,8 @@ pub fn copy_of(alloc: Global, names: &[ModName]) -> Result<Vec<ModName>, AllocEr
     Ok(copy)
 }
 
-pub(crate) fn copy_name(name: &ModName) -> Result<ModName, AllocError>
+/// An equal name.
+pub fn copy_name(name: &ModName) -> Result<ModName, AllocError>
     ensures { IfOk result (λ copy. copy ≡ name.now) }
 {
     name.clone()

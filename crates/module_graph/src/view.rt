@@ -1,76 +1,41 @@
-// The modules of a page: a plain list of entries, in order of entering. Whatever is asked of it looks
-// through the list.
-ghost use Rattle.std.specs.Prelude.{◌≡◌, ◌↔◌, ◌++◌, ◌∷◌, ◌<◌, [], true, IfOk, IfSome, OnOk, OnErr, MatchOption, Contains, filter, length, option_map, slice_get, slice_set};
+// The modules of a page: a map by name whose entries stay in order of entering, and beside it the
+// importers of each name. What changes an entry changes the importers with it: putting an entry takes
+// the memory for both first, so that a refusal leaves both as they were.
+ghost use Rattle.std.specs.Prelude.{◌≡◌, ◌↔◌, [], true, false, if◌then◌else◌, IfOk, OnOk, OnErr, Contains, option_map, slice_get};
 ghost use Rattle.std.specs.Cmp.Lexicographic.{slice_cmp};
 ghost use Rattle.std.specs.List.Sorted.{IsStrictlySortedBy};
 ghost use Rattle.std.specs.Ordering.{nat_cmp};
 ghost use Rattle.core_model.specs.Names.{Name, at, has, names_of, without_all};
 ghost use Rattle.core_model.specs.Roots.{are_distinct};
-ghost use Rattle.core_model.specs.View.{Entry, imports_of, imports, accepts, self_accepts, declines};
-ghost use Rattle.module_graph.specs.Entries.{put_entry, importing};
+ghost use Rattle.core_model.specs.View.{imports, accepts, self_accepts, declines};
+ghost use Rattle.module_graph.specs.Entries.{put_entry};
+ghost use Rattle.module_graph.specs.Importers.{IsTurned, is_under};
+ghost use Rattle.module_graph.specs.Rows.{AreIndexed, view_of};
 
-use crate::names::{has_name, rising};
+use crate::importers::Importers;
+use crate::view_rows::{Entry, Row, copy_of, drop_rows, find, imports_of, names_in};
 use hmr_types::{Analysis, ModName, Ver};
+use indexmap::IndexMap;
 use std::alloc::{AllocError, Global};
 use std::marker::Model;
-
-/// A module of a page: the version of its source, and what analysis told of it.
-#[derive(Drop)]
-struct Entry {
-    version: Ver,
-    analysis: Analysis,
-}
-
-impl Model for Entry {
-    ghost use Rattle.core_model.specs.View.{Entry};
-
-    ghost Value = { Entry };
-
-    ghost view = { λ e. record { version = e.version; analysis = e.analysis } };
-}
-
-impl Entry {
-    fn copy(&self) -> Result<Entry, AllocError>
-        ensures { IfOk result (λ entry. entry ≡ self.now) }
-    {
-        let analysis = self.analysis.clone()?;
-        Ok(Entry {
-            version: self.version,
-            analysis,
-        })
-    }
-
-    fn imports(&self, name: &ModName) -> bool
-        ensures { result ≡ has self.now.analysis.imports name.now }
-    {
-        has_name(self.analysis.imports.as_slice(), name)
-    }
-
-    fn accepts(&self, name: &ModName) -> bool
-        ensures { result ≡ has self.now.analysis.accepted name.now }
-    {
-        has_name(self.analysis.accepted.as_slice(), name)
-    }
-}
 
 /// The modules of a page by name, in order of entering. Contracts see it as the list of its entries,
 /// of which no two have one name.
 #[derive(Drop)]
 pub struct View {
-    entries: Vec<(ModName, Entry)>,
+    rows: IndexMap<ModName, Row>,
+    importers: Importers,
 }
 
 impl Model for View {
-    ghost use Rattle.std.specs.Prelude.{◌≡◌, true};
-    ghost use Rattle.core_model.specs.Names.{names_of};
-    ghost use Rattle.core_model.specs.Roots.{are_distinct};
     ghost use Rattle.core_model.specs.View.{View};
+    ghost use Rattle.module_graph.specs.Rows.{AreIndexed, view_of};
 
     ghost Value = { View };
 
-    ghost view = { λ v. v.entries.items };
+    ghost view = { λ v. view_of v.rows.entries };
 
-    ghost invariant = { λ v. are_distinct (names_of v.entries.items) ≡ true };
+    ghost invariant = { λ v. AreIndexed v.rows.entries v.importers.sets.entries };
 }
 
 impl View {
@@ -79,15 +44,16 @@ impl View {
         ensures { result ≡ [] }
     {
         View {
-            entries: Vec::new(alloc),
+            rows: IndexMap::new(alloc),
+            importers: Importers::new(alloc),
         }
     }
 
-    /// The version and the analysis of a module. It takes no memory.
+    /// The version and the analysis of a module: one look-up by hash. It takes no memory.
     pub fn get(&self, name: &ModName) -> Option<(Ver, &Analysis)>
         ensures { option_map (λ found. record { version = found.0; analysis = found.1.now }) result ≡ at self.now name.now }
     {
-        let entry = find(&self.entries, name)?;
+        let entry = find(&self.rows, name)?;
         Some((entry.version, &entry.analysis))
     }
 
@@ -96,8 +62,8 @@ impl View {
     pub fn at(&self, place: usize) -> Option<(&ModName, Ver, &Analysis)>
         ensures { option_map (λ found. (found.0.now, record { version = found.1; analysis = found.2.now })) result ≡ slice_get self.now place }
     {
-        let row = self.entries.get(place)?;
-        Some((&row.0, row.1.version, &row.1.analysis))
+        let (name, row) = self.rows.get_index(place)?;
+        Some((name, row.entry.version, &row.entry.analysis))
     }
 
     /// The names of the modules, in order of entering.
@@ -105,7 +71,7 @@ impl View {
         ensures names { IfOk result (λ names. names.items ≡ names_of self.now) }
         ensures distinct { are_distinct (names_of self.now) ≡ true }
     {
-        let names = names_in(alloc, &self.entries)?;
+        let names = names_in(alloc, &self.rows)?;
         Ok(names)
     }
 
@@ -113,7 +79,7 @@ impl View {
     pub fn imports(&self, name: &ModName, import: &ModName) -> bool
         ensures { result ≡ imports self.now name.now import.now }
     {
-        match find(&self.entries, name) {
+        match find(&self.rows, name) {
             Some(entry) => entry.imports(import),
             None => false,
         }
@@ -123,7 +89,7 @@ impl View {
     pub fn accepts(&self, name: &ModName, dependency: &ModName) -> bool
         ensures { result ≡ accepts self.now name.now dependency.now }
     {
-        match find(&self.entries, name) {
+        match find(&self.rows, name) {
             Some(entry) => entry.accepts(dependency),
             None => false,
         }
@@ -133,7 +99,7 @@ impl View {
     pub fn self_accepts(&self, name: &ModName) -> bool
         ensures { result ≡ self_accepts self.now name.now }
     {
-        match find(&self.entries, name) {
+        match find(&self.rows, name) {
             Some(entry) => entry.analysis.self_accepts,
             None => false,
         }
@@ -143,23 +109,25 @@ impl View {
     pub fn declines(&self, name: &ModName) -> bool
         ensures { result ≡ declines self.now name.now }
     {
-        match find(&self.entries, name) {
+        match find(&self.rows, name) {
             Some(entry) => entry.analysis.declined,
             None => false,
         }
     }
 
-    /// The names of the modules that import this one, rising by bytes. It looks through all entries.
+    /// The names of the modules that import this one, rising by bytes; the name needs no module of its
+    /// own. They are kept in that order: it takes time in proportion to the answer.
     pub fn importers(&self, alloc: Global, name: &ModName) -> Result<Vec<ModName>, AllocError>
         ensures rising { IfOk result (λ names. IsStrictlySortedBy (slice_cmp nat_cmp) names.items) }
         ensures exact { IfOk result (λ names. (m : Name) → Contains names.items m ↔ (imports self.now m name.now ≡ true)) }
     {
-        let found = importers_in(alloc, &self.entries, name)?;
-        let names = rising(found)?;
+        let names = self.importers.of(alloc, name)?;
         Ok(names)
     }
 
-    /// Puts a module in place of the one of its name, or else at the end. A refusal changes nothing.
+    /// Puts a module in place of the one of its name, or else at the end. A refusal changes nothing. Each
+    /// import is looked up by hash, and the name found among its importers by their order; imports of
+    /// the module before are first compared with the new ones.
     pub fn put(&mut self, name: ModName, ver: Ver, analysis: Analysis) -> Result<(), AllocError>
         ensures ok { OnOk result (self.new ≡ put_entry name (record { version = ver; analysis = analysis }) self.old) }
         ensures err { OnErr result (self.new ≡ self.old) }
@@ -168,109 +136,58 @@ impl View {
             version: ver,
             analysis,
         };
-        put_row(&mut self.entries, name, entry)
+        put_row(&mut self.rows, &mut self.importers, name, entry)
     }
 
-    /// Takes away the modules of these names. The others keep their order. It takes no memory.
+    /// Takes away the modules of these names. The others keep their order. It takes no memory, and the time
+    /// of one walk of the view and of look-ups of the names and of what their modules import.
     pub fn drop_names(&mut self, names: &[ModName])
         ensures { self.new ≡ without_all names.now self.old }
     {
-        drop_rows(&mut self.entries, names);
+        take_out(&mut self.importers, &self.rows, names);
+        drop_rows(&mut self.rows, names);
     }
 
-    /// An equal view.
+    /// An equal view. It takes time in proportion to the modules and their imports.
     pub fn copy(&self, alloc: Global) -> Result<View, AllocError>
         ensures { IfOk result (λ view. view ≡ self.now) }
     {
-        let entries = copy_of(alloc, &self.entries)?;
-        Ok(View { entries })
+        let rows = copy_of(&self.rows)?;
+        let importers = self.importers.copy()?;
+        Ok(View { rows, importers })
     }
 }
 
-// The entry of a name.
-fn find<'a>(entries: &'a [(ModName, Entry)], name: &ModName) -> Option<&'a Entry>
-    ensures { option_map (λ e. e.now) result ≡ at entries.now name.now }
-{
-    for row in entries {
-        if row.0 == *name {
-            return Some(&row.1);
-        }
-    }
-    None
-}
-
-fn names_in(alloc: Global, entries: &[(ModName, Entry)]) -> Result<Vec<ModName>, AllocError>
-    ensures { IfOk result (λ names. names.items ≡ names_of entries.now) }
-{
-    let mut names = Vec::new(alloc);
-    for row in entries {
-        names.push(row.0.clone()?)?;
-    }
-    Ok(names)
-}
-
-fn importers_in(
-    alloc: Global,
-    entries: &[(ModName, Entry)],
-    name: &ModName,
-) -> Result<Vec<ModName>, AllocError>
-    ensures { IfOk result (λ names. names.items ≡ names_of (filter (importing name.now) entries.now)) }
-{
-    let mut names = Vec::new(alloc);
-    for row in entries {
-        if row.1.imports(name) {
-            names.push(row.0.clone()?)?;
-        }
-    }
-    Ok(names)
-}
-
-fn copy_of(alloc: Global, entries: &[(ModName, Entry)]) -> Result<Vec<(ModName, Entry)>, AllocError>
-    ensures { IfOk result (λ copy. copy.items ≡ entries.now) }
-{
-    let mut copy = Vec::new(alloc);
-    for row in entries {
-        copy.push((row.0.clone()?, row.1.copy()?))?;
-    }
-    Ok(copy)
-}
-
-// Where the entry of a name stands.
-fn place_of(entries: &[(ModName, Entry)], name: &ModName) -> Option<usize>
-    ensures put { (e : Entry) → MatchOption result (put_entry name.now e entries.now ≡ entries.now ++ (name.now, e) ∷ []) (λ i. put_entry name.now e entries.now ≡ slice_set entries.now i (name.now, e)) }
-    ensures within { IfSome result (λ i. i < length entries.now) }
-{
-    for place in 0..entries.len() {
-        if entries[place].0 == *name {
-            return Some(place);
-        }
-    }
-    None
-}
-
+// Puts an entry, and its module under what it imports. What may need memory comes before what changes an
+// entry.
 fn put_row(
-    entries: &mut Vec<(ModName, Entry)>,
+    rows: &mut IndexMap<ModName, Row>,
+    importers: &mut Importers,
     name: ModName,
     entry: Entry,
 ) -> Result<(), AllocError>
-    ensures ok { OnOk result (entries.new.items ≡ put_entry name entry entries.old.items) }
-    ensures err { OnErr result (entries.new.items ≡ entries.old.items) }
-    ensures distinct { are_distinct (names_of entries.old.items) ≡ true → are_distinct (names_of entries.new.items) ≡ true }
+    requires { AreIndexed rows.old.entries importers.old.sets.entries }
+    ensures ok { OnOk result (view_of rows.new.entries ≡ put_entry name entry (view_of rows.old.entries)) }
+    ensures err { OnErr result (view_of rows.new.entries ≡ view_of rows.old.entries) }
+    ensures indexed { AreIndexed rows.new.entries importers.new.sets.entries }
 {
-    match place_of(entries, &name) {
-        Some(place) => {
-            entries[place] = (name, entry);
-            Ok(())
-        }
-        None => {
-            entries.push((name, entry))?;
-            Ok(())
-        }
-    }
+    rows.reserve(1)?;
+    let before = imports_of(rows, &name);
+    importers.replace(&name, before, entry.analysis.imports.as_slice())?;
+    let row = Row {
+        entry,
+        leaving: false,
+    };
+    rows.insert(name, row).unwrap();
+    Ok(())
 }
 
-fn drop_rows(entries: &mut Vec<(ModName, Entry)>, names: &[ModName])
-    ensures { entries.new.items ≡ without_all names.now entries.old.items }
+// Takes the modules of these names away from under what they import.
+fn take_out(importers: &mut Importers, rows: &IndexMap<ModName, Row>, names: &[ModName])
+    requires { IsTurned (view_of rows.now.entries) importers.old.sets.entries }
+    ensures { (n m : Name) → is_under importers.new.sets.entries n m ≡ (if has names.now m then false else is_under importers.old.sets.entries n m) }
 {
-    entries.retain(|row| !has_name(names, &row.0));
+    for name in names {
+        importers.leave(name, imports_of(rows, name), &[]);
+    }
 }

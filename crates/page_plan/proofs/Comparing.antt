@@ -1,6 +1,6 @@
 -- A told table against a view, and the row that an Applied meets.
 use Rattle.std.proofs.Common.{◌≡◌, ℕ, zero, suc, ◌<◌, arith, length, drop, length-append, append_assoc, append-nil, Bool, true, false, List, [], ◌∷◌, ◌++◌, refl, ap, sym, ◌∙◌}
-use Rattle.std.specs.Prelude.{◌&&◌, filter, not, slice_get, Option, Some, None, is_some, option_map, if◌then◌else◌}
+use Rattle.std.specs.Prelude.{◌&&◌, ◌==◌, filter, not, slice_get, Option, Some, None, is_some, option_map, if◌then◌else◌}
 use Rattle.std.proofs.lemmas.Bool.{false≢true}
 use Rattle.std.proofs.lemmas.Option.{same_Some}
 use Rattle.core_model.specs.Names.{Name, same_name, has, at, names_of, sorted, first_of}
@@ -11,6 +11,7 @@ use Rattle.core_model.specs.Requests.{AppliedRow, unfetched, mismatch, done, ver
 use Rattle.core_model.proofs.Naming.{sorted_has, filtered_has}
 use Rattle.std.proofs.Math.Path.{subst}
 use Rattle.std.proofs.lemmas.List.Kept.{IsStrictlySortedBy-filter}
+use Rattle.std.proofs.lemmas.List.Elements.{filter_agree}
 use Rattle.std.specs.List.Sorted.{IsStrictlySortedBy}
 use Rattle.std.specs.Ordering.{nat_cmp}
 use Rattle.std.specs.Cmp.Lexicographic.{slice_cmp}
@@ -54,6 +55,32 @@ a_difference told kept n h = by (differing told kept) h
     by : (ns : List Name) → first_of ns ≡ Some n → row_differing ns told kept ≡ mismatch n (version_at told n) (version_at kept n)
     by [] h = absurd (false≢true (ap is_some h))
     by (m ∷ ns) h = ap (λ k. mismatch k (version_at told k) (version_at kept k)) (same_Some m n h)
+
+-- what is told may be looked up in another list that has the same version at each name
+differing_found : (told map kept : List (Name × ℕ)) (names : List Name) → ((n : Name) → at map n ≡ at told n)
+    → names ≡ sorted (names_of told ++ names_of kept)
+    → filter (λ n. not (version_at map n == version_at kept n)) names ≡ differing told kept
+differing_found told map kept names same e =
+    filter_agree (λ n. not (version_at map n == version_at kept n)) (λ n. not (version_at told n == version_at kept n))
+    (λ n. ap (λ o. not (number_or_zero o == version_at kept n)) (same n)) names
+    ∙ ap (filter (λ n. not (version_at told n == version_at kept n))) e
+
+pub none_found : (told map kept : List (Name × ℕ)) (names : List Name) → ((n : Name) → at map n ≡ at told n)
+    → names ≡ sorted (names_of told ++ names_of kept)
+    → None ≡ first_of (filter (λ n. not (version_at map n == version_at kept n)) names)
+    → row_differing (differing told kept) told kept ≡ done
+none_found told map kept names same e h =
+    no_difference told kept (sym (ap first_of (differing_found told map kept names same e)) ∙ sym h)
+
+pub one_found : (told map kept : List (Name × ℕ)) (names : List Name) (n m : Name) (v k : ℕ)
+    → ((n : Name) → at map n ≡ at told n) → names ≡ sorted (names_of told ++ names_of kept)
+    → Some n ≡ first_of (filter (λ n. not (version_at map n == version_at kept n)) names)
+    → m ≡ n → v ≡ version_at map n → k ≡ version_at kept n
+    → row_differing (differing told kept) told kept ≡ mismatch m v k
+one_found told map kept names n m v k same e h m_is v_is k_is =
+    a_difference told kept n (sym (ap first_of (differing_found told map kept names same e)) ∙ sym h)
+    ∙ ap (λ j. mismatch n j (version_at kept n)) (sym (v_is ∙ ap number_or_zero (same n)))
+    ∙ ap (λ j. mismatch n v j) (sym k_is) ∙ ap (λ j. mismatch j v k) (sym m_is)
 
 -- what isn't fetched
 

@@ -1,4 +1,3 @@
-pub mod Sets
 pub mod Making
 pub mod Comparing
 pub mod Walks

@@ -3,13 +3,12 @@
 ghost use Rattle.std.specs.Prelude.{IfOk};
 ghost use Rattle.page_plan.specs.Applied.{IsApplied};
 
-use crate::name_set::copy_name;
 use crate::plan::Plan;
 use crate::versions::compared;
 use crate::view::{new_view, unfetched};
 use crate::walk::met;
 use hmr_types::{ModName, Table, Ver};
-use module_graph::View;
+use module_graph::{View, copy_name};
 use std::alloc::{AllocError, Global};
 
 /// What applying a plan answers.

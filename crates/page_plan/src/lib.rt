@@ -6,18 +6,19 @@
 #![tactic(auto)]
 
 mod apply;
+mod firsts;
 pub mod laws;
-mod name_set;
 mod numbers;
 mod plan;
 mod tasks;
+mod told;
 mod versions;
 mod view;
 mod walk;
 mod walker;
 
 pub use apply::Applied;
-pub use name_set::NameSet;
+pub use module_graph::NameSet;
 pub use numbers::{Numbers, new_names};
 pub use plan::Plan;
 pub use tasks::Task;

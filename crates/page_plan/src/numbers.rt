@@ -1,14 +1,14 @@
 // The new instances of a plan: which modules get one, and the number of each.
-ghost use Rattle.std.specs.Prelude.{◌≡◌, ◌+◌, ◌^◌, ◌<◌, filter, length, not, suc, Some, None, if◌then◌else◌, IfOk, OnOk};
+ghost use Rattle.std.specs.Prelude.{◌≡◌, ◌+◌, ◌^◌, ◌<◌, filter, length, not, suc, Some, None, if◌then◌else◌, IfOk};
 ghost use Rattle.std.specs.Option.{option_or};
-ghost use Rattle.core_model.specs.Names.{Name, has, same_name};
+ghost use Rattle.core_model.specs.Names.{Name, has};
 ghost use Rattle.page_plan.specs.Numbers.{new_number};
 ghost use Rattle.client_model.specs.Linking.{is_kept, place_of};
 
-use crate::name_set::copy_name;
+use crate::firsts::keep_first;
 use crate::plan::Plan;
 use hmr_types::{ModName, PlanKind};
-use module_graph::View;
+use module_graph::{View, copy_name};
 use std::alloc::{AllocError, Global};
 use std::collections::BTreeMap;
 use std::marker::Model;
@@ -89,19 +89,4 @@ impl Numbers {
             None => live,
         }
     }
-}
-
-// Keeps a number for a name, unless one is kept.
-fn keep_first(
-    numbers: &mut BTreeMap<ModName, u32>,
-    name: &ModName,
-    number: u32,
-) -> Result<(), AllocError>
-    ensures { (n : Name) → OnOk result (new_number numbers.new.entries n ≡ option_or (new_number numbers.old.entries n) (if same_name name.now n then Some number else None)) }
-{
-    if numbers.contains_key(name) {
-        return Ok(());
-    }
-    numbers.insert(copy_name(name)?, number)?;
-    Ok(())
 }

@@ -6,9 +6,8 @@ ghost use Rattle.core_model.specs.Page.{Plan, entry_at, new_plan};
 ghost use Rattle.module_graph.specs.Entries.{put_entry};
 ghost use Rattle.page_plan.specs.Plans.{IsSamePlan, keeps};
 
-use crate::name_set::NameSet;
 use hmr_types::{Analysis, ModName, PlanKind, Ver};
-use module_graph::View;
+use module_graph::{NameSet, View};
 use std::alloc::{AllocError, Global};
 use std::marker::Model;
 

@@ -7,9 +7,9 @@ ghost use Rattle.hmr_types.specs.Table.{is_table};
 ghost use Rattle.page_plan.specs.Applied.{IsCompared};
 
 use crate::apply::Applied;
-use crate::name_set::copy_name;
+use crate::told::Told;
 use hmr_types::{ModName, Table, Ver};
-use module_graph::{View, rising};
+use module_graph::{View, copy_name, rising};
 use std::alloc::{AllocError, Global};
 
 /// The table of a view: its modules with their versions. The names have to rise, and the versions have to
@@ -41,10 +41,11 @@ pub(crate) fn compared(alloc: Global, told: &Table, made: View) -> Result<Applie
     ensures { IfOk result (IsCompared told.now made) }
 {
     let names = told_and_kept(alloc, told.as_slice(), &made)?;
-    match first_differing(told.as_slice(), &made, &names) {
+    let told = Told::of(alloc, told.as_slice())?;
+    match first_differing(&told, &made, &names) {
         Some(name) => Ok(Applied::Mismatch {
-            name: name.clone()?,
-            told: version_told(told.as_slice(), name),
+            name: copy_name(name)?,
+            told: told.version(name),
             kept: version_kept(&made, name),
         }),
         None => Ok(Applied::Done(made)),
@@ -77,31 +78,15 @@ fn names_told(alloc: Global, told: &[(ModName, Ver)]) -> Result<Vec<ModName>, Al
 }
 
 // The first of these names that is told at another version than it is kept at.
-fn first_differing<'a>(
-    told: &[(ModName, Ver)],
-    kept: &View,
-    names: &'a [ModName],
-) -> Option<&'a ModName>
+fn first_differing<'a>(told: &Told, kept: &View, names: &'a [ModName]) -> Option<&'a ModName>
     ensures { option_map (λ n. n.now) result ≡ first_of (filter (λ n. not (version_at told.now n == version_at (table_of kept.now) n)) names.now) }
 {
     for name in names {
-        if version_told(told, name) != version_kept(kept, name) {
+        if told.version(name) != version_kept(kept, name) {
             return Some(name);
         }
     }
     None
-}
-
-// The version that is told of a name, 0 for none.
-fn version_told(told: &[(ModName, Ver)], name: &ModName) -> Ver
-    ensures { result ≡ version_at told.now name.now }
-{
-    for row in told {
-        if row.0 == *name {
-            return row.1;
-        }
-    }
-    0
 }
 
 // The version that a view has of a name, 0 for none.

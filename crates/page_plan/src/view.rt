@@ -6,10 +6,9 @@ ghost use Rattle.core_model.specs.Page.{entry_at, met_of, new_entry, new_view};
 ghost use Rattle.client_model.specs.Order.{evaluation_order};
 ghost use Rattle.page_plan.specs.Views.{put_found};
 
-use crate::name_set::NameSet;
 use crate::plan::Plan;
 use hmr_types::{Analysis, ModName, PlanKind, Ver};
-use module_graph::{View, copy_of, rising};
+use module_graph::{NameSet, View, copy_of, rising};
 use std::alloc::{AllocError, Global};
 
 /// The first of these names that has no entry in the plan. It takes no memory.

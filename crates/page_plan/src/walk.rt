@@ -1,7 +1,7 @@
 // What the walk of a plan meets.
-ghost use Rattle.std.specs.Prelude.{◌≡◌, IfOk};
+ghost use Rattle.std.specs.Prelude.{◌≡◌, ◌++◌, IfOk};
 ghost use Rattle.core_model.specs.Names.{sorted};
-ghost use Rattle.core_model.specs.View.{imports_of};
+ghost use Rattle.core_model.specs.View.{imported_of, imports_of};
 ghost use Rattle.core_model.specs.Page.{entry_at, met_of, plan_imports};
 
 use crate::plan::Plan;
@@ -28,6 +28,8 @@ impl<'a> PlanImports<'a> {
 
 impl<'a> Edges for PlanImports<'a> {
     ghost edge = { λ s. plan_imports s.plan.now s.view.now };
+
+    ghost names = { λ s. imported_of s.view.now ++ imported_of s.plan.now.staged };
 
     fn next(&self, alloc: Global, name: &ModName) -> Result<Vec<ModName>, AllocError> {
         let names = imports_in(alloc, self.plan, self.view, name)?;

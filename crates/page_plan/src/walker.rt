@@ -9,11 +9,10 @@ ghost use Rattle.page_plan.specs.declared.tasks.Task.TheVariants.{Visit, Leave};
 ghost use Rattle.page_plan.specs.Turns.{IsTurn, OnMore, room};
 ghost use Rattle.page_plan.specs.Walking.{IsAt, needed_of, visits};
 
-use crate::name_set::{NameSet, copy_name};
 use crate::plan::Plan;
 use crate::tasks::{Task, Turn};
 use hmr_types::ModName;
-use module_graph::View;
+use module_graph::{NameSet, View, copy_name};
 use std::alloc::{AllocError, Global};
 use std::marker::Model;
 

@@ -54,3 +54,38 @@ fn a_queue_keeps_what_it_is_told(rt: HostRuntime) -> Result<(), Fail> {
     assert!(rt; queue.held().is_none());
     Ok(())
 }
+
+#[test]
+fn marks_come_and_go(rt: HostRuntime) -> Result<(), Fail> {
+    let alloc = rt.alloc();
+    let mut queue = ClientQueue::new(alloc);
+    for letter in [b'c', b'a', b'b'] {
+        if let Ok(name) = name(alloc, letter) {
+            queue.mark(&name);
+            queue.enter(name)?;
+        }
+    }
+    assert!(rt; queue.is_clear());
+    for letter in [b'c', b'b', b'c', b'a'] {
+        if let Ok(name) = name(alloc, letter) {
+            queue.mark(&name);
+        }
+    }
+    for letter in [b'c', b'b'] {
+        if let Ok(name) = name(alloc, letter) {
+            queue.unmark(&name);
+        }
+    }
+    if let Ok(name) = name(alloc, b'c') {
+        queue.mark(&name);
+    }
+    let marked = queue.marked(alloc)?;
+    assert_eq!(rt; marked.len(), 2);
+    for letter in [b'a', b'c'] {
+        if let Ok(name) = name(alloc, letter) {
+            queue.leave(&name);
+        }
+    }
+    assert!(rt; queue.is_clear());
+    Ok(())
+}

@@ -106,7 +106,12 @@ fn told(alloc: Global, spread: &Spread) -> Result<String, AllocError> {
     Ok(text)
 }
 
-/// A page, its changed names, its forced names, and what comes of it, in turn. The root is `m`.
+/// A page, its changed names, its forced names, and what comes of it, with commas between. The root is
+/// `m`. What comes of it is the reason of a reload, if there is one, as its cause and the names of the
+/// path; the replaced names; and the pairs, each a boundary and what it is told of. So in
+/// `m:a:a a:b::s b:a,,a,|ab|aama` the module `m` imports and accepts `a`, `a` imports `b` and accepts
+/// itself, and `b` imports `a`; nothing has changed, and `a` was invalidated. Then no reload is wanted, `a`
+/// and `b` are replaced, and `a` is told of itself and `m` of `a`.
 const ROWS: &str = "\
 m:a a:b b,b,,root bam|abm|
 m:ab a:c:c b:c c,c,,root cbm|bcm|ac

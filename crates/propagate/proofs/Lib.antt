@@ -1,4 +1,4 @@
-mod Trailing
-mod Levels
-mod Onward
-mod Telling
+pub mod Ranks
+pub mod Trailing
+pub mod Onward
+pub mod Telling

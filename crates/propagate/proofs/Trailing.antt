@@ -1,194 +1,173 @@
--- Trails put into a level, and the least of them.
-use Rattle.std.proofs.Common.{◌≡◌, ◌↔◌, ◌⊎◌, inl, inr, ℕ, ◌+◌, ◌<◌, Bool, true, false, List, [], ◌∷◌, ◌++◌, length, take, get_or, refl, ap, sym, ◌∙◌, arith, Contains}
-use Rattle.std.specs.Prelude.{HoldsAt, slice_set}
-use Prim.{⊥}
-use Rattle.std.specs.Ordering.{is_lt}
+-- The search for the least path: what it keeps, a name further, and the path back from a place.
+use Rattle.std.proofs.Common.{◌≡◌, ◌↔◌, ◌⊎◌, inl, inr, ℕ, zero, suc, ◌+◌, ◌<◌, ◌≤◌, Bool, true, false, List, [], ◌∷◌, ◌++◌, length, map, take, reverse, get_or, refl, ap, sym, ◌∙◌, arith, Contains}
+use Rattle.std.specs.Prelude.{not, cond, filter, ◌||◌, Option, Some, None, IfSome, if◌then◌else◌}
+use Rattle.std.specs.Ordering.{nat_cmp}
+use Rattle.std.specs.Cmp.Lexicographic.{slice_cmp}
+use Rattle.std.specs.declared.cmp.Ordering.TheVariants.{Less, Equal}
 use Rattle.std.proofs.Math.Path.{subst}
-use Rattle.std.proofs.lemmas.List.{take_more, length-append, get_or_default, get_or-set_same, get_or-set_other, length-set}
-use Rattle.std.proofs.lemmas.List.Elements.{Contains-append_left, Contains-push, Contains-push_cases, Contains-get_or}
 use Rattle.std.proofs.lemmas.Bool.{false≢true}
-use Rattle.core_model.specs.Names.{Name, has}
-use Rattle.core_model.specs.LeastPath.{path_cmp, NotAfter}
-use Rattle.core_model.proofs.LeastPaths.{itself, through, from_before, from_not_before}
-use Rattle.propagate.specs.declared.trails.Trail.{Trail}
-use Rattle.propagate.specs.Trails.{Covers, Puts, Grown, Extended, Follows, Levelled, Ends, AddsEnds, NoneBad, IsLeastBad}
+use Rattle.std.proofs.lemmas.Cmp.{nat_list_cmp_total, tied_itself}
+use Rattle.std.proofs.lemmas.List.{append_assoc, append-nil, get_or_append_left, get_or_default, get_or-take, length-take, map-append, reverse-append}
+use Prim.{⊥}
+use Rattle.std.proofs.lemmas.List.Elements.{filter_more}
+use Rattle.std.proofs.lemmas.List.Kept.{IsStrictlySortedBy-filter}
+use Rattle.core_model.specs.Names.{Name, has, sorted}
+use Rattle.core_model.specs.Rounds.{IsOver}
+use Rattle.core_model.proofs.Naming.{has_is, has_append, false_from, filtered_from, or_cases, or_left, or_right, sorted_has, cases_bool}
+use Rattle.module_graph.specs.Paths.{with_new}
+use Rattle.module_graph.proofs.Distinct.{at_most}
+use Rattle.module_graph.proofs.Sorting.{IsRising, sorted_rising}
+use Rattle.core_model.specs.Roots.{are_distinct}
+use Rattle.propagate.specs.Trails.{AreTrails, IsTrail, IsTraced, unmet, with_from}
+use Rattle.propagate.proofs.Ranks.{Ranked, ranked_first, ranked_more, trails_on, rising_at}
 
-covers_weaker : (level new : List Trail) (end : Name) (path : List Name) → ((u : Trail) → Contains level u → Contains new u) → Covers level end path → Covers new end path
-covers_weaker level new end path f c = record { by = c.by; there = f c.by c.there; same = c.same; low = c.low }
+-- Those of rising names that aren't met, a name further.
 
--- put: a new end
-pub puts_new : (old : List Trail) (t : Trail) → Puts old t (old ++ t ∷ [])
-puts_new old t = record {
-  kept = λ e p c. covers_weaker old (old ++ t ∷ []) e p (λ u k. Contains-append_left old (t ∷ []) u k) c;
-  put = record { by = t; there = Contains-push old t; same = refl; low = itself t.path.items };
-  only = λ u k. Contains-push_cases old t u k;
-}
+unseen : (names : List Name) (i : ℕ) → IsRising names → i < length names → has (take i names) (get_or names i []) ≡ false
+unseen names i s h = false_from _ (λ t. by ((has_is (take i names) (get_or names i [])).1 t))
+  where
+    by : Contains (take i names) (get_or names i []) → ⊥
+    by c =
+        let x = get_or names i [] in
+        let l : c.0 < i = omega (arith, c.1, h, length-take i names) in
+        let e : get_or names c.0 [] ≡ x = get_or_default names c.0 [] x (omega (arith, l, h)) ∙ sym (get_or-take i names c.0 x l) ∙ c.2 in
+        let same : Equal ≡ Less = sym (tied_itself nat_list_cmp_total x) ∙ ap (λ n. slice_cmp nat_cmp n x) (sym e) ∙ rising_at names c.0 i s l h in
+        absurd (cc)
 
--- put: one with this end that is no later is there
-pub puts_none : (old : List Trail) (t : Trail) (i : ℕ) → i < length old → HoldsAt (λ u. u.end ≡ t.end) old i → is_lt (path_cmp t.path.items (get_or old i t).path.items) ≡ false → Puts old t old
-puts_none old t i h same late = record {
-  kept = λ e p c. c;
-  put = record { by = get_or old i t; there = Contains-get_or old i t h; same = same t; low = from_not_before t.path.items (get_or old i t).path.items late };
-  only = λ u k. inl k;
-}
+unmet_more : (met names : List Name) (i : ℕ) (x : Name) → i < length names → x ≡ get_or names i x → unmet met (take (i + 1) names) ≡ unmet met (take i names) ++ cond (not (has met x)) (x ∷ []) []
+unmet_more met names i x h is = filter_more (λ n. not (has met n)) names i x h ∙ ap (λ n. unmet met (take i names) ++ cond (not (has met n)) (n ∷ []) []) (sym is)
 
-same_or_not : (i k : ℕ) → (k ≡ i) ⊎ (k ≡ i → ⊥)
-same_or_not i k = grind arith
+module _ (met names : List Name) (i : ℕ) (x : Name) (rising : IsRising names) (h : i < length names) (is : x ≡ get_or names i x) where
+  abbrev seen : List Name
+  seen = met ++ unmet met (take i names)
 
-set_here : (old : List Trail) (t : Trail) (i : ℕ) → i < length old → Contains (slice_set old i t) t
-set_here old t i h = (i, omega (arith, h, length-set {A = Trail} old i t), get_or-set_same old i t t h)
+  still : has seen x ≡ has met x
+  still = has_append met (unmet met (take i names)) x ∙ by (has met x) (has (unmet met (take i names)) x)
+      (false_from _ (λ t. false≢true (sym (ap (has (take i names)) (is ∙ get_or_default names i x [] h) ∙ unseen names i rising h) ∙ (filtered_from (λ n. not (has met n)) (take i names) x t).1)))
+    where
+      by : (a b : Bool) → b ≡ false → (a || b) ≡ a
+      by true b f = refl
+      by false b f = f
 
--- put: in the place of a later one
-covers_set : (old : List Trail) (t : Trail) (i : ℕ) → i < length old → HoldsAt (λ u. u.end ≡ t.end) old i → is_lt (path_cmp t.path.items (get_or old i t).path.items) ≡ true → (e : Name) (p : List Name) (c : Covers old e p) → (c.there.0 ≡ i) ⊎ (c.there.0 ≡ i → ⊥) → Covers (slice_set old i t) e p
-covers_set old t i h same early e p c (inl q) =
-    let at : get_or old i t ≡ c.by = get_or_default old i t c.by h ∙ ap (λ k. get_or old k c.by) (sym q) ∙ c.there.2 in
-    record {
-      by = t;
-      there = set_here old t i h;
-      same = sym (same t) ∙ ap (λ u. u.end) at ∙ c.same;
-      low = through t.path.items c.by.path.items p (subst (λ u. NotAfter t.path.items u.path.items) at (from_before t.path.items (get_or old i t).path.items early)) c.low;
+  met_if : (b : Bool) → (if b then seen else seen ++ x ∷ []) ≡ met ++ (unmet met (take i names) ++ cond (not b) (x ∷ []) [])
+  met_if true = ap (λ l. met ++ l) (sym (append-nil (unmet met (take i names))))
+  met_if false = append_assoc met (unmet met (take i names)) (x ∷ [])
+
+  pub met_on : with_new seen x ≡ met ++ unmet met (take (i + 1) names)
+  met_on = ap (λ b. if b then seen else seen ++ x ∷ []) still ∙ met_if (has met x) ∙ ap (λ l. met ++ l) (sym (unmet_more met names i x h is))
+
+  module _ (from : List (Option ℕ)) (place : Option ℕ) where
+    abbrev of_all : List Name → List (Option ℕ)
+    of_all l = map (λ (n : Name). place) l
+
+    abbrev placed : List (Option ℕ)
+    placed = from ++ of_all (unmet met (take i names))
+
+    from_if : (b : Bool) → (if b then placed else placed ++ place ∷ []) ≡ from ++ (of_all (unmet met (take i names)) ++ of_all (cond (not b) (x ∷ []) []))
+    from_if true = ap (λ l. from ++ l) (sym (append-nil (of_all (unmet met (take i names)))))
+    from_if false = append_assoc from (of_all (unmet met (take i names))) (place ∷ [])
+
+    pub from_on : with_from seen placed x place ≡ from ++ of_all (unmet met (take (i + 1) names))
+    from_on = ap (λ b. if b then placed else placed ++ place ∷ []) still ∙ from_if (has met x)
+        ∙ ap (λ l. from ++ l) (sym (ap of_all (unmet_more met names i x h is) ∙ map-append (λ (n : Name). place) (unmet met (take i names)) (cond (not (has met x)) (x ∷ []) [])))
+
+-- What the search keeps.
+pub record Searching (edge : Name → Name → Bool) (starts among : List Name) (bad : Name → Bool) (met : List Name) (from : List (Option ℕ)) (at : ℕ) : Type 0 where
+  pub paths : List (List Name)
+  pub trails : AreTrails met from paths
+  pub ranked : Ranked edge starts met paths at
+  pub few : (m : Name) → has met m ≡ true → has (starts ++ among) m ≡ true
+  pub fine : (i : ℕ) → i < at → bad (get_or met i []) ≡ false
+
+all_unmet : (names : List Name) → unmet [] names ≡ names
+all_unmet [] = refl
+all_unmet (n ∷ names) = ap (λ l. n ∷ l) (all_unmet names)
+
+no_trails : AreTrails [] [] []
+no_trails = record { places = refl; long = refl; each = λ i h. absurd (omega (arith, h)) }
+
+module _ (edge : Name → Name → Bool) (starts among : List Name) (bad : Name → Bool) where
+  first_by : (met : List Name) → met ≡ sorted starts → Searching edge starts among bad met (map (λ (n : Name). None) met) 0
+  first_by met e = record {
+    paths = map (λ n. n ∷ []) met;
+    trails = trails_on [] met [] [] refl [] None refl no_trails;
+    ranked = ranked_first edge starts met (subst IsRising (sym e) (sorted_rising starts)) (λ n. ap (λ l. has l n) e ∙ sorted_has starts n);
+    few = λ m h. has_append starts among m ∙ or_left (has starts m) _ (sym (sorted_has starts m) ∙ ap (λ l. has l m) (sym e) ∙ h);
+    fine = λ i h. absurd (omega (arith, h));
+  }
+
+  pub searching_first : (first met : List Name) (from : List (Option ℕ)) → first ≡ sorted starts → met ≡ unmet [] first → from ≡ map (λ (n : Name). None) (unmet [] first) → Searching edge starts among bad met from 0
+  searching_first first met from e f g = subst (λ l. Searching edge starts among bad met l 0) (sym (g ∙ ap (map (λ (n : Name). None)) (sym f))) (first_by met (f ∙ all_unmet first ∙ e))
+
+  -- no more names are met than there are
+  pub searching_room : (met : List Name) (from : List (Option ℕ)) (at : ℕ) → Searching edge starts among bad met from at → are_distinct met ≡ true → length met ≤ length (starts ++ among)
+  searching_room met from at s d = at_most met (starts ++ among) d s.few
+
+  below_or_at : (i at : ℕ) → i < at + 1 → (i < at) ⊎ (i ≡ at)
+  below_or_at i at h = grind arith
+
+  module _ (met : List Name) (from : List (Option ℕ)) (at : ℕ) (n : Name) (led next : List Name) (s : Searching edge starts among bad met from at) (there : at < length met) (is : n ≡ get_or met at []) (good : bad n ≡ false) (exact : (m : Name) → Contains led m ↔ (edge n m ≡ true)) (over : IsOver edge among) (rise : next ≡ sorted led) where
+    next_has : (m : Name) → has next m ≡ has led m
+    next_has m = ap (λ l. has l m) rise ∙ sorted_has led m
+
+    leads : (m : Name) → (has next m ≡ true) ↔ (edge (get_or met at []) m ≡ true)
+    leads m = (
+      (λ h. ap (λ k. edge k m) (sym is) ∙ (exact m).0 ((has_is led m).1 (sym (next_has m) ∙ h))),
+      (λ e. next_has m ∙ (has_is led m).0 ((exact m).1 (ap (λ k. edge k m) is ∙ e))),
+    )
+
+    few_by : (m : Name) → (has met m ≡ true) ⊎ (has (unmet met next) m ≡ true) → has (starts ++ among) m ≡ true
+    few_by m (inl h) = s.few m h
+    few_by m (inr h) = has_append starts among m ∙ or_right (has starts m) _ (over (get_or met at []) m ((leads m).0 (filtered_from (λ k. not (has met k)) next m h).1))
+
+    fine_by : (i : ℕ) → (i < at) ⊎ (i ≡ at) → bad (get_or (met ++ unmet met next) i []) ≡ false
+    fine_by i (inl l) = ap bad (get_or_append_left met (unmet met next) [] i (omega (arith, l, there))) ∙ s.fine i l
+    fine_by i (inr e) = ap bad (ap (λ j. get_or (met ++ unmet met next) j []) e ∙ get_or_append_left met (unmet met next) [] at there ∙ sym is) ∙ good
+
+    more_by : Searching edge starts among bad (met ++ unmet met next) (from ++ map (λ (k : Name). Some at) (unmet met next)) (at + 1)
+    more_by = record {
+      paths = s.paths ++ map (λ k. get_or s.paths at [] ++ k ∷ []) (unmet met next);
+      trails = trails_on met (unmet met next) s.paths (get_or s.paths at []) s.ranked.long from (Some at) (there, refl) s.trails;
+      ranked = ranked_more edge starts met s.paths at next s.ranked there (IsStrictlySortedBy-filter (slice_cmp nat_cmp) (λ k. not (has met k)) next (subst IsRising (sym rise) (sorted_rising led))) leads;
+      few = λ m h. few_by m (or_cases (has met m) _ (sym (has_append met (unmet met next) m) ∙ h));
+      fine = λ i l. fine_by i (below_or_at i at l);
     }
-covers_set old t i h same early e p c (inr q) = record {
-  by = c.by;
-  there = (c.there.0, omega (arith, c.there.1, length-set {A = Trail} old i t), get_or-set_other old i c.there.0 t c.by q ∙ c.there.2);
-  same = c.same;
-  low = c.low;
-}
 
-only_set : (old : List Trail) (t : Trail) (i : ℕ) → i < length old → (u : Trail) (k : Contains (slice_set old i t) u) → (k.0 ≡ i) ⊎ (k.0 ≡ i → ⊥) → Contains old u ⊎ (t ≡ u)
-only_set old t i h u k (inl q) = inr (sym (get_or-set_same old i t u h) ∙ ap (λ j. get_or (slice_set old i t) j u) (sym q) ∙ k.2)
-only_set old t i h u k (inr q) = inl (k.0, omega (arith, k.1, length-set {A = Trail} old i t), sym (get_or-set_other old i k.0 t u q) ∙ k.2)
+    -- the names that the next one's edges lead to are met
+    pub searching_more : (met_now : List Name) (from_now : List (Option ℕ)) → met_now ≡ met ++ unmet met next → from_now ≡ from ++ map (λ (k : Name). Some at) (unmet met next) → Searching edge starts among bad met_now from_now (at + 1)
+    searching_more met_now from_now e f = subst (λ l. Searching edge starts among bad l from_now (at + 1)) (sym e) (subst (λ l. Searching edge starts among bad (met ++ unmet met next) l (at + 1)) (sym f) more_by)
 
-pub puts_set : (old : List Trail) (t : Trail) (i : ℕ) → i < length old → HoldsAt (λ u. u.end ≡ t.end) old i → is_lt (path_cmp t.path.items (get_or old i t).path.items) ≡ true → Puts old t (slice_set old i t)
-puts_set old t i h same early = record {
-  kept = λ e p c. covers_set old t i h same early e p c (same_or_not i c.there.0);
-  put = record { by = t; there = set_here old t i h; same = refl; low = itself t.path.items };
-  only = λ u k. only_set old t i h u k (same_or_not i k.0);
-}
+-- The path back.
 
--- extend
-pub extends_none : (old : List Trail) (path before : List Name) → Extended old path [] before old
-extends_none old path before = record { kept = λ e p c. c; put = λ m c f. absurd (omega (arith, c.1)); only = λ u k. inl k }
+-- the path to a place, or none
+abbrev pub path_before : List (List Name) → Option ℕ → List Name
+path_before paths None = []
+path_before paths (Some i) = get_or paths i []
 
-known_or : (cur : List Trail) (path xs before : List Name) (x m : Name) → (Contains xs m → has before m ≡ false → Covers cur m (path ++ m ∷ [])) → (has before x ≡ false → Covers cur x (path ++ x ∷ [])) → Contains xs m ⊎ (x ≡ m) → has before m ≡ false → Covers cur m (path ++ m ∷ [])
-known_or cur path xs before x m f g (inl c) h = f c h
-known_or cur path xs before x m f g (inr e) h = subst (λ k. Covers cur k (path ++ k ∷ [])) e (g (ap (has before) e ∙ h))
+-- how many places there are up to this one
+abbrev pub places_to : Option ℕ → ℕ
+places_to None = 0
+places_to (Some i) = suc i
 
-grown_more : (old : List Trail) (path xs ys before : List Name) (u : Trail) → ((m : Name) → Contains xs m → Contains ys m) → Contains old u ⊎ Grown path xs before u → Contains old u ⊎ Grown path ys before u
-grown_more old path xs ys before u f (inl k) = inl k
-grown_more old path xs ys before u f (inr g) = inr (record { named = f u.end g.named; fresh = g.fresh; longer = g.longer })
+back_if : (met : List Name) (paths : List (List Name)) (i : ℕ) (o : Option ℕ) → IsTrail met paths i o → get_or paths i [] ≡ path_before paths o ++ get_or met i [] ∷ []
+back_if met paths i None t = t
+back_if met paths i (Some k) t = t.1
 
-take_in : {X : Type 0} (xs : List X) (i : ℕ) (d m : X) → i < length xs → Contains (take i xs) m → Contains (take (i + 1) xs) m
-take_in xs i d m h c = subst (λ l. Contains l m) (sym (take_more xs i d h)) (Contains-append_left (take i xs) _ m c)
+earlier_if : (met : List Name) (paths : List (List Name)) (i : ℕ) (o : Option ℕ) → IsTrail met paths i o → places_to o < suc i
+earlier_if met paths i None t = omega arith
+earlier_if met paths i (Some k) t = omega (arith, t.0)
 
-take_last : {X : Type 0} (xs : List X) (i : ℕ) (d : X) → i < length xs → Contains (take (i + 1) xs) (get_or xs i d)
-take_last xs i d h = subst (λ l. Contains l (get_or xs i d)) (sym (take_more xs i d h)) (Contains-push (take i xs) (get_or xs i d))
+within_if : (i n : ℕ) (o : Option ℕ) → i < n → places_to o < suc i → IfSome o (λ k. k < n)
+within_if i n None h l = tt
+within_if i n (Some k) h l = omega (arith, h, l)
 
-take_cases : {X : Type 0} (xs : List X) (i : ℕ) (d m : X) → i < length xs → Contains (take (i + 1) xs) m → Contains (take i xs) m ⊎ (get_or xs i d ≡ m)
-take_cases xs i d m h c = Contains-push_cases (take i xs) (get_or xs i d) m (subst (λ l. Contains l m) (take_more xs i d h) c)
+pub earlier : (met : List Name) (from : List (Option ℕ)) (i : ℕ) → IsTraced met from → i < length met → places_to (get_or from i None) < suc i
+earlier met from i t h = earlier_if met t.paths i (get_or from i None) (t.are.each i h)
 
-pub extends_kept : (old : List Trail) (path next before : List Name) (cur : List Trail) (i : ℕ) (d : Name) → i < length next → Extended old path (take i next) before cur → has before (get_or next i d) ≡ true → Extended old path (take (i + 1) next) before cur
-extends_kept old path next before cur i d h s known = record {
-  kept = s.kept;
-  put = λ m c f. known_or cur path (take i next) before (get_or next i d) m (s.put m) (λ e. absurd (false≢true (sym e ∙ known))) (take_cases next i d m h c) f;
-  only = λ u k. grown_more old path (take i next) (take (i + 1) next) before u (λ m c. take_in next i d m h c) (s.only u k);
-}
+pub earlier_within : (met : List Name) (from : List (Option ℕ)) (i : ℕ) → IsTraced met from → i < length met → IfSome (get_or from i None) (λ k. k < length met)
+earlier_within met from i t h = within_if i (length met) (get_or from i None) h (earlier met from i t h)
 
-pub put_only : (old : List Trail) (path next before : List Name) (cur : List Trail) (t u : Trail) → ((v : Trail) → Contains cur v → Contains old v ⊎ Grown path next before v) → Contains next t.end → has before t.end ≡ false → t.path.items ≡ path ++ t.end ∷ [] → Contains cur u ⊎ (t ≡ u) → Contains old u ⊎ Grown path next before u
-put_only old path next before cur t u f named fresh longer (inl k) = f u k
-put_only old path next before cur t u f named fresh longer (inr e) = inr (subst (Grown path next before) e (record { named = named; fresh = fresh; longer = longer }))
-
-pub extends_more : (old : List Trail) (path next before : List Name) (cur : List Trail) (t : Trail) (new : List Trail) (i : ℕ) (d : Name) → i < length next → Extended old path (take i next) before cur → has before (get_or next i d) ≡ false → t.end ≡ get_or next i d → t.path.items ≡ path ++ get_or next i d ∷ [] → Puts cur t new → Extended old path (take (i + 1) next) before new
-extends_more old path next before cur t new i d h s fresh end longer p = record {
-  kept = λ e q c. p.kept e q (s.kept e q c);
-  put = λ m c f. known_or new path (take i next) before (get_or next i d) m (λ k g. p.kept m (path ++ m ∷ []) (s.put m k g))
-      (λ g. subst (λ k. Covers new k (path ++ get_or next i d ∷ [])) end (subst (λ l. Covers new t.end l) longer p.put)) (take_cases next i d m h c) f;
-  only = λ u k. put_only old path (take (i + 1) next) before cur t u
-      (λ v j. grown_more old path (take i next) (take (i + 1) next) before v (λ m c. take_in next i d m h c) (s.only v j))
-      (subst (Contains (take (i + 1) next)) (sym end) (take_last next i d h)) (ap (has before) end ∙ fresh) (longer ∙ ap (λ k. path ++ k ∷ []) (sym end)) (p.only u k);
-}
-
--- the next level, a trail further
-pub levelled_none : (edge : Name → Name → Bool) (before : List Name) → Levelled edge [] before []
-levelled_none edge before = record { put = λ t m c e f. absurd (omega (arith, c.1)); only = λ u c. absurd (omega (arith, c.1)) }
-
-level_put : (edge : Name → Name → Bool) (level : List Trail) (before next : List Name) (cur : List Trail) (i : ℕ) (t : Trail) (new : List Trail) → t ≡ get_or level i t → Levelled edge (take i level) before cur → ((m : Name) → Contains next m ↔ (edge t.end m ≡ true)) → Extended cur t.path.items next before new → (u : Trail) (m : Name) → Contains (take i level) u ⊎ (get_or level i t ≡ u) → edge u.end m ≡ true → has before m ≡ false → Covers new m (u.path.items ++ m ∷ [])
-level_put edge level before next cur i t new at s leads x u m (inl k) e f = x.kept m (u.path.items ++ m ∷ []) (s.put u m k e f)
-level_put edge level before next cur i t new at s leads x u m (inr q) e f =
-    subst (λ v. Covers new m (v.path.items ++ m ∷ [])) (at ∙ q) (x.put m ((leads m).1 (ap (λ v. edge v.end m) (at ∙ q) ∙ e)) f)
-
-follows_more : (edge : Name → Name → Bool) (level : List Trail) (before next : List Name) (cur : List Trail) (i : ℕ) (t : Trail) → i < length level → t ≡ get_or level i t → Levelled edge (take i level) before cur → ((m : Name) → Contains next m ↔ (edge t.end m ≡ true)) → (u : Trail) → Contains cur u ⊎ Grown t.path.items next before u → Follows edge (take (i + 1) level) before u
-follows_more edge level before next cur i t h at s leads u (inl k) =
-    let f : Follows edge (take i level) before u = s.only u k in
-    record { from = f.from; there = take_in level i t f.from h f.there; by = f.by; fresh = f.fresh; longer = f.longer }
-follows_more edge level before next cur i t h at s leads u (inr g) =
-    record { from = t; there = subst (Contains (take (i + 1) level)) (sym at) (take_last level i t h); by = (leads u.end).0 g.named; fresh = g.fresh; longer = g.longer }
-
-pub levelled_more : (edge : Name → Name → Bool) (level : List Trail) (before next : List Name) (cur : List Trail) (i : ℕ) (t : Trail) (new : List Trail) → i < length level → t ≡ get_or level i t → Levelled edge (take i level) before cur → ((m : Name) → Contains next m ↔ (edge t.end m ≡ true)) → Extended cur t.path.items next before new → Levelled edge (take (i + 1) level) before new
-levelled_more edge level before next cur i t new h at s leads x = record {
-  put = λ u m k e f. level_put edge level before next cur i t new at s leads x u m (take_cases level i t u h k) e f;
-  only = λ u k. follows_more edge level before next cur i t h at s leads u (x.only u k);
-}
-
--- the ends that are known
-pub ends_none : (old : List Name) → AddsEnds old [] old
-ends_none old = record { kept = λ m c. c; all = λ m e. absurd (omega (arith, e.there.1)); only = λ m c. inl c; long = omega arith }
-
-ends_in : (level : List Trail) (i : ℕ) (t : Trail) (m : Name) → i < length level → Ends (take i level) m → Ends (take (i + 1) level) m
-ends_in level i t m h e = record { by = e.by; there = take_in level i t e.by h e.there; same = e.same }
-
-ends_or : (level : List Trail) (i : ℕ) (t : Trail) (m : Name) (old : List Name) → i < length level → Contains old m ⊎ Ends (take i level) m → Contains old m ⊎ Ends (take (i + 1) level) m
-ends_or level i t m old h (inl c) = inl c
-ends_or level i t m old h (inr e) = inr (ends_in level i t m h e)
-
-ends_cases : (level : List Trail) (i : ℕ) (t : Trail) (m : Name) (e : Ends (take (i + 1) level) m) (old cur : List Name) → t ≡ get_or level i t → ((k : Name) → Ends (take i level) k → Contains cur k) → Contains (take i level) e.by ⊎ (get_or level i t ≡ e.by) → Contains (cur ++ t.end ∷ []) m
-ends_cases level i t m e old cur at f (inl c) = Contains-append_left cur (t.end ∷ []) m (f m (record { by = e.by; there = c; same = e.same }))
-ends_cases level i t m e old cur at f (inr q) = subst (Contains (cur ++ t.end ∷ [])) (ap (λ u. u.end) (at ∙ q) ∙ e.same) (Contains-push cur t.end)
-
-ends_only : (level : List Trail) (i : ℕ) (t : Trail) (m : Name) (old cur : List Name) → i < length level → t ≡ get_or level i t → (Contains cur m → Contains old m ⊎ Ends (take i level) m) → Contains cur m ⊎ (t.end ≡ m) → Contains old m ⊎ Ends (take (i + 1) level) m
-ends_only level i t m old cur h at f (inl c) = ends_or level i t m old h (f c)
-ends_only level i t m old cur h at f (inr q) = inr (record { by = t; there = subst (Contains (take (i + 1) level)) (sym at) (take_last level i t h); same = q })
-
-pub ends_more : (old : List Name) (level : List Trail) (cur : List Name) (i : ℕ) (t : Trail) → i < length level → t ≡ get_or level i t → AddsEnds old (take i level) cur → AddsEnds old (take (i + 1) level) (cur ++ t.end ∷ [])
-ends_more old level cur i t h at a = record {
-  kept = λ m c. Contains-append_left cur (t.end ∷ []) m (a.kept m c);
-  all = λ m e. ends_cases level i t m e old cur at a.all (take_cases level i t e.by h e.there);
-  only = λ m c. ends_only level i t m old cur h at (a.only m) (Contains-push_cases cur t.end m c);
-  long = omega (arith, a.long, length-append cur (t.end ∷ []), ap length (take_more level i t h), length-append (take i level) (get_or level i t ∷ []));
-}
-
--- the least of a level, a trail further
-none_or : (bad : Name → Bool) (level : List Trail) (t u : Trail) → NoneBad bad level → bad t.end ≡ false → Contains level u ⊎ (t ≡ u) → bad u.end ≡ false
-none_or bad level t u n f (inl c) = n u c
-none_or bad level t u n f (inr e) = ap (λ v. bad v.end) (sym e) ∙ f
-
-pub none_more : (bad : Name → Bool) (level : List Trail) (t : Trail) → NoneBad bad level → bad t.end ≡ false → NoneBad bad (level ++ t ∷ [])
-none_more bad level t n f u c = none_or bad level t u n f (Contains-push_cases level t u c)
-
-first_or : (bad : Name → Bool) (level : List Trail) (t u : Trail) → NoneBad bad level → Contains level u ⊎ (t ≡ u) → bad u.end ≡ true → NotAfter t.path.items u.path.items
-first_or bad level t u n (inl c) b = absurd (false≢true (sym (n u c) ∙ b))
-first_or bad level t u n (inr e) b = subst (λ v. NotAfter t.path.items v.path.items) e (itself t.path.items)
-
-pub least_first : (bad : Name → Bool) (level : List Trail) (t : Trail) → NoneBad bad level → bad t.end ≡ true → IsLeastBad bad (level ++ t ∷ []) t
-least_first bad level t n b = record { there = Contains-push level t; badly = b; least = λ u c. first_or bad level t u n (Contains-push_cases level t u c) }
-
-good_or : (bad : Name → Bool) (level : List Trail) (b t u : Trail) → IsLeastBad bad level b → bad t.end ≡ false → Contains level u ⊎ (t ≡ u) → bad u.end ≡ true → NotAfter b.path.items u.path.items
-good_or bad level b t u s f (inl c) w = s.least u c w
-good_or bad level b t u s f (inr e) w = absurd (false≢true (sym (ap (λ v. bad v.end) (sym e) ∙ f) ∙ w))
-
-pub least_good : (bad : Name → Bool) (level : List Trail) (b t : Trail) → IsLeastBad bad level b → bad t.end ≡ false → IsLeastBad bad (level ++ t ∷ []) b
-least_good bad level b t s f = record { there = Contains-append_left level (t ∷ []) b s.there; badly = s.badly; least = λ u c. good_or bad level b t u s f (Contains-push_cases level t u c) }
-
-kept_or : (bad : Name → Bool) (level : List Trail) (b t u : Trail) → IsLeastBad bad level b → NotAfter b.path.items t.path.items → Contains level u ⊎ (t ≡ u) → bad u.end ≡ true → NotAfter b.path.items u.path.items
-kept_or bad level b t u s l (inl c) w = s.least u c w
-kept_or bad level b t u s l (inr e) w = subst (λ v. NotAfter b.path.items v.path.items) e l
-
-pub least_kept : (bad : Name → Bool) (level : List Trail) (b t : Trail) → IsLeastBad bad level b → is_lt (path_cmp t.path.items b.path.items) ≡ false → IsLeastBad bad (level ++ t ∷ []) b
-least_kept bad level b t s l = record { there = Contains-append_left level (t ∷ []) b s.there; badly = s.badly; least = λ u c. kept_or bad level b t u s (from_not_before t.path.items b.path.items l) (Contains-push_cases level t u c) }
-
-new_or : (bad : Name → Bool) (level : List Trail) (b t u : Trail) → IsLeastBad bad level b → NotAfter t.path.items b.path.items → Contains level u ⊎ (t ≡ u) → bad u.end ≡ true → NotAfter t.path.items u.path.items
-new_or bad level b t u s l (inl c) w = through t.path.items b.path.items u.path.items l (s.least u c w)
-new_or bad level b t u s l (inr e) w = subst (λ v. NotAfter t.path.items v.path.items) e (itself t.path.items)
-
-pub least_new : (bad : Name → Bool) (level : List Trail) (b t : Trail) → IsLeastBad bad level b → bad t.end ≡ true → is_lt (path_cmp t.path.items b.path.items) ≡ true → IsLeastBad bad (level ++ t ∷ []) t
-least_new bad level b t s w l = record { there = Contains-push level t; badly = w; least = λ u c. new_or bad level b t u s (from_before t.path.items b.path.items l) (Contains-push_cases level t u c) }
+pub one_back : (met : List Name) (from : List (Option ℕ)) (paths : List (List Name)) (i : ℕ) (whole path : List Name) → AreTrails met from paths → i < length met → whole ≡ get_or paths i [] ++ reverse path → whole ≡ path_before paths (get_or from i None) ++ reverse (path ++ get_or met i [] ∷ [])
+one_back met from paths i whole path t h e =
+    e ∙ ap (λ l. l ++ reverse path) (back_if met paths i (get_or from i None) (t.each i h)) ∙ append_assoc (path_before paths (get_or from i None)) (get_or met i [] ∷ []) (reverse path)
+    ∙ ap (λ l. path_before paths (get_or from i None) ++ l) (sym (reverse-append path (get_or met i [] ∷ [])))

@@ -1,9 +1,10 @@
 -- The pairs of one boundary, and the order of pairs.
-use Rattle.std.specs.Prelude.{List, ◌∷◌}
+use Rattle.std.specs.Prelude.{Bool, ◌||◌, List, ◌∷◌}
+use Rattle.std.specs.List.{list_any}
 use Rattle.std.specs.declared.cmp.Ordering.{Ordering}
 use Rattle.std.specs.Cmp.Lexicographic.{slice_cmp}
 use Rattle.std.specs.Ordering.{nat_cmp, ordering_then}
-use Rattle.core_model.specs.Names.{Name, at, sorted}
+use Rattle.core_model.specs.Names.{Name, at, has, sorted}
 use Rattle.core_model.specs.Spread.{is_pair, pairs_with}
 use Rattle.core_model.specs.View.{View, accepted_of}
 
@@ -14,6 +15,14 @@ own_and_accepted view m = sorted (m ∷ accepted_of (at view m))
 -- the pairs of a boundary, among what it may be told of
 abbrev pub told : View → List Name → List Name → Name → List (Name × Name)
 told view replaced forced m = pairs_with (is_pair view replaced forced) (own_and_accepted view m) m
+
+-- the module is replaced or was invalidated
+abbrev pub is_via : List Name → List Name → Name → Bool
+is_via replaced forced n = has replaced n || has forced n
+
+-- the module is replaced, or accepts one that is replaced or was invalidated
+abbrev pub may_be_told : View → List Name → List Name → Name → Bool
+may_be_told view replaced forced m = has replaced m || list_any (is_via replaced forced) (accepted_of (at view m))
 
 -- by boundary, and then by what it is told of
 abbrev pub pair_cmp : Name × Name → Name × Name → Ordering

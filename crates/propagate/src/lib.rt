@@ -6,6 +6,7 @@
 //! of versions.
 #![tactic(auto)]
 
+mod change;
 mod outcome;
 mod pairs;
 mod passing;

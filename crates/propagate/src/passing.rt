@@ -1,10 +1,11 @@
 // The edges that a change passes, against the direction of imports: from a module to each that imports
 // it and doesn't accept it, unless the module takes its own change.
 ghost use Rattle.std.specs.Prelude.{◌≡◌, ◌↔◌, ◌++◌, true, Contains, IfOk, OnOk, filter};
-ghost use Rattle.core_model.specs.Names.{Name};
+ghost use Rattle.core_model.specs.Names.{Name, names_of};
 ghost use Rattle.core_model.specs.Spread.{passes, ends_badly};
 ghost use Rattle.propagate.specs.Passing.{lets_pass};
 
+use crate::change::Change;
 use crate::trails::Ends;
 use hmr_types::ModName;
 use module_graph::{Edges, View, copy_of, has_name};
@@ -18,16 +19,21 @@ pub(crate) struct Passing<'a> {
 }
 
 impl<'a> Passing<'a> {
-    pub(crate) fn of(view: &'a View, forced: &'a [ModName]) -> Passing<'a>
-        ensures view { result.view.now ≡ view.now }
-        ensures forced { result.forced.now ≡ forced.now }
+    pub(crate) fn of(change: &Change<'a>) -> Passing<'a>
+        ensures view { result.view.now ≡ change.now.view.now }
+        ensures forced { result.forced.now ≡ change.now.forced.now }
     {
-        Passing { view, forced }
+        Passing {
+            view: change.view,
+            forced: change.forced,
+        }
     }
 }
 
 impl<'a> Edges for Passing<'a> {
     ghost edge = { λ s. passes s.view.now s.forced.now };
+
+    ghost names = { λ s. names_of s.view.now };
 
     fn next(&self, alloc: Global, name: &ModName) -> Result<Vec<ModName>, AllocError> {
         let importers = self.view.importers(alloc, name)?;
@@ -70,15 +76,15 @@ pub(crate) struct BadEnds<'a> {
 }
 
 impl<'a> BadEnds<'a> {
-    pub(crate) fn of(view: &'a View, roots: &'a [ModName], forced: &'a [ModName]) -> BadEnds<'a>
-        ensures view { result.view.now ≡ view.now }
-        ensures roots { result.roots.now ≡ roots.now }
-        ensures forced { result.forced.now ≡ forced.now }
+    pub(crate) fn of(change: &Change<'a>) -> BadEnds<'a>
+        ensures view { result.view.now ≡ change.now.view.now }
+        ensures roots { result.roots.now ≡ change.now.roots.now }
+        ensures forced { result.forced.now ≡ change.now.forced.now }
     {
         BadEnds {
-            view,
-            roots,
-            forced,
+            view: change.view,
+            roots: change.roots,
+            forced: change.forced,
         }
     }
 }

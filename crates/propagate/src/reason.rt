@@ -4,6 +4,7 @@ ghost use Rattle.std.specs.Prelude.{◌≡◌, IfOk, IfSome, IfNone};
 ghost use Rattle.core_model.specs.Spread.{IsReason, IsReloadWanted, cause_of, reason_of};
 ghost use Rattle.propagate.specs.Passing.{path_of, cause_in, ends_declining};
 
+use crate::change::Change;
 use crate::outcome::Reason;
 use crate::passing::{BadEnds, Passing, starts_of};
 use crate::trails::least_path;
@@ -12,40 +13,23 @@ use module_graph::View;
 use std::alloc::{AllocError, Global};
 
 /// The reason of a reload, where one is wanted.
-pub(crate) fn reason(
-    alloc: Global,
-    view: &View,
-    roots: &[ModName],
-    changed: &[ModName],
-    forced: &[ModName],
-) -> Result<Option<Reason>, AllocError>
-    ensures reason { IfOk result (λ reload. IfSome reload (λ r. IsReason view.now roots.now changed.now forced.now (path_of r))) }
-    ensures cause { IfOk result (λ reload. IfSome reload (λ r. cause_in r ≡ cause_of view.now (path_of r))) }
-    ensures none { IfOk result (λ reload. IfNone reload (IsReloadWanted view.now roots.now changed.now forced.now → ⊥)) }
+pub(crate) fn reason(alloc: Global, change: &Change) -> Result<Option<Reason>, AllocError>
+    ensures reason { IfOk result (λ reload. IfSome reload (λ r. IsReason change.now.view.now change.now.roots.now change.now.changed.now change.now.forced.now (path_of r))) }
+    ensures cause { IfOk result (λ reload. IfSome reload (λ r. cause_in r ≡ cause_of change.now.view.now (path_of r))) }
+    ensures none { IfOk result (λ reload. IfNone reload (IsReloadWanted change.now.view.now change.now.roots.now change.now.changed.now change.now.forced.now → ⊥)) }
 {
-    match least_unaccepted(alloc, view, roots, changed, forced)? {
-        Some(path) => Ok(Some(named(view, path))),
+    match least_unaccepted(alloc, change)? {
+        Some(path) => Ok(Some(named(change.view, path))),
         None => Ok(None),
     }
 }
 
-fn least_unaccepted(
-    alloc: Global,
-    view: &View,
-    roots: &[ModName],
-    changed: &[ModName],
-    forced: &[ModName],
-) -> Result<Option<Vec<ModName>>, AllocError>
-    ensures some { IfOk result (λ answer. IfSome answer (λ path. IsReason view.now roots.now changed.now forced.now path.items)) }
-    ensures none { IfOk result (λ answer. IfNone answer (IsReloadWanted view.now roots.now changed.now forced.now → ⊥)) }
+fn least_unaccepted(alloc: Global, change: &Change) -> Result<Option<Vec<ModName>>, AllocError>
+    ensures some { IfOk result (λ answer. IfSome answer (λ path. IsReason change.now.view.now change.now.roots.now change.now.changed.now change.now.forced.now path.items)) }
+    ensures none { IfOk result (λ answer. IfNone answer (IsReloadWanted change.now.view.now change.now.roots.now change.now.changed.now change.now.forced.now → ⊥)) }
 {
-    let starts = starts_of(alloc, changed, forced)?;
-    let path = least_path(
-        alloc,
-        &Passing::of(view, forced),
-        &BadEnds::of(view, roots, forced),
-        &starts,
-    )?;
+    let starts = starts_of(alloc, change.changed, change.forced)?;
+    let path = least_path(alloc, &Passing::of(change), &BadEnds::of(change), &starts)?;
     Ok(path)
 }
 

@@ -5,25 +5,21 @@ ghost use Rattle.core_model.specs.Names.{Name, has, sorted};
 ghost use Rattle.core_model.specs.Rounds.{touched};
 ghost use Rattle.core_model.specs.Spread.{replaced_of};
 
+use crate::change::Change;
 use crate::passing::{Passing, add_all, starts_of};
 use hmr_types::ModName;
-use module_graph::{Edges, View, reached, rising};
+use module_graph::{Edges, reached, rising};
 use std::alloc::{AllocError, Global};
 
 /// The names that an update replaces, rising by bytes, each once.
-pub(crate) fn replaced(
-    alloc: Global,
-    view: &View,
-    changed: &[ModName],
-    forced: &[ModName],
-) -> Result<Vec<ModName>, AllocError>
-    ensures { IfOk result (λ names. names.items ≡ replaced_of view.now changed.now forced.now) }
+pub(crate) fn replaced(alloc: Global, change: &Change) -> Result<Vec<ModName>, AllocError>
+    ensures { IfOk result (λ names. names.items ≡ replaced_of change.now.view.now change.now.changed.now change.now.forced.now) }
 {
-    let graph = Passing::of(view, forced);
-    let starts = starts_of(alloc, changed, forced)?;
+    let graph = Passing::of(change);
+    let starts = starts_of(alloc, change.changed, change.forced)?;
     let firsts = next_of_all(alloc, &graph, &starts)?;
     let passed = reached(alloc, &graph, &firsts)?;
-    let names = starts_of(alloc, changed, &passed)?;
+    let names = starts_of(alloc, change.changed, &passed)?;
     let replaced = rising(names)?;
     Ok(replaced)
 }

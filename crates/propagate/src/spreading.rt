@@ -8,6 +8,7 @@ ghost use Rattle.core_model.specs.Spread.{AreIn, IsReason, IsReloadWanted, IsRep
 ghost use Rattle.propagate.specs.Pairs.{pair_cmp};
 ghost use Rattle.propagate.specs.Passing.{path_of, cause_in};
 
+use crate::change::Change;
 use crate::outcome::Spread;
 use crate::pairs::pairs;
 use crate::reason::reason;
@@ -41,9 +42,15 @@ pub fn spread(
     ensures pairs_rising { IfOk result (λ s. IsStrictlySortedBy pair_cmp s.pairs) }
     ensures pairs_computed { IfOk result (λ s. s.pairs ≡ pairs_of view.now s.replaced forced.now) }
 {
-    let reload = reason(alloc, view, roots, changed, forced)?;
-    let replaced = replaced(alloc, view, changed, forced)?;
-    let pairs = pairs(alloc, view, changed, forced, &replaced)?;
+    let change = Change {
+        view,
+        roots,
+        changed,
+        forced,
+    };
+    let reload = reason(alloc, &change)?;
+    let replaced = replaced(alloc, &change)?;
+    let pairs = pairs(alloc, &change, &replaced)?;
     Ok(Spread {
         reload,
         replaced: Sequence::from_vec(replaced),

@@ -14,6 +14,13 @@ same_known view roots known is n = same_test (has known n) (has (reached_in view
     (λ h. (reached_is view roots n).1 ((is n).0 ((has_is known n).1 h)))
     (λ h. (has_is known n).0 ((is n).1 ((reached_is view roots n).0 h)))
 
+-- the marks have the known names
+pub marked_is : (view : View) (roots known marks : List Name) → ((m : Name) → Contains known m ↔ Reaches (imports view) roots m) → ((m : Name) → has marks m ≡ has known m) → (m : Name) → Contains marks m ↔ Reaches (imports view) roots m
+marked_is view roots known marks is same m = (
+  (λ c. (is m).0 ((has_is known m).1 (sym (same m) ∙ (has_is marks m).0 c))),
+  (λ r. (has_is marks m).1 (same m ∙ (has_is known m).0 ((is m).1 r))),
+)
+
 left_has : (test : Name → Bool) (names : List Name) (n : Name) → has (filter (λ k. not (test k)) names) n ≡ (not (test n) && has names n)
 left_has test names n = filtered_has (λ k. not (test k)) names n
 

@@ -8,19 +8,21 @@ ghost use Rattle.core_model.specs.Names.{Name, has};
 ghost use Rattle.core_model.specs.View.{IsDropped, dropped_of};
 
 use hmr_types::ModName;
-use module_graph::{Imports, View, has_name, reached, rising};
+use module_graph::{Imports, NameSet, View, copy_name, reached, rising};
 use std::alloc::{AllocError, Global};
 
 /// The names of the view that no list of imports from a root reaches, rising by bytes, each once. It
-/// looks at each reached module once, and then through the view.
+/// looks at each reached module once, and then through the view, with a look-up in the time of a logarithm
+/// for each import and each module, and sorts what is left.
 pub fn unreached(alloc: Global, view: &View, roots: &[ModName]) -> Result<Vec<ModName>, AllocError>
     ensures rising { IfOk result (λ names. IsStrictlySortedBy (slice_cmp nat_cmp) names.items) }
     ensures exact { IfOk result (λ names. (n : Name) → Contains names.items n ↔ IsDropped view.now roots.now n) }
     ensures computed { IfOk result (λ names. names.items ≡ dropped_of view.now roots.now) }
 {
     let known = reached(alloc, &Imports::of(view), roots)?;
+    let marks = NameSet::of(alloc, &known)?;
     let names = view.names(alloc)?;
-    let left = names_without(alloc, &names, &known)?;
+    let left = names_without(alloc, &names, &marks)?;
     let unreached = rising(left)?;
     Ok(unreached)
 }
@@ -29,14 +31,14 @@ pub fn unreached(alloc: Global, view: &View, roots: &[ModName]) -> Result<Vec<Mo
 fn names_without(
     alloc: Global,
     names: &[ModName],
-    known: &[ModName],
+    known: &NameSet,
 ) -> Result<Vec<ModName>, AllocError>
     ensures { IfOk result (λ left. left.items ≡ filter (λ n. not (has known.now n)) names.now) }
 {
     let mut left = Vec::new(alloc);
     for name in names {
-        if !has_name(known, name) {
-            left.push(name.clone()?)?;
+        if !known.has(name) {
+            left.push(copy_name(name)?)?;
         }
     }
     Ok(left)

@@ -2,7 +2,6 @@ mod Alike
 mod Changing
 mod Hearing
 mod Keeping
-mod Known
 mod Linking
 mod Looking
 mod Numbers

@@ -17,7 +17,7 @@ use Rattle.core_model.proofs.Loading.{reached_is}
 use Rattle.core_model.proofs.Reaching.{reaches_on}
 use Rattle.import_scan.specs.Links.{links}
 use Rattle.server_core.specs.Searching.{AreMarks, AreExports, AreClosed, HaveExports, IsExports, IsLookedAt, kept_or_none, unlinked_in, unlinked_by}
-use Rattle.page_plan.proofs.Sets.{has_take_more}
+use Rattle.module_graph.proofs.Sets.{has_take_more}
 use Rattle.server_core.proofs.Same.{same_filtered}
 
 -- maps by name

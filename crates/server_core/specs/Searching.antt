@@ -1,17 +1,13 @@
--- What a search along imports knows, and what is looked up of links and exports.
-use Rattle.std.specs.Prelude.{◌≡◌, Bool, true, false, not, ⊤, List, [], ◌∷◌, ◌++◌, map, filter, Option, Some, None, if◌then◌else◌}
+-- What is looked up of links and exports.
+use Rattle.std.specs.Prelude.{◌≡◌, Bool, true, false, not, ⊤, List, [], map, filter, Option, Some, None}
 use Prim.{⊥}
 use Rattle.core_model.specs.Names.{Name, has, at, sorted}
 use Rattle.core_model.specs.Sources.{Serving}
 use Rattle.core_model.specs.FreshLoad.{Served, imports}
 
--- a set has exactly the names that are known
+-- a set has exactly the names of the list
 abbrev pub AreMarks : List Name → List Name → Type 0
 AreMarks set known = (m : Name) → has set m ≡ has known m
-
--- the names with this one at the end, where it isn't there yet
-abbrev pub with_new : List Name → Name → List Name
-with_new names n = if has names n then names else names ++ n ∷ []
 
 -- the list that is kept, or none
 abbrev pub kept_or_none : Option (List Name) → List Name

@@ -9,9 +9,9 @@ use Rattle.propagate.proofs.replaced.replaced.Goals as goal
 
 pub returns : goal.returns
 returns c =
-    let view = c.args.view.now in
-    let changed = c.args.changed.now in
-    let forced = c.args.forced.now in
+    let view = c.args.change.now.view.now in
+    let changed = c.args.change.now.changed.now in
+    let forced = c.args.change.now.forced.now in
     let firsts = c.in_ok-firsts.firsts.items in
     let passed = c.in_ok-passed.passed.items in
     replaced_is view changed forced firsts passed
@@ -20,5 +20,5 @@ returns c =
     (subst (λ f. (m : Name) → has firsts m ≡ touched (passes c.of-graph.result.view.now f) c.deref.result.now m) c.of-graph.ensures.forced c.in_ok-firsts.ensures)))
     (subst (λ s. (m : Name) → Contains passed m ↔ Reaches (passes view forced) s m) c.deref-2.ensures.value
     (subst (λ v. (m : Name) → Contains passed m ↔ Reaches (passes v forced) c.deref-2.result.now m) c.of-graph.ensures.view
-    (subst (λ f. (m : Name) → Contains passed m ↔ Reaches (passes c.of-graph.result.view.now f) c.deref-2.result.now m) c.of-graph.ensures.forced c.in_ok-passed.ensures)))
+    (subst (λ f. (m : Name) → Contains passed m ↔ Reaches (passes c.of-graph.result.view.now f) c.deref-2.result.now m) c.of-graph.ensures.forced c.in_ok-passed.ensures.exact)))
     c.in_ok-names.names.items c.in_ok-replaced.replaced.items (c.in_ok-names.ensures ∙ ap (λ l. changed ++ l) c.deref-3.ensures.value) c.in_ok-replaced.ensures

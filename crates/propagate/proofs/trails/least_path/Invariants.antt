@@ -1,11 +1,10 @@
-use Rattle.std.proofs.Common.{◌^◌, ◌-◌}
-use Rattle.std.specs.Prelude.{vec_len}
-use Rattle.propagate.proofs.Levels.{Spreading}
+use Rattle.std.proofs.Common.{◌-◌, ◌++◌, length}
+use Rattle.propagate.proofs.Trailing.{Searching}
 use Rattle.propagate.proofs.trails.least_path.Given as goal
 
-abbrev pub invariant-loop-alloc : goal.invariant-loop-alloc
-invariant-loop-alloc g l = Spreading (g.G.Edges.edge l.graph) l.starts (g.B.Ends.bad l.ends) l.before.items l.level.items
+abbrev pub invariant-loop-at : goal.invariant-loop-at
+invariant-loop-at g l = Searching (g.G.Edges.edge l.graph) l.starts (g.G.Edges.names l.graph) (g.B.Ends.bad l.ends) l.trails.met l.trails.from.items l.at
 
--- each turn makes a name known, and no list is longer than the memory
-abbrev pub decreases-loop-alloc : goal.decreases-loop-alloc
-decreases-loop-alloc g l = 2 ^ 64 - vec_len l.before
+-- the starts and the names that edges lead to are the most that can be met
+abbrev pub decreases-loop-at : goal.decreases-loop-at
+decreases-loop-at g l = length (l.starts ++ g.G.Edges.names l.graph) - l.at

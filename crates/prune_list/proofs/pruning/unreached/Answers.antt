@@ -9,7 +9,7 @@ use Rattle.core_model.specs.Paths.{Reaches}
 use Rattle.core_model.specs.View.{imports, IsDropped}
 use Rattle.core_model.proofs.Views.{dropped_are}
 use Rattle.module_graph.proofs.Sorting.{sorted_rising}
-use Rattle.prune_list.proofs.Leftovers.{left_is}
+use Rattle.prune_list.proofs.Leftovers.{left_is, marked_is}
 use Rattle.prune_list.proofs.pruning.unreached.Goals as goal
 
 pub returns-clause-rising : goal.returns-clause-rising
@@ -18,9 +18,12 @@ returns-clause-rising c = subst (IsStrictlySortedBy (slice_cmp nat_cmp)) (sym c.
 pub returns-clause-computed : goal.returns-clause-computed
 returns-clause-computed c =
     let known = c.in_ok-known.known.items in
-    left_is c.args.view.now c.args.roots.now known c.in_ok-unreached.unreached.items
-    (subst (λ v. (m : Name) → Contains known m ↔ Reaches (imports v) c.args.roots.now m) c.of.ensures c.in_ok-known.ensures)
-    (c.in_ok-unreached.ensures ∙ ap sorted (c.in_ok-left.ensures ∙ ap (filter (λ n. not (has c.deref-2.result.now n))) (c.deref.ensures.value ∙ c.in_ok-names.ensures.names) ∙ ap (λ l. filter (λ n. not (has l n)) (names_of c.args.view.now)) c.deref-2.ensures.value))
+    let marks = c.in_ok-marks.marks in
+    left_is c.args.view.now c.args.roots.now marks c.in_ok-unreached.unreached.items
+    (marked_is c.args.view.now c.args.roots.now known marks
+    (subst (λ v. (m : Name) → Contains known m ↔ Reaches (imports v) c.args.roots.now m) c.of.ensures c.in_ok-known.ensures.exact)
+    (λ m. c.in_ok-marks.ensures m ∙ ap (λ l. has l m) c.deref.ensures.value))
+    (c.in_ok-unreached.ensures ∙ ap sorted (c.in_ok-left.ensures ∙ ap (filter (λ n. not (has marks n))) (c.deref-2.ensures.value ∙ c.in_ok-names.ensures.names)))
 
 pub returns-clause-exact : goal.returns-clause-exact
 returns-clause-exact c = subst (λ (out : List Name). (n : Name) → Contains out n ↔ IsDropped c.args.view.now c.args.roots.now n) (sym (returns-clause-computed c)) (dropped_are c.args.view.now c.args.roots.now)

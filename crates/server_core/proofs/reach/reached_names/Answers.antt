@@ -1,5 +1,14 @@
+use Rattle.std.proofs.Common.{◌↔◌, Contains}
+use Rattle.std.proofs.Math.Path.{subst}
+use Rattle.core_model.specs.FreshLoad.{imports}
+use Rattle.core_model.specs.Names.{Name}
+use Rattle.core_model.specs.Paths.{Reaches}
 use Rattle.server_core.proofs.Reaching.{found_is}
 use Rattle.server_core.proofs.reach.reached_names.Goals as goal
 
 pub returns : goal.returns
-returns c = found_is c.args.versions.now.served c.args.roots.now c.in_ok-known.known.items c.in_ok-names.names.items c.in_ok-known.ensures c.in_ok-names.ensures
+returns c =
+    let known = c.in_ok-known.known.items in
+    found_is c.args.versions.now.served c.args.roots.now known c.in_ok-names.names.items
+    (subst (λ v. (m : Name) → Contains known m ↔ Reaches (imports v.served) c.args.roots.now m) c.of.ensures c.in_ok-known.ensures.exact)
+    c.in_ok-names.ensures

@@ -1,5 +1,5 @@
 use Rattle.std.proofs.Common.{◌≡◌, List, true, ap, ◌∙◌}
-use Rattle.std.specs.Prelude.{filter, not, None}
+use Rattle.std.specs.Prelude.{None}
 use Rattle.std.proofs.Math.Path.{subst}
 use Rattle.core_model.specs.Names.{Name, has}
 use Rattle.core_model.specs.View.{dropped_of}
@@ -14,25 +14,23 @@ use Rattle.client_records.proofs.client_record.ClientRecord.take.Goals as goal
 pub returns-clause-made : goal.returns-clause-made
 returns-clause-made c =
     let k : Kept = kept_of c.self.inside in
-    let taken : IsTaken c.args.sources.now k c.args.made c.from_vec.result c.release.new.self = taken c.args.sources.now k c.args.made c.in_ok-names.names.items c.in_ok-forced.forced.items c.from_vec.result c.enter_all.new.queue c.renew_all.new.queue c.unforce_all.new.queue c.release.new.self
-    c.in_ok-names.ensures c.in_ok-forced.ensures.names (c.from_vec.ensures ∙ c.in_ok-dropped.ensures.computed ∙ ap (dropped_of c.args.made) c.as_slice.ensures)
+    let taken : IsTaken c.args.sources.now k c.args.made c.from_vec.result c.release.new.self = taken c.args.sources.now k c.args.made c.in_ok-names.names.items c.from_vec.result c.enter_all.new.queue c.renew_all.new.queue c.unforce_all.new.self c.release.new.self
+    c.in_ok-names.ensures (c.from_vec.ensures ∙ c.in_ok-dropped.ensures.computed ∙ ap (dropped_of c.args.made) c.as_slice.ensures)
     c.self.invariant.marked c.enter_all.ensures.grown
     (subst (λ (l : List Name). (n : Name) → has l n ≡ true → knows c.enter_all.new.queue n ≡ true) c.deref.ensures.value c.in_ok-enter_all.ensures.known)
     (subst (λ (l : List Name). AreRenewed l c.args.made c.args.sources.now c.enter_all.new.queue c.renew_all.new.queue) c.deref-2.ensures.value c.renew_all.ensures)
-    (subst (λ (l : List Name). c.unforce_all.new.queue ≡ record c.renew_all.new.queue { forced = filter (λ m. not (has l m)) c.renew_all.new.queue.forced }) c.deref-3.ensures.value c.unforce_all.ensures)
-    c.release.ensures in
+    c.unforce_all.ensures c.release.ensures in
     subst (λ (x : Kept). HasMade c.args.sources.now c.args.made x (record k { loaded = true; view = c.args.made; queue = c.release.new.self; plan = None; dropped = c.from_vec.result })) c.self.view_is taken.page
 
 pub invariant_of-self-2 : goal.invariant_of-self-2
 invariant_of-self-2 c =
     let k : Kept = kept_of c.self.inside in
-    let taken : IsTaken c.args.sources.now k c.args.made c.from_vec.result c.release.new.self = taken c.args.sources.now k c.args.made c.in_ok-names.names.items c.in_ok-forced.forced.items c.from_vec.result c.enter_all.new.queue c.renew_all.new.queue c.unforce_all.new.queue c.release.new.self
-    c.in_ok-names.ensures c.in_ok-forced.ensures.names (c.from_vec.ensures ∙ c.in_ok-dropped.ensures.computed ∙ ap (dropped_of c.args.made) c.as_slice.ensures)
+    let taken : IsTaken c.args.sources.now k c.args.made c.from_vec.result c.release.new.self = taken c.args.sources.now k c.args.made c.in_ok-names.names.items c.from_vec.result c.enter_all.new.queue c.renew_all.new.queue c.unforce_all.new.self c.release.new.self
+    c.in_ok-names.ensures (c.from_vec.ensures ∙ c.in_ok-dropped.ensures.computed ∙ ap (dropped_of c.args.made) c.as_slice.ensures)
     c.self.invariant.marked c.enter_all.ensures.grown
     (subst (λ (l : List Name). (n : Name) → has l n ≡ true → knows c.enter_all.new.queue n ≡ true) c.deref.ensures.value c.in_ok-enter_all.ensures.known)
     (subst (λ (l : List Name). AreRenewed l c.args.made c.args.sources.now c.enter_all.new.queue c.renew_all.new.queue) c.deref-2.ensures.value c.renew_all.ensures)
-    (subst (λ (l : List Name). c.unforce_all.new.queue ≡ record c.renew_all.new.queue { forced = filter (λ m. not (has l m)) c.renew_all.new.queue.forced }) c.deref-3.ensures.value c.unforce_all.ensures)
-    c.release.ensures in
+    c.unforce_all.ensures c.release.ensures in
     record {
       rising = c.requires.rising;
       counted = c.requires.counted;

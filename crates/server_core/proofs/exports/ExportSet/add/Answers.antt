@@ -1,6 +1,6 @@
 use Rattle.std.proofs.Common.{ap, ◌∙◌}
 use Rattle.core_model.specs.Names.{has}
-use Rattle.page_plan.proofs.Sets.{insert_has}
+use Rattle.module_graph.proofs.Sets.{insert_has}
 use Rattle.server_core.proofs.exports.ExportSet.add.Goals as goal
 
 pub returns : goal.returns

@@ -1,5 +1,5 @@
 use Rattle.std.proofs.Common.{◌∙◌}
-use Rattle.page_plan.proofs.Sets.{set_has}
+use Rattle.module_graph.proofs.Sets.{set_has}
 use Rattle.server_core.proofs.exports.ExportSet.has.Goals as goal
 
 pub returns : goal.returns

@@ -1,6 +1,0 @@
-use Rattle.std.proofs.Common.{take}
-use Rattle.module_graph.specs.Paths.{Adds}
-use Rattle.module_graph.proofs.search.add_new.Given as goal
-
-abbrev pub invariant-loop-name : goal.invariant-loop-name
-invariant-loop-name l = Adds l.fn.known.items (take l.name-index l.names) l.known.items
