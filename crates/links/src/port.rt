@@ -1,0 +1,107 @@
+// What the nets in memory have in common: what they were asked, the port that they listen at, which of
+// their calls are to fail and which calls of the ends to come.
+ghost use Rattle.std.specs.Prelude.{◌≡◌, ◌≢◌, ◌≤◌, Some, None, false, IfErr, IfOk};
+ghost use Rattle.hmr_base.specs.Causes.{Rose};
+ghost use Rattle.outside_calls.specs.Causes.{HasOutCause, is_failed};
+ghost use Rattle.outside_calls.specs.Plans.{AsPlanned, faults_of, fresh_plan, plan_of};
+ghost use Rattle.outside_calls.specs.declared.out_fault.OutFault.{OutFault};
+ghost use Rattle.links.specs.declared.net.Asked.{Asked};
+ghost use Rattle.links.specs.Asks.{first_asked};
+ghost use Rattle.links.specs.Ends.{ends_after, ends_of, failing_next};
+
+use crate::{Asked, OutFault};
+use outside_calls::FaultPlan;
+use std::alloc::Global;
+use std::collections::VecDeque;
+
+/// The port that is answered where any would do.
+const FREE_PORT: u16 = 5173;
+
+/// The common part of a net in memory.
+#[derive(Drop)]
+pub(crate) struct Port {
+    asked: Option<Asked>,
+    heard: Option<u16>,
+    plan: FaultPlan,
+    ends: VecDeque<Vec<u64>>,
+}
+
+impl Port {
+    pub(crate) fn new(failing: Vec<u64>, ends: VecDeque<Vec<u64>>) -> Self
+        ensures unasked { (result.asked ≡ None) × (result.heard ≡ None) }
+        ensures plan { plan_of result.plan ≡ fresh_plan failing.items }
+        ensures faults { faults_of result.plan ≡ 0 }
+        ensures ends { result.ends ≡ ends }
+    {
+        Port {
+            asked: None,
+            heard: None,
+            plan: FaultPlan::new(failing),
+            ends,
+        }
+    }
+
+    pub(crate) fn listen(&mut self, port: u16) -> Result<u16, OutFault>
+        ensures asked { self.new.asked ≡ Some (Asked.Listen port) }
+        ensures heard { IfOk result (λ heard. self.new.heard ≡ Some heard) }
+        ensures ends { self.new.ends ≡ self.old.ends }
+        ensures cause { HasOutCause (faults_of self.old.plan) (faults_of self.new.plan) result }
+        ensures planned { AsPlanned (Some (plan_of self.old.plan)) (Some (plan_of self.new.plan)) (is_failed result) false }
+    {
+        self.asked = Some(Asked::Listen(port));
+        self.plan.begin()?;
+        let heard = if port == 0 { FREE_PORT } else { port };
+        self.heard = Some(heard);
+        Ok(heard)
+    }
+
+    pub(crate) fn begin_accept(&mut self) -> Result<(), OutFault>
+        ensures asked { self.new.asked ≡ self.old.asked }
+        ensures heard { self.new.heard ≡ self.old.heard }
+        ensures ends { self.new.ends ≡ self.old.ends }
+        ensures cause { HasOutCause (faults_of self.old.plan) (faults_of self.new.plan) result }
+        ensures planned { AsPlanned (Some (plan_of self.old.plan)) (Some (plan_of self.new.plan)) (is_failed result) false }
+        ensures only { IfErr result (λ fault. fault ≡ OutFault.Failed) }
+    {
+        self.plan.begin()
+    }
+
+    pub(crate) fn begin_connect(&mut self, port: u16) -> Result<(), OutFault>
+        ensures asked { self.new.asked ≡ first_asked self.old.asked (Asked.Connect port) }
+        ensures heard { self.new.heard ≡ self.old.heard }
+        ensures ends { self.new.ends ≡ self.old.ends }
+        ensures cause { HasOutCause (faults_of self.old.plan) (faults_of self.new.plan) result }
+        ensures planned { AsPlanned (Some (plan_of self.old.plan)) (Some (plan_of self.new.plan)) (is_failed result) false }
+    {
+        if self.asked.is_none() {
+            self.asked = Some(Asked::Connect(port));
+        }
+        self.plan.begin()
+    }
+
+    /// The numbers of the calls that are to fail of the end that comes now.
+    pub(crate) fn next_end(&mut self, alloc: Global) -> Vec<u64>
+        ensures failing { result.items ≡ failing_next (ends_of self.old) }
+        ensures ends { Some (ends_of self.new) ≡ ends_after (Some (ends_of self.old)) }
+        ensures asked { self.new.asked ≡ self.old.asked }
+        ensures heard { self.new.heard ≡ self.old.heard }
+        ensures plan { self.new.plan ≡ self.old.plan }
+    {
+        self.ends.pop_front().unwrap_or(Vec::new(alloc))
+    }
+
+    /// Counts a fault where an end that came back has some.
+    pub(crate) fn retire(&mut self, end_faults: u64)
+        ensures rose { end_faults ≢ 0 → Rose (faults_of self.old.plan) (faults_of self.new.plan) }
+        ensures same { end_faults ≡ 0 → faults_of self.new.plan ≡ faults_of self.old.plan }
+        ensures later { faults_of self.old.plan ≤ faults_of self.new.plan }
+        ensures plan { plan_of self.new.plan ≡ plan_of self.old.plan }
+        ensures asked { self.new.asked ≡ self.old.asked }
+        ensures heard { self.new.heard ≡ self.old.heard }
+        ensures ends { self.new.ends ≡ self.old.ends }
+    {
+        if end_faults > 0 {
+            self.plan.fail();
+        }
+    }
+}

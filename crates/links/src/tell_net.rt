@@ -1,0 +1,98 @@
+// A net in memory whose next end has its messages from the start, and tells them.
+ghost use Rattle.std.specs.Prelude.{◌≡◌, ◌≢◌, ◌≤◌, ℕ, List, Option, Some, None, IfOk, IsSome, map, []};
+ghost use Rattle.outside_calls.specs.Plans.{faults_of, fresh_plan, plan_of};
+ghost use Rattle.links.specs.declared.link.Phase.{Phase};
+ghost use Rattle.links.specs.Ends.{ends_after, ends_of, failing_next};
+ghost use Rattle.links.specs.Feeds.{left_of};
+
+use crate::feed::Feed;
+use crate::port::Port;
+use crate::{MemLink, Net, OutFault};
+use std::alloc::Global;
+use std::collections::VecDeque;
+use std::mem;
+use std::sync::Wait;
+
+/// A net in memory whose next `connect` or `accept` gives an end that receives the messages which were
+/// handed in, and tells them; a later end receives none. `listen` at port 0 answers 5173.
+#[derive(Drop)]
+pub struct TellNet<R: Drop> {
+    rt: R,
+    coming: VecDeque<Vec<u8>>,
+    port: Port,
+}
+
+impl<R: Wait + Copy + Drop> TellNet<R> {
+    /// A net whose next end receives the messages of `coming`. Of its calls of `listen`, `accept` and
+    /// `connect` those fail whose numbers, from 0, stand in `failing`, and of the calls of the n-th end
+    /// that it gives those whose numbers stand in the n-th list of `ends`; of an end past these lists no
+    /// call fails. It takes no memory.
+    pub fn new(
+        rt: R,
+        coming: VecDeque<Vec<u8>>,
+        failing: Vec<u64>,
+        ends: VecDeque<Vec<u64>>,
+    ) -> Self
+        ensures unasked { (result.port.asked ≡ None) × (result.port.heard ≡ None) }
+        ensures coming { result.coming ≡ coming }
+        ensures plan { plan_of result.port.plan ≡ fresh_plan failing.items }
+        ensures faults { faults_of result.port.plan ≡ 0 }
+        ensures ends { result.port.ends ≡ ends }
+    {
+        TellNet {
+            rt,
+            coming,
+            port: Port::new(failing, ends),
+        }
+    }
+
+    // The end that comes now.
+    fn next_link(&mut self, alloc: Global) -> MemLink<R>
+        ensures fresh { result.phase ≡ Phase.Fresh }
+        ensures told { left_of result.feed ≡ Some (map (λ message. message.items) self.old.coming.items) }
+        ensures clean { faults_of result.plan ≡ 0 }
+        ensures plan { plan_of result.plan ≡ fresh_plan (failing_next (ends_of self.old.port)) }
+        ensures ends { Some (ends_of self.new.port) ≡ ends_after (Some (ends_of self.old.port)) }
+        ensures asked { self.new.port.asked ≡ self.old.port.asked }
+        ensures heard { self.new.port.heard ≡ self.old.port.heard }
+        ensures same { self.new.port.plan ≡ self.old.port.plan }
+    {
+        let coming = mem::replace(&mut self.coming, VecDeque::new(alloc));
+        let failing = self.port.next_end(alloc);
+        MemLink::new(self.rt, Feed::told(alloc, coming), failing)
+    }
+}
+
+impl<R: Wait + Copy + Drop> Net for TellNet<R> {
+    type End = MemLink<R>;
+
+    ghost faults = { λ s. faults_of s.port.plan };
+
+    ghost asked = { λ s. s.port.asked };
+
+    ghost heard = { λ s. s.port.heard };
+
+    ghost coming = { λ s. Some (map (λ message. message.items) s.coming.items) };
+
+    ghost plan = { λ s. Some (plan_of s.port.plan) };
+
+    ghost ends = { λ s. Some (ends_of s.port) };
+
+    fn listen(&mut self, _alloc: Global, port: u16) -> Result<u16, OutFault> {
+        self.port.listen(port)
+    }
+
+    fn accept(&mut self, alloc: Global) -> Result<MemLink<R>, OutFault> {
+        self.port.begin_accept()?;
+        Ok(self.next_link(alloc))
+    }
+
+    fn connect(&mut self, alloc: Global, port: u16) -> Result<MemLink<R>, OutFault> {
+        self.port.begin_connect(port)?;
+        Ok(self.next_link(alloc))
+    }
+
+    fn retire(&mut self, end: MemLink<R>) {
+        self.port.retire(end.faults());
+    }
+}

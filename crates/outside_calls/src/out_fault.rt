@@ -1,0 +1,22 @@
+// Why a call of the outside is refused.
+ghost use Rattle.std.specs.Prelude.{◌≡◌};
+ghost use Rattle.outside_calls.specs.declared.out_fault.OutFault.TheVariants.{NoMemory};
+
+use std::alloc::AllocError;
+
+/// Why a call of a folder, a net or a link is refused.
+#[derive(Clone, Copy, Debug, PartialEq, Eq)]
+pub enum OutFault {
+    /// The outside failed: the count of faults of what was called rose in this call.
+    Failed,
+    /// Memory ran out.
+    NoMemory,
+}
+
+impl From<AllocError> for OutFault {
+    ghost from_gives = { λ _ fault. fault ≡ NoMemory };
+
+    fn from(_: AllocError) -> Self {
+        OutFault::NoMemory
+    }
+}

@@ -1,0 +1,13 @@
+//! Links over the system's network: a WebSocket over any stream, and a net of WebSockets over TCP on this
+//! machine alone.
+//!
+//! Stands on `links` for the traits, and on the toolchain's `tungstenite` for the protocol. Keeps: a call
+//! fails only where the count of faults rises; a message has at most 16,777,216 bytes, both ways. Knows
+//! nothing of what messages mean, nor of who is at the other end.
+#![tactic(auto)]
+
+mod tcp_net;
+mod ws_link;
+
+pub use tcp_net::TcpNet;
+pub use ws_link::WsLink;
