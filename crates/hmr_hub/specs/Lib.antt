@@ -1,0 +1,13 @@
+pub mod Bounds
+pub mod Calls
+pub mod Inside
+pub mod KeptEvents
+pub mod Kinds
+pub mod Outcomes
+pub mod Pages
+pub mod Passages
+pub mod Passes
+pub mod Questions
+pub mod Recordings
+pub mod Reports
+pub mod Transcripts

@@ -1,0 +1,46 @@
+-- What a hub reports of its transcript: how many entries it has, what the server's page would load anew,
+-- and each client's page as it was last.
+use Rattle.std.specs.Prelude.{ℕ, List, [], ◌∷◌, ◌++◌, length, map, flat_map, Option, Some, None}
+use Rattle.std.specs.List.{range_with_len}
+use Rattle.core_model.specs.Names.{Name}
+use Rattle.core_model.specs.FreshLoad.{fresh_load}
+use Rattle.core_model.specs.Core.{Event, core_after}
+use Rattle.core_model.specs.Transcript.{Recorded}
+use Rattle.client_model.specs.Printing.{module_line}
+use Rattle.output_lines.specs.declared.out_line.OutLine.TheVariants as line
+use Rattle.world_model.specs.Steps.{fresh_lines, unlinked_line}
+use Rattle.import_scan.specs.Links.{links}
+use Rattle.hmr_hub.specs.declared.report_line.ReportLine.{ReportLine}
+use Rattle.hmr_hub.specs.declared.report_line.ReportLine.TheVariants.{Steps, Client, Line}
+use Rattle.hmr_hub.specs.Pages.{Page, last_page}
+use Rattle.hmr_hub.specs.Transcripts.{past_of}
+
+-- a module of a client's page
+abbrev pub page_line : Name × ℕ → ReportLine
+page_line row = Line (module_line row)
+
+-- a name of the fresh load that isn't served
+abbrev pub missing_line : Name → ReportLine
+missing_line n = Line (line.Missing n)
+
+-- an import that isn't exported
+abbrev pub edge_line : Name × Name × Name → ReportLine
+edge_line edge = Line (unlinked_line edge)
+
+-- a client's number, and its page
+abbrev pub client_lines : ℕ → Option Page → List ReportLine
+client_lines i None = Client i ∷ []
+client_lines i (Some page) = Client i ∷ map page_line page
+
+-- the pages of so many clients, by their numbers from 1 on
+abbrev pub pages_lines : List Name → List Event → ℕ → List ReportLine
+pages_lines roots past many = flat_map (λ i. client_lines i (last_page roots past i)) (range_with_len 1 many)
+
+-- the report of a server with these roots
+abbrev pub report_of : List Name → List Recorded → List ReportLine
+report_of roots entries =
+    let past = past_of entries in
+    let core = core_after roots past in
+    Steps (length entries)
+    ∷ (map Line (fresh_lines (fresh_load links core.sources.served roots))
+    ++ pages_lines roots past core.given)

@@ -1,0 +1,63 @@
+// An event as a transcript keeps it. Of a result it keeps no outcome, which is that of transforming the text.
+ghost use Rattle.std.specs.Prelude.{◌≡◌, IfOk};
+ghost use Rattle.std.specs.Option.{option_map};
+ghost use Rattle.server_core.specs.Said.{event_of};
+ghost use Rattle.hmr_hub.specs.KeptEvents.{kept_as};
+
+use hmr_types::{ClientId, ModName, Table, Ver};
+use module_graph::copy_of;
+use server_core::Event;
+use std::alloc::{AllocError, Global};
+
+/// What is kept of an event.
+#[derive(Drop)]
+pub(crate) enum KeptEvent {
+    Edit(ModName, Option<Vec<u8>>),
+    Settle(ModName, Vec<u8>, Ver),
+    Connect(Vec<ModName>),
+    Ask(ClientId),
+    Fetch(ClientId, ModName),
+    Applied(ClientId, Table),
+    Aborted(ClientId),
+    Invalidate(ClientId, ModName, Ver),
+    Disconnect(ClientId),
+}
+
+/// An event under the number of its pass.
+#[derive(Drop)]
+pub(crate) struct Entry {
+    pub by: u64,
+    pub event: KeptEvent,
+}
+
+/// What is kept of this event. It takes time and memory in proportion to its names and texts.
+pub(crate) fn keep(alloc: Global, event: &Event) -> Result<KeptEvent, AllocError>
+    ensures { IfOk result (λ kept. kept_as kept ≡ event_of event.now) }
+{
+    match event {
+        Event::Edit(name, text) => Ok(KeptEvent::Edit(name.clone()?, copy_text(alloc, text)?)),
+        Event::Settle(done, version) => {
+            let _exact = done.outcome();
+            let text = Vec::from_slice(alloc, done.text())?;
+            Ok(KeptEvent::Settle(done.name().clone()?, text, *version))
+        }
+        Event::Connect(names) => Ok(KeptEvent::Connect(copy_of(alloc, names)?)),
+        Event::Ask(client) => Ok(KeptEvent::Ask(*client)),
+        Event::Fetch(client, name) => Ok(KeptEvent::Fetch(*client, name.clone()?)),
+        Event::Applied(client, table) => Ok(KeptEvent::Applied(*client, table.clone()?)),
+        Event::Aborted(client) => Ok(KeptEvent::Aborted(*client)),
+        Event::Invalidate(client, name, version) => {
+            Ok(KeptEvent::Invalidate(*client, name.clone()?, *version))
+        }
+        Event::Disconnect(client) => Ok(KeptEvent::Disconnect(*client)),
+    }
+}
+
+fn copy_text(alloc: Global, text: &Option<Vec<u8>>) -> Result<Option<Vec<u8>>, AllocError>
+    ensures { IfOk result (λ copy. option_map (λ t. t.items) copy ≡ option_map (λ t. t.items) text.now) }
+{
+    match text {
+        Some(text) => Ok(Some(Vec::from_slice(alloc, text)?)),
+        None => Ok(None),
+    }
+}

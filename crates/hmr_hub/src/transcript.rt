@@ -1,0 +1,89 @@
+// The transcript: entries with the numbers of their passes, and how many bytes further ones may have.
+ghost use Rattle.std.specs.Prelude.{◌≡◌, ◌+◌, ◌≤◌, ◌<◌, ◌++◌, ◌∷◌, [], IfSome, OnOk, false, is_none, length};
+ghost use Rattle.core_model.specs.Transcript.{most_bytes, most_entries, transcript_bytes};
+ghost use Rattle.server_core.specs.Said.{event_of};
+ghost use Rattle.hmr_hub.specs.KeptEvents.{kept_as};
+ghost use Rattle.hmr_hub.specs.Transcripts.{entry_bytes, is_full};
+
+use crate::kept_event::{Entry, KeptEvent};
+use crate::weighing::left_after;
+use server_core::Event;
+use std::alloc::{AllocError, Global};
+use std::marker::Model;
+
+// The most entries of a transcript.
+const ENTRIES: usize = 1_000_000;
+
+// The most bytes of a transcript: 256 MiB.
+const BYTES: usize = 268_435_456;
+
+// What an entry counts beside the names and texts of its event.
+const ENTRY_BYTES: usize = 64;
+
+/// A transcript within its bounds. Contracts see its entries, and for how many more there is room.
+#[derive(Drop)]
+pub(crate) struct Transcript {
+    entries: Vec<Entry>,
+    left: usize,
+}
+
+impl Model for Transcript {
+    ghost use Rattle.hmr_hub.specs.Recordings.{Kept};
+
+    ghost Value = { Kept };
+
+    ghost use Rattle.hmr_hub.specs.Bounds.{IsBounded, kept_of};
+
+    ghost view = { kept_of };
+
+    ghost invariant = { IsBounded };
+}
+
+impl Transcript {
+    /// The empty transcript. It takes no memory.
+    pub fn new(alloc: Global) -> Transcript
+        ensures { result.entries ≡ [] }
+    {
+        Transcript {
+            entries: Vec::new(alloc),
+            left: BYTES,
+        }
+    }
+
+    /// How many entries there are.
+    pub fn len(&self) -> usize
+        ensures { result ≡ length self.now.entries }
+    {
+        self.entries.len()
+    }
+
+    /// How many bytes are left after this event; None exactly where it has no place. It takes no memory.
+    pub fn left_after(&self, event: &Event) -> Option<usize>
+        ensures some { IfSome result (λ left. left + (transcript_bytes self.now.entries + entry_bytes (event_of event.now)) ≡ most_bytes) }
+        ensures none { is_none result ≡ is_full self.now.entries (event_of event.now) }
+    {
+        if self.entries.len() >= ENTRIES {
+            return None;
+        }
+        left_after(self.left.checked_sub(ENTRY_BYTES)?, event)
+    }
+
+    /// Makes room for an entry. It changes nothing else.
+    pub fn make_room(&mut self) -> Result<(), AllocError>
+        ensures entries { self.new.entries ≡ self.old.entries }
+        ensures room { OnOk result (1 ≤ self.new.spare) }
+    {
+        self.entries.reserve(1)
+    }
+
+    /// Adds an entry, for which there is room; so many bytes are left after it.
+    pub fn push(&mut self, by: u64, event: KeptEvent, left: usize)
+        requires room { 1 ≤ self.old.spare }
+        requires few { length self.old.entries < most_entries }
+        requires left { left + (transcript_bytes self.old.entries + entry_bytes (kept_as event)) ≡ most_bytes }
+        ensures { self.new.entries ≡ self.old.entries ++ (by, kept_as event) ∷ [] }
+    {
+        self.entries.push_reserved(Entry { by, event });
+        self.left = left;
+    }
+}
