@@ -3,6 +3,8 @@ pub mod Writing
 pub mod Stepping
 pub mod Commanding
 pub mod Answering
+pub mod Instances
+pub mod Summing
 pub mod Roots
 pub mod Ending
 pub mod Headline

@@ -20,7 +20,7 @@ then_nothing w lines false =
     ap (λ l. let p : Played = record { world = w; lines = l; over = false } in p) (sym (append-nil lines))
 
 -- what is shown of both
-shown_both : (quiet : Bool) (xs ys : List OutLine) → shown quiet (xs ++ ys) ≡ shown quiet xs ++ shown quiet ys
+pub shown_both : (quiet : Bool) (xs ys : List OutLine) → shown quiet (xs ++ ys) ≡ shown quiet xs ++ shown quiet ys
 shown_both false xs ys = refl
 shown_both true xs ys = filter-append (λ l. not (went_well l)) xs ys
 
@@ -140,6 +140,14 @@ module _ (stage : Stage) where
       perform stage before quiet w
       ≡ then_on (quieted quiet (commanded stage command w)) (perform stage more quiet)
   next_command before more line quiet command w is e =
+      ap (λ lines. perform stage lines quiet w) is
+      ∙ ap (λ c. line_played stage quiet c (perform stage more) w) (sym e)
+
+  -- a line that is no command, and those behind it
+  pub next_quiet : (before more : List ScriptLine) (line : ScriptLine) (quiet : Bool) (w : World) →
+      before ≡ line ∷ more → None ≡ command_of line →
+      perform stage before quiet w ≡ perform stage more true w
+  next_quiet before more line quiet w is e =
       ap (λ lines. perform stage lines quiet w) is
       ∙ ap (λ c. line_played stage quiet c (perform stage more) w) (sym e)
 

@@ -3,11 +3,8 @@ use Rattle.std.proofs.Common.{◌≡◌, ℕ, Bool, true, false, List, [], ap, s
 use Rattle.std.specs.Prelude.{Option, Some, None, Result, Ok, Err, OnOk, is_err}
 use Prim.{⊥}
 use Rattle.std.specs.Global.{Vec}
-use Rattle.std.specs.Io.KnownBytes.{Appends}
-use Rattle.std.proofs.KnownBytes.{Appends-nil}
 use Rattle.std.proofs.Math.Path.{subst}
 use Rattle.std.proofs.lemmas.Bool.{false≢true}
-use Rattle.hmr_base.specs.Fronts.{WritesFront}
 use Rattle.hmr_base.proofs.Fronts.{front_none}
 use Rattle.output_lines.specs.declared.out_line.OutLine.{OutLine}
 use Rattle.module_language.specs.ModuleLanguage.{module_language}
@@ -27,7 +24,8 @@ use Rattle.dev_program.specs.Outputs.{lines_text}
 use Rattle.dev_program.specs.Playing as plays
 use Rattle.dev_program.specs.Playing.{nothing, quieted}
 use Rattle.dev_program.specs.Standing.{IsAt}
-use Rattle.dev_program.specs.Writing.{HasCause, IsPlayStop, Plays}
+use Rattle.dev_program.specs.Writing.{HasCause, IsPlayStop, Plays, Taken, Takes, TakesFront}
+use Rattle.dev_program.proofs.Writing.{takes_none}
 
 -- of no lines none is shown
 pub none_shown : (quiet : Bool) → plays.shown quiet [] ≡ []
@@ -54,12 +52,12 @@ module _ {F : Type 0} (stage : Stage) (w : model.World) (old : World F) (h : IsA
       play_step stage (nothing w) s ≡ stepped_on [] (step_in h.run s).world made
   part_is s made e = ap (joined []) (same_step s) ∙ ap (stepped_on [] (step_in h.run s).world) e
 
-  -- the step went on, and its lines are written
-  pub step_plays : (s : Step) (quiet : Bool) (lines : Vec OutLine) (after : World F) (a b : Option (List ℕ))
+  -- the step went on, and its lines are taken
+  pub step_plays : (s : Step) (quiet : Bool) (lines : Vec OutLine) (after : World F) (a b : Taken)
       (result : Result (Unit {0}) Stop) →
       AreLines (step_in h.run s).lines (Ok lines) → StandsFor (run_on h.run s) after →
-      WritesFront a b (lines_text (plays.shown quiet lines.items)) →
-      OnOk result (Appends a b (lines_text (plays.shown quiet lines.items))) → (result ≡ Err InstancesFull → ⊥) →
+      TakesFront a b (plays.shown quiet lines.items) →
+      OnOk result (Takes a b (plays.shown quiet lines.items)) → (result ≡ Err InstancesFull → ⊥) →
       Plays stage a b (quieted quiet (play_step stage (nothing w) s)) after result
   step_plays s quiet lines after a b result are k front done other =
       subst (λ (p : Played). Plays stage a b (quieted quiet p) after result)
@@ -76,27 +74,26 @@ module _ {F : Type 0} (stage : Stage) (w : model.World) (old : World F) (h : IsA
       })
 
   -- the step ended the run, or there was no memory for it
-  pub step_stops : (s : Step) (quiet : Bool) (e : WorldStop) (after : World F) (a : Option (List ℕ))
+  pub step_stops : (s : Step) (quiet : Bool) (e : WorldStop) (after : World F) (a : Taken)
       (stop : Stop) →
       AreLines (step_in h.run s).lines (Err e) → stop ≡ stop_of_world e →
       Plays stage a a (quieted quiet (play_step stage (nothing w) s)) after (Err stop)
   step_stops s quiet worlds.InstancesFull after a stop are e =
-      let none : lines_text (plays.shown quiet []) ≡ [] = ap lines_text (none_shown quiet) in
       subst (λ (p : Played). Plays stage a a (quieted quiet p) after (Err stop)) (sym (part_is s None are))
       (record {
         performs = record {
-          front = front_none a (lines_text (plays.shown quiet []));
+          front = front_none a.bytes (lines_text (plays.shown quiet []));
           done = tt;
           goes_on = tt;
           ended = λ full. refl;
-          all = λ full. subst (Appends a a) (sym none) (Appends-nil a);
+          all = λ full. subst (Takes a a) (sym (none_shown quiet)) (takes_none a);
         };
         state = tt;
       })
   step_stops s quiet worlds.NoMemory after a stop are e =
       record {
         performs = record {
-          front = front_none a (lines_text (plays.shown quiet (play_step stage (nothing w) s).lines));
+          front = front_none a.bytes (lines_text (plays.shown quiet (play_step stage (nothing w) s).lines));
           done = tt;
           goes_on = tt;
           ended = λ full. absurd (cc);

@@ -1,25 +1,30 @@
--- What the program answers and writes for the words and bytes that it is given.
-use Rattle.std.specs.Prelude.{◌≡◌, ◌⊎◌, ℕ, List, [], ◌++◌, codes, decimal, length, nat_le, Bool, true, false, Result, Ok, Err}
+-- What the program answers and writes for the words and the input that it is given.
+use Rattle.std.specs.Prelude.{◌≡◌, ◌⊎◌, ℕ, List, [], ◌++◌, codes, decimal, length, nat_le, Bool, true, false, Option, Some, None, Result, Ok, Err}
 use Rattle.std.specs.List.{flat_map}
-use Rattle.hmr_types.specs.declared.limits.TheConstants.{SCRIPT_BYTES}
+use Rattle.std.specs.Option.{option_map}
+use Rattle.hmr_types.specs.declared.limits.TheConstants.{SCRIPT_BYTES, TEXT_BYTES}
 use Rattle.output_lines.specs.declared.out_line.OutLine.{OutLine}
+use Rattle.core_model.specs.Names.{Name}
 use Rattle.core_model.specs.Sources.{Text}
 use Rattle.world_model.specs.Playing.{Played}
 use Rattle.play_script.specs.declared.fault.ScriptFault.{ScriptFault}
 use Rattle.play_script.specs.Script.{Contents, kind_word, script_of}
 use Rattle.play_text.specs.Lines.{line_text}
+use Rattle.command_words.specs.declared.command.Command.{Command}
+use Rattle.command_words.specs.declared.command.Command.TheVariants as commands
+use Rattle.command_words.specs.Words.{command_of, usage_line}
+use Rattle.text_check.specs.Checking.{limit_line, report}
+use Rattle.page_maker.specs.Making.{generated}
+use Rattle.page_maker.specs.Summary.{summary}
+use Rattle.dev_program.specs.Instances.{instances_made}
 use Rattle.dev_program.specs.Playing.{script_played}
-
--- the line for words that are no command
-abbrev pub usage_line : List ℕ
-usage_line = codes "usage: hmr play | check NAME | make N SEED | serve FOLDER ROOT.. | join PORT [ROOT..]\n"
 
 -- the line for an input that is no script
 abbrev pub fault_line : ScriptFault → List ℕ
 fault_line fault =
     codes "script fault at line " ++ decimal fault.line ++ codes ": " ++ kind_word fault.kind ++ codes "\n"
 
--- the line for an input of too many bytes
+-- the line for a script of too many bytes
 abbrev pub input_limit : List ℕ
 input_limit = codes "limit input 16777216\n"
 
@@ -27,8 +32,8 @@ input_limit = codes "limit input 16777216\n"
 abbrev pub instances_limit : List ℕ
 instances_limit = codes "limit instances 20000\n"
 
--- what there is to write: the status that it comes with, the text of the lines of the steps, and the line
--- behind them, of the fault or the limit, where there is one
+-- what there is to write: the status that it comes with, the text of the lines that the command makes, and
+-- the line behind them, of the fault or the limit, where there is one
 pub record Output : Type 0 where
   pub status : ℕ
   pub lines : List ℕ
@@ -56,9 +61,64 @@ abbrev pub output_within : List (List (Text × ℕ)) → List ℕ → Bool → O
 output_within shelves bytes true = output_of_script shelves (script_of bytes)
 output_within shelves bytes false = record { status = 8; lines = []; last = input_limit }
 
--- the output of an input, where each client's embedding program has these closures
-abbrev pub output_of : List (List (Text × ℕ)) → List ℕ → Output
-output_of shelves bytes = output_within shelves bytes (nat_le (length bytes) SCRIPT_BYTES)
+-- the output of `play`: the lines of the script that the input is
+abbrev pub output_of_play : List (List (Text × ℕ)) → List ℕ → Output
+output_of_play shelves bytes = output_within shelves bytes (nat_le (length bytes) SCRIPT_BYTES)
+
+-- the output of a check of a text of at most so many bytes, or of more
+abbrev pub check_within : Name → List ℕ → Bool → Output
+check_within name text true = record { status = 0; lines = report name text; last = [] }
+check_within name text false = record { status = 8; lines = []; last = limit_line }
+
+-- the output of `check`: the report of the module text that the input is
+abbrev pub output_of_check : Name → List ℕ → Output
+output_of_check name text = check_within name text (nat_le (length text) TEXT_BYTES)
+
+-- the output of a generated run that came to its end, or didn't: its summary, or the limit alone
+abbrev pub summed_up : Bool → List ℕ → Output
+summed_up false text = record { status = 0; lines = text; last = [] }
+summed_up true text = record { status = 8; lines = []; last = instances_limit }
+
+abbrev pub summary_of_run : ℕ → Played → Output
+summary_of_run count p = summed_up p.over (summary count (instances_made p.world 1) p.lines)
+
+-- the output of `make`: the summary of the run of the script that is generated
+abbrev pub output_of_make : List (List (Text × ℕ)) → ℕ → ℕ → Output
+output_of_make shelves count seed = summary_of_run count (script_played shelves (generated count seed))
+
+-- the output of a command for the bytes that it reads, where each client's embedding program has these
+-- closures
+abbrev pub output_of_command : List (List (Text × ℕ)) → Command → List ℕ → Output
+output_of_command shelves commands.Play bytes = output_of_play shelves bytes
+output_of_command shelves (commands.Check name) bytes = output_of_check name bytes
+output_of_command shelves (commands.Make count seed) bytes = output_of_make shelves count seed
+
+-- the bytes that a command reads, where the input tells them; `make` reads none
+abbrev pub bytes_read : Command → Option (List ℕ) → Option (List ℕ)
+bytes_read commands.Play left = left
+bytes_read (commands.Check name) left = left
+bytes_read (commands.Make count seed) left = Some []
+
+-- the output where the words are no command
+abbrev pub usage : Output
+usage = record { status = 2; lines = []; last = usage_line }
+
+-- the output of a command, or of none, where the input tells the bytes that it reads
+abbrev pub output_meant : List (List (Text × ℕ)) → Option Command → Option (List ℕ) → Option Output
+output_meant shelves None left = Some usage
+output_meant shelves (Some command) left =
+    option_map (output_of_command shelves command) (bytes_read command left)
+
+-- the output of these words, where the input tells the bytes that they read
+abbrev pub output_of : List (List (Text × ℕ)) → List (List ℕ) → Option (List ℕ) → Option Output
+output_of shelves words left = output_meant shelves (command_of words) left
+
+-- the words are a command that reads its input
+abbrev pub reads_input : Option Command → Bool
+reads_input None = false
+reads_input (Some commands.Play) = true
+reads_input (Some (commands.Check name)) = true
+reads_input (Some (commands.Make count seed)) = false
 
 -- all of its bytes
 abbrev pub whole : Output → List ℕ

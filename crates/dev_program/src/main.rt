@@ -1,12 +1,16 @@
 //! The program: words and an input to a status, over whatever outside it is given.
 //!
-//! `hmr play` reads a script, plays it, and writes the lines of each step as the step is made. Stands on
-//! every other crate. Keeps: what is written is a front of the definition's text of the bytes read,
-//! and the whole of it at status 0. It alone makes the real input and output, and the closures that stand
-//! for an embedding program.
+//! `hmr play` reads a script, plays it, and writes the lines of each step as the step is made; `hmr check
+//! NAME` reads a module text and writes what there is to tell of it; `hmr make N SEED` plays a script that is
+//! generated and writes a summary of its run. Stands on every other crate. Keeps: what is written is a front
+//! of the definition's text of the words and of the bytes read, and the whole of it at status 0. It alone
+//! makes the real input and output, and the closures that stand for an embedding program.
 #![tactic(auto)]
 
+mod check;
 mod command;
+mod line_sink;
+mod make;
 mod play;
 mod script;
 mod shelves;

@@ -1,7 +1,9 @@
-// Plays the commands of a script on a world, and writes the lines of each step as it is made.
+// Plays the commands of a script on a world. The lines of each step are shown as it is made.
+ghost use Rattle.std.specs.List.{All};
 ghost use Rattle.std.specs.Prelude.{◌≡◌, IfErr, IfOk, OnOk, false};
 ghost use Rattle.hmr_world.specs.Standing.{IsRunning, KeepsWords};
 ghost use Rattle.hmr_world.specs.Steps.{HasFormat, step_of};
+ghost use Rattle.play_script.specs.Asked as asked;
 ghost use Rattle.world_model.specs.Playing.{Stage, play_step, play_turns};
 ghost use Rattle.world_model.specs.Playing as model;
 ghost use Rattle.world_model.specs.World as worlds;
@@ -11,22 +13,21 @@ ghost use Rattle.dev_program.specs.Standing.{IsAt};
 ghost use Rattle.dev_program.specs.Writing.{HasCause, IsPlayStop, Plays};
 
 use crate::command::{Command, command_of};
-use crate::showing::show_lines;
+use crate::line_sink::LineSink;
 use crate::stop::Stop;
 use const_eval::Ran;
-use hmr_base::Sink;
 use hmr_types::{ClientId, ModName, Ver};
 use hmr_world::{Step, World};
-use play_script::Commands;
+use play_script::{Commands, ScriptLine};
 use retained_data::Bag;
 use std::alloc::{AllocError, Global};
 
-/// Plays the commands of a script, which are asked for one by one, and writes the lines that are shown of
-/// each step as the step is made.
+/// Plays the commands of a script, which are asked for one by one, and shows the lines of each step as the
+/// step is made.
 ///
 /// `InstancesFull` comes only where a client would make too many instances, `Unwritten` only where the
 /// sink's count of faults rose in this call, and `NoMemory` where memory ran out. No other stop comes.
-pub fn play_lines<F: FnOnce(Bag) -> Result<Ran, AllocError> + Drop, K: Sink>(
+pub fn play_lines<F: FnOnce(Bag) -> Result<Ran, AllocError> + Drop, K: LineSink>(
     alloc: Global,
     world: &mut World<F>,
     commands: Commands<'_>,
@@ -36,7 +37,7 @@ pub fn play_lines<F: FnOnce(Bag) -> Result<Ran, AllocError> + Drop, K: Sink>(
     requires words { KeepsWords F.post world.old }
     requires running { IsRunning world.old }
     ensures plays { (stage : Stage) (w : worlds.World) → IsAt stage w world.old
-        → Plays stage (K.written out.old) (K.written out.new)
+        → Plays stage (K.taken out.old) (K.taken out.new)
         (perform stage commands.entry false w) world.new result }
     ensures stops { IfErr result IsPlayStop }
     ensures faults { HasCause (K.faults out.old) (K.faults out.new) result }
@@ -62,7 +63,43 @@ pub fn play_lines<F: FnOnce(Bag) -> Result<Ran, AllocError> + Drop, K: Sink>(
     }
 }
 
-fn play_command<F: FnOnce(Bag) -> Result<Ran, AllocError> + Drop, K: Sink>(
+/// Plays the commands of a script that are there as values.
+///
+/// The stops are those of [`play_lines`].
+pub fn play_all<F: FnOnce(Bag) -> Result<Ran, AllocError> + Drop, K: LineSink>(
+    alloc: Global,
+    world: &mut World<F>,
+    lines: Vec<ScriptLine>,
+    out: &mut K,
+) -> Result<(), Stop>
+    requires formats { All asked.HasFormat lines.items }
+    requires callable { (f : F) → F.IsAlwaysCallable f }
+    requires words { KeepsWords F.post world.old }
+    requires running { IsRunning world.old }
+    ensures plays { (stage : Stage) (w : worlds.World) → IsAt stage w world.old
+        → Plays stage (K.taken out.old) (K.taken out.new)
+        (perform stage lines.items false w) world.new result }
+    ensures words { KeepsWords F.post world.new }
+    ensures running { OnOk result (IsRunning world.new) }
+    ensures stops { IfErr result IsPlayStop }
+    ensures faults { HasCause (K.faults out.old) (K.faults out.new) result }
+{
+    let mut quiet = false;
+    'lines: for line in lines {
+        match command_of(line) {
+            Some(command) => {
+                let played = play_command(alloc, world, quiet, command, out);
+                if played.is_err() {
+                    return played;
+                }
+            }
+            None => quiet = true,
+        }
+    }
+    Ok(())
+}
+
+fn play_command<F: FnOnce(Bag) -> Result<Ran, AllocError> + Drop, K: LineSink>(
     alloc: Global,
     world: &mut World<F>,
     quiet: bool,
@@ -74,7 +111,7 @@ fn play_command<F: FnOnce(Bag) -> Result<Ran, AllocError> + Drop, K: Sink>(
     requires words { KeepsWords F.post world.old }
     requires running { IsRunning world.old }
     ensures plays { (stage : Stage) (w : worlds.World) → IsAt stage w world.old
-        → Plays stage (K.written out.old) (K.written out.new)
+        → Plays stage (K.taken out.old) (K.taken out.new)
         (quieted quiet (commanded stage (command_seen command) w)) world.new result }
     ensures words { KeepsWords F.post world.new }
     ensures running { OnOk result (IsRunning world.new) }
@@ -88,7 +125,7 @@ fn play_command<F: FnOnce(Bag) -> Result<Ran, AllocError> + Drop, K: Sink>(
     }
 }
 
-fn settle_all<F: FnOnce(Bag) -> Result<Ran, AllocError> + Drop, K: Sink>(
+fn settle_all<F: FnOnce(Bag) -> Result<Ran, AllocError> + Drop, K: LineSink>(
     alloc: Global,
     world: &mut World<F>,
     quiet: bool,
@@ -98,7 +135,7 @@ fn settle_all<F: FnOnce(Bag) -> Result<Ran, AllocError> + Drop, K: Sink>(
     requires words { KeepsWords F.post world.old }
     requires running { IsRunning world.old }
     ensures plays { (stage : Stage) (w : worlds.World) → IsAt stage w world.old
-        → Plays stage (K.written out.old) (K.written out.new)
+        → Plays stage (K.taken out.old) (K.taken out.new)
         (quieted quiet (commanded stage model.settle_all w)) world.new result }
     ensures words { KeepsWords F.post world.new }
     ensures running { OnOk result (IsRunning world.new) }
@@ -111,7 +148,7 @@ fn settle_all<F: FnOnce(Bag) -> Result<Ran, AllocError> + Drop, K: Sink>(
     settle_jobs(alloc, world, quiet, &jobs, out)
 }
 
-fn settle_jobs<F: FnOnce(Bag) -> Result<Ran, AllocError> + Drop, K: Sink>(
+fn settle_jobs<F: FnOnce(Bag) -> Result<Ran, AllocError> + Drop, K: LineSink>(
     alloc: Global,
     world: &mut World<F>,
     quiet: bool,
@@ -122,7 +159,7 @@ fn settle_jobs<F: FnOnce(Bag) -> Result<Ran, AllocError> + Drop, K: Sink>(
     requires words { KeepsWords F.post world.old }
     requires running { IsRunning world.old }
     ensures plays { (stage : Stage) (w : worlds.World) → IsAt stage w world.old
-        → Plays stage (K.written out.old) (K.written out.new)
+        → Plays stage (K.taken out.old) (K.taken out.new)
         (quieted quiet (settled_by stage jobs.now w)) world.new result }
     ensures words { KeepsWords F.post world.new }
     ensures running { OnOk result (IsRunning world.new) }
@@ -142,7 +179,7 @@ fn settle_jobs<F: FnOnce(Bag) -> Result<Ran, AllocError> + Drop, K: Sink>(
 }
 
 /// Turns of a client. One that isn't open makes one, which says so.
-fn turn_client<F: FnOnce(Bag) -> Result<Ran, AllocError> + Drop, K: Sink>(
+fn turn_client<F: FnOnce(Bag) -> Result<Ran, AllocError> + Drop, K: LineSink>(
     alloc: Global,
     world: &mut World<F>,
     quiet: bool,
@@ -154,7 +191,7 @@ fn turn_client<F: FnOnce(Bag) -> Result<Ran, AllocError> + Drop, K: Sink>(
     requires words { KeepsWords F.post world.old }
     requires running { IsRunning world.old }
     ensures plays { (stage : Stage) (w : worlds.World) → IsAt stage w world.old
-        → Plays stage (K.written out.old) (K.written out.new)
+        → Plays stage (K.taken out.old) (K.taken out.new)
         (quieted quiet (commanded stage (model.turns client most) w)) world.new result }
     ensures words { KeepsWords F.post world.new }
     ensures running { OnOk result (IsRunning world.new) }
@@ -168,7 +205,7 @@ fn turn_client<F: FnOnce(Bag) -> Result<Ran, AllocError> + Drop, K: Sink>(
     }
 }
 
-fn take_turns<F: FnOnce(Bag) -> Result<Ran, AllocError> + Drop, K: Sink>(
+fn take_turns<F: FnOnce(Bag) -> Result<Ran, AllocError> + Drop, K: LineSink>(
     alloc: Global,
     world: &mut World<F>,
     quiet: bool,
@@ -180,7 +217,7 @@ fn take_turns<F: FnOnce(Bag) -> Result<Ran, AllocError> + Drop, K: Sink>(
     requires words { KeepsWords F.post world.old }
     requires running { IsRunning world.old }
     ensures plays { (stage : Stage) (w : worlds.World) → IsAt stage w world.old
-        → Plays stage (K.written out.old) (K.written out.new)
+        → Plays stage (K.taken out.old) (K.taken out.new)
         (quieted quiet (play_turns stage client most (nothing w))) world.new result }
     ensures words { KeepsWords F.post world.new }
     ensures running { OnOk result (IsRunning world.new) }
@@ -199,7 +236,7 @@ fn take_turns<F: FnOnce(Bag) -> Result<Ran, AllocError> + Drop, K: Sink>(
     Ok(())
 }
 
-fn play_step<F: FnOnce(Bag) -> Result<Ran, AllocError> + Drop, K: Sink>(
+fn play_step<F: FnOnce(Bag) -> Result<Ran, AllocError> + Drop, K: LineSink>(
     alloc: Global,
     world: &mut World<F>,
     quiet: bool,
@@ -211,7 +248,7 @@ fn play_step<F: FnOnce(Bag) -> Result<Ran, AllocError> + Drop, K: Sink>(
     requires words { KeepsWords F.post world.old }
     requires running { IsRunning world.old }
     ensures plays { (stage : Stage) (w : worlds.World) → IsAt stage w world.old
-        → Plays stage (K.written out.old) (K.written out.new)
+        → Plays stage (K.taken out.old) (K.taken out.new)
         (quieted quiet (play_step stage (nothing w) (step_of step))) world.new result }
     ensures words { KeepsWords F.post world.new }
     ensures running { OnOk result (IsRunning world.new) }
@@ -219,7 +256,7 @@ fn play_step<F: FnOnce(Bag) -> Result<Ran, AllocError> + Drop, K: Sink>(
     ensures faults { HasCause (K.faults out.old) (K.faults out.new) result }
 {
     match world.step(step) {
-        Ok(lines) => show_lines(alloc, quiet, &lines, out),
+        Ok(lines) => out.show(alloc, quiet, lines),
         Err(ended) => Err(Stop::from(ended)),
     }
 }

@@ -54,7 +54,7 @@ fn put_shown(text: &mut Vec<u8>, quiet: bool, line: &OutLine) -> Result<(), Allo
 }
 
 /// Whether the line is that of an edit, a result or an opening that went well.
-fn went_well(line: &OutLine) -> bool
+pub fn went_well(line: &OutLine) -> bool
     ensures { result ≡ went_well line.now }
 {
     match line {

@@ -1,6 +1,7 @@
 // Why the command stopped before its end.
 ghost use Rattle.std.specs.Prelude.{◌≡◌};
 
+use command_words::WordsFault;
 use hmr_base::{ReadFault, WriteFault};
 use hmr_world::WorldStop;
 use std::alloc::AllocError;
@@ -8,8 +9,12 @@ use std::alloc::AllocError;
 /// Why the command stopped before its end.
 #[derive(Drop)]
 pub enum Stop {
+    /// The words are no command.
+    NotACommand,
     /// The input has more bytes than a script may have.
     TooLong,
+    /// The input has more bytes than a module text may have.
+    TextTooLong,
     /// The input is no script. This is the line of its first fault.
     Faulty(Vec<u8>),
     /// The input failed.
@@ -22,6 +27,20 @@ pub enum Stop {
     NoMemory,
 }
 
+impl From<WordsFault> for Stop {
+    ghost use Rattle.dev_program.specs.Ends.{stop_of_words};
+
+    ghost from_gives = { λ fault stop. stop ≡ stop_of_words fault };
+
+    fn from(fault: WordsFault) -> Self {
+        match fault {
+            WordsFault::NotACommand => Stop::NotACommand,
+            WordsFault::NoMemory => Stop::NoMemory,
+        }
+    }
+}
+
+/// The stop for a script that wasn't read.
 impl From<ReadFault> for Stop {
     ghost use Rattle.dev_program.specs.Ends.{stop_of_read};
 

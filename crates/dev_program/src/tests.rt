@@ -33,17 +33,27 @@ const HOSTED: (&str, &str) = (
     "1 loaded\n1 update /m.js\n1 accept /m.js /m.js\n1 log /m.js second\n1 updated\n1 update /m.js\n1 accept /m.js /m.js\n1 log /m.js host H 3\n1 log /m.js 3\n1 updated\n",
 );
 
+/// A module text as it was typed, and what there is to tell of it.
+const CHECKED: (&str, &str) = (
+    "import {b as c,a} from './x.js'\nexport let n = 1+(2*c)\nimport.meta.hot.accept('./x.js', m => { n = m?.b })\n",
+    "import { b as c, a } from \"./x.js\";\nexport let n = 1 + 2 * c;\nimport.meta.hot.accept(\"./x.js\", (m) => {\n  n = m?.b;\n});\nimports /x.js\nexports n\naccepts /x.js\n",
+);
+
+/// What sums up the run of the page of one module that the seed 1 gives: four of its eight edits come to a
+/// module that accepts itself.
+const MADE: &str = "modules 1 updates 4 reloads 4 instances 9 equal yes\n";
+
 const USAGE: &str =
     "usage: hmr play | check NAME | make N SEED | serve FOLDER ROOT.. | join PORT [ROOT..]\n";
 
 const NEVER: u64 = 1_000_000;
 
-/// Runs the words, parted by spaces, over a script that comes in pieces of 40 bytes, of which the
+/// Runs the words, parted by spaces, over an input that comes in pieces of 40 bytes, of which the
 /// `read`-th fails, and a sink of which the `write`-th write fails.
 fn outcome(
     alloc: Global,
     words: &str,
-    script: &[u8],
+    text: &[u8],
     read: u64,
     write: u64,
 ) -> Result<(u8, Vec<u8>), AllocError> {
@@ -55,7 +65,7 @@ fn outcome(
     reads.push(read)?;
     let mut writes = Vec::new(alloc);
     writes.push(write)?;
-    let mut input = MemSource::new(Vec::from_slice(alloc, script)?, 40, reads);
+    let mut input = MemSource::new(Vec::from_slice(alloc, text)?, 40, reads);
     let mut out = MemSink::new(alloc, 4096, 7, writes)?;
     let make = |number: u32| {
         move |bag: Bag| -> Result<Ran, AllocError> { host_run(alloc, "H", number, bag) }
@@ -66,7 +76,7 @@ fn outcome(
 }
 
 #[test]
-fn scripts_write_what_the_rules_say(rt: HostRuntime) -> Result<(), Fail> {
+fn commands_write_what_the_rules_say(rt: HostRuntime) -> Result<(), Fail> {
     let alloc = rt.alloc();
     let rows = [
         ("play", "", 0, ""),
@@ -102,13 +112,25 @@ fn scripts_write_what_the_rules_say(rt: HostRuntime) -> Result<(), Fail> {
             3,
             "script fault at line 1: bad-name\n",
         ),
+        ("check /m.js", CHECKED.0, 0, CHECKED.1),
+        (
+            "check /m.js",
+            "export const n = 9007199254740992;\n",
+            0,
+            "fault 1:18 number-too-large\n",
+        ),
+        ("make 1 1", LOADED.0, 0, MADE),
         ("", LOADED.0, 2, USAGE),
+        ("check", CHECKED.0, 2, USAGE),
+        ("check m.js", CHECKED.0, 2, USAGE),
+        ("make 0 1", "", 2, USAGE),
+        ("make 1 x", "", 2, USAGE),
         ("play play", LOADED.0, 2, USAGE),
         ("serve", LOADED.0, 2, USAGE),
     ];
-    for (words, script, status, text) in rows {
-        let (is, written) = outcome(alloc, words, script.as_bytes(), NEVER, NEVER)?;
-        assert_eq!(rt; is, status, "{words}: {script}");
+    for (words, input, status, text) in rows {
+        let (is, written) = outcome(alloc, words, input.as_bytes(), NEVER, NEVER)?;
+        assert_eq!(rt; is, status, "{words}: {input}");
         assert_eq!(rt; written.as_slice(), text.as_bytes());
     }
     Ok(())
@@ -127,6 +149,12 @@ fn a_fault_in_mid_stream_is_told(rt: HostRuntime) -> Result<(), Fail> {
         assert_eq!(rt; status, 5, "write {write}");
         assert!(rt; LOADED.1.as_bytes().starts_with(&written));
     }
+    for (words, input) in [("check /m.js", CHECKED.0), ("make 1 1", "")] {
+        let (status, _) = outcome(alloc, words, input.as_bytes(), NEVER, 0)?;
+        assert_eq!(rt; status, 5, "{words}");
+    }
+    assert_eq!(rt; outcome(alloc, "check /m.js", b"", 0, NEVER)?.0, 4);
+    assert_eq!(rt; outcome(alloc, "make 1 1", b"", 0, NEVER)?.0, 0);
     let (status, written) = outcome(alloc, "play", b"root m.js\n", NEVER, 1)?;
     assert_eq!(rt; status, 3);
     assert_eq!(rt; written.as_slice(), b"script ".as_slice());
@@ -140,6 +168,9 @@ fn an_input_over_the_limit_is_told(rt: HostRuntime) -> Result<(), Fail> {
     let (status, written) = outcome(alloc, "play", &script, NEVER, NEVER)?;
     assert_eq!(rt; status, 8);
     assert_eq!(rt; written.as_slice(), b"limit input 16777216\n".as_slice());
+    let (status, written) = outcome(alloc, "check /m.js", &script[..131_073], NEVER, NEVER)?;
+    assert_eq!(rt; status, 8);
+    assert_eq!(rt; written.as_slice(), b"limit text 131072\n".as_slice());
     script.truncate(16_777_216);
     let (status, written) = outcome(alloc, "play", &script, NEVER, NEVER)?;
     assert_eq!(rt; status, 3);

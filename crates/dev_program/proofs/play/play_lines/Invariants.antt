@@ -10,11 +10,11 @@ use Rattle.dev_program.proofs.play.play_lines.Given as goal
 -- the commands that are left are still to be played
 abbrev pub invariant-lines : goal.invariant-lines
 invariant-lines g l =
-    let written = g.K.Sink.written in
-    let faults = g.K.Sink.faults in
+    let taken = g.K.LineSink.taken in
+    let faults = g.K.LineSink.faults in
     record {
       so_far : (stage : Stage) (w : worlds.World) → IsAt stage w l.fn.world →
-          IsUpTo stage (written l.fn.out) (written l.out) (perform stage l.commands l.quiet)
+          IsUpTo stage (taken l.fn.out) (taken l.out) (perform stage l.commands l.quiet)
           (perform stage l.fn.commands false w) l.world;
       words : KeepsWords (goal.F-post g) l.world;
       running : IsRunning l.world;

@@ -8,8 +8,8 @@ use Rattle.dev_program.proofs.play.settle_all.Goals as goal
 pub returns-clause-plays : goal.returns-clause-plays
 returns-clause-plays g c = λ stage w h.
     let all = c.deref.ensures.value ∙ jobs_at stage w c.args.world.now h c.in-Ok.jobs.items c.in-Ok.ensures in
-    let written = g.K.Sink.written in
+    let taken = g.K.LineSink.taken in
     let part = quieted c.args.quiet in
     let call = c.settle_jobs in
-    subst (λ p. Plays stage (written c.args.out.now) (written call.new.out) (part p) call.new.world call.result)
+    subst (λ p. Plays stage (taken c.args.out.now) (taken call.new.out) (part p) call.new.world call.result)
     (settles_all stage w c.deref.result.now all) (call.ensures.plays stage w h)

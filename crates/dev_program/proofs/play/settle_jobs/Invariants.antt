@@ -10,11 +10,11 @@ use Rattle.dev_program.proofs.play.settle_jobs.Given as goal
 -- the results of the jobs that are left are still to come
 abbrev pub invariant-loop-name : goal.invariant-loop-name
 invariant-loop-name g l =
-    let written = g.K.Sink.written in
-    let faults = g.K.Sink.faults in
+    let taken = g.K.LineSink.taken in
+    let faults = g.K.LineSink.faults in
     record {
       so_far : (stage : Stage) (w : worlds.World) → IsAt stage w l.fn.world →
-          IsUpTo stage (written l.fn.out) (written l.out)
+          IsUpTo stage (taken l.fn.out) (taken l.out)
           (λ v. quieted l.quiet (settled_by stage (drop l.name-index l.jobs) v))
           (quieted l.quiet (settled_by stage l.jobs w)) l.world;
       words : KeepsWords (goal.F-post g) l.world;

@@ -10,11 +10,11 @@ use Rattle.dev_program.proofs.play.take_turns.Given as goal
 -- the turns that are left are still to come
 abbrev pub invariant-turns : goal.invariant-turns
 invariant-turns g l =
-    let written = g.K.Sink.written in
-    let faults = g.K.Sink.faults in
+    let taken = g.K.LineSink.taken in
+    let faults = g.K.LineSink.faults in
     record {
       so_far : (stage : Stage) (w : worlds.World) → IsAt stage w l.fn.world →
-          IsUpTo stage (written l.fn.out) (written l.out)
+          IsUpTo stage (taken l.fn.out) (taken l.out)
           (λ v. quieted l.quiet (play_turns stage l.client (l.most - l.counter) (nothing v)))
           (quieted l.quiet (play_turns stage l.client l.most (nothing w))) l.world;
       words : KeepsWords (goal.F-post g) l.world;

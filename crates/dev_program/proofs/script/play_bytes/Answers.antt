@@ -3,7 +3,7 @@ use Rattle.handler_table.specs.Shelf.{marks_of}
 use Rattle.play_script.specs.Script.{script_of}
 use Rattle.dev_program.proofs.Answering.{script_front}
 use Rattle.dev_program.proofs.Roots.{few_of}
-use Rattle.dev_program.proofs.top.play_bytes.Goals as goal
+use Rattle.dev_program.proofs.script.play_bytes.Goals as goal
 
 pub play_script-requires-clause-roots : goal.play_script-requires-clause-roots
 play_script-requires-clause-roots g c = few_of c.args.bytes.now c.in-Ok.script c.in-Ok.ensures

@@ -1,6 +1,6 @@
 use Rattle.std.proofs.Common.{◌≡◌, List, ℕ, ◌++◌, append_assoc, ap, sym, ◌∙◌}
 use Rattle.std.specs.Prelude.{codes, decimal}
-use Rattle.dev_program.proofs.top.fault_line.Goals as goal
+use Rattle.dev_program.proofs.script.fault_line.Goals as goal
 
 -- a number, a word and an end, put together from the left
 together : (number between word end : List ℕ)

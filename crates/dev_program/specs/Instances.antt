@@ -1,0 +1,20 @@
+-- How many instances a client made.
+use Rattle.std.specs.Prelude.{ℕ, Bool, true, false, length, Option, Some, None}
+use Rattle.output_lines.specs.declared.out_line.OutLine.{OutLine}
+use Rattle.output_lines.specs.declared.out_line.OutLine.TheVariants as line
+use Rattle.core_model.specs.Core.{client_at}
+use Rattle.client_model.specs.Runtime.{Runtime}
+use Rattle.world_model.specs.World.{World}
+
+-- the instances that a client made so far; none where it isn't open
+abbrev pub made_by : Option Runtime → ℕ
+made_by None = 0
+made_by (Some r) = length r.instances
+
+abbrev pub instances_made : World → ℕ → ℕ
+instances_made w i = made_by (client_at w.clients i)
+
+-- the line is that of an instance
+unfoldable pub is_instance : OutLine → Bool
+is_instance (line.Instance number name version status fate) = true
+is_instance l = false
