@@ -1,0 +1,4 @@
+pub mod Looking
+pub mod Watching
+pub mod Scanning
+pub mod Editing
