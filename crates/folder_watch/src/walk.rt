@@ -113,6 +113,7 @@ fn list_folder<T: Tree>(
 }
 
 // Reads a file that is a module, or adds a folder that is looked into.
+#[tactic(auto, using(crate::proofs::Watching::open_below))]
 fn take_entry<T: Tree>(
     alloc: Global,
     tree: &mut T,
@@ -146,12 +147,8 @@ fn take_entry<T: Tree>(
     let path = path_below(alloc, folder, name)?;
     match node {
         Node::File(file) => take_file(alloc, tree, &path, file, found),
-        Node::Dir(dir) => {
-            if is_name(&path) && !is_passed(name) {
-                add_folder(next, path, dir)?;
-            }
-            Ok(())
-        }
+        Node::Dir(_) if is_passed(name) || !is_name(&path) => Ok(()),
+        Node::Dir(dir) => Ok(add_folder(next, path, dir)?),
     }
 }
 
