@@ -1,12 +1,12 @@
 -- How a listing grows as a folder is gone through.
 use Rattle.std.proofs.Common.{ℕ, ◌+◌, ◌<◌, ◌≤◌, List, [], ◌∷◌, ◌++◌, length, map, Bool, true, false, cond, ◌≡◌, refl, sym, ap, ◌∙◌, subst, arith, inl, inr, Option, Some, None}
-use Rattle.std.specs.Prelude.{◌||◌, ◌⊎◌, is_some, IfSome}
+use Rattle.std.specs.Prelude.{◌||◌, ◌&&◌, not, ◌⊎◌, is_some, IfSome}
 use Rattle.std.specs.List.{list_any}
 use Rattle.std.specs.Cmp.Lexicographic.{same_text}
 use Rattle.std.proofs.lemmas.List.Folds.{list_any-append}
 use Rattle.hmr_types.specs.ModName.{is_name, is_text, parts}
 use Rattle.folders.specs.Files.{HasRead, has_file, rest_after, text_at}
-use Rattle.folder_watch.specs.Scans.{AreOf, Covers, Takes, is_pending}
+use Rattle.folder_watch.specs.Scans.{AreOf, Covers, IsRoot, IsScanOf, Reaches, Takes, is_pending}
 use Rattle.folder_watch.specs.Watched.{are_looked_into, ends_in_js, is_watched, watched_text}
 use Rattle.folder_watch.proofs.Watching.{watched_parts, watched_from}
 
@@ -81,6 +81,71 @@ module _ (files : Files) where
     pending = λ path p. list_any-append (λ folder. is_some (rest_after folder path)) was (at ∷ []) ∙ or_first _ _ p;
     covers = λ path w f t. or_second _ _ (list_any-append (λ folder. is_some (rest_after folder path)) was (at ∷ []) ∙ or_second _ _ (or_first _ _ (h path t)));
   }
+
+  -- at first all is left
+  pub covers_first : (these left : List ℕ → Bool) (old : Files) (was : List (List ℕ))
+      → ((path : List ℕ) → has_file files path ≡ true → these path ≡ true → left path ≡ true) → Covers files (λ path. these path && not (left path)) old was old was
+  covers_first these left old was h = record {
+    are = λ a. a;
+    found = λ path f. f;
+    pending = λ path p. p;
+    covers = λ path w f t. by (these path) (left path) t (h path f);
+  }
+    where
+      by : {X : Type 0} (s t : Bool) → (s && not t) ≡ true → (s ≡ true → t ≡ true) → X
+      by true true a k = absurd (let e : false ≡ true = a in cc)
+      by true false a k = absurd (let e : false ≡ true = k refl in cc)
+      by false t a k = absurd (let e : false ≡ true = a in cc)
+
+  -- one of what was left
+  pub covers_next : (these left one rest : List ℕ → Bool) (old : Files) (was : List (List ℕ)) (mid : Files) (then : List (List ℕ)) (new : Files) (now : List (List ℕ))
+      → ((path : List ℕ) → left path ≡ (one path || rest path)) → Covers files (λ path. these path && not (left path)) old was mid then
+      → Covers files one mid then new now → Covers files (λ path. these path && not (rest path)) old was new now
+  covers_next these left one rest old was mid then new now e a b =
+      covers_fewer (λ path. (these path && not (left path)) || one path) (λ path. these path && not (rest path)) old was new now
+      (λ path f t. by (these path) (left path) (one path) (rest path) (e path) t)
+      (covers_then (λ path. these path && not (left path)) one old was mid then new now a b)
+    where
+      by : (s l o r : Bool) → l ≡ (o || r) → (s && not r) ≡ true → ((s && not l) || o) ≡ true
+      by true l true true e t = absurd (let x : false ≡ true = t in cc)
+      by true l true false e t = or_second _ _ refl
+      by true l false true e t = absurd (let x : false ≡ true = t in cc)
+      by true l false false e t = ap (λ x. not x || false) e
+      by false l o r e t = absurd (let x : false ≡ true = t in cc)
+
+  -- at last nothing is
+  pub covers_last : (these left : List ℕ → Bool) (old : Files) (was : List (List ℕ)) (new : Files) (now : List (List ℕ)) → ((path : List ℕ) → left path ≡ false)
+      → Covers files (λ path. these path && not (left path)) old was new now → Covers files these old was new now
+  covers_last these left old was new now e a = covers_fewer (λ path. these path && not (left path)) these old was new now (λ path f t. ap (λ x. these path && not x) (e path) ∙ ap (λ x. x && true) t) a
+
+  -- a level more
+  pub reaches_then : (these : List ℕ → Bool) (found : Files) (was : List (List ℕ)) (new : Files) (now : List (List ℕ))
+      → Reaches files these found was → Covers files (is_pending was) found [] new now → Reaches files these new now
+  reaches_then these found was new now r c = record {
+    are = c.are r.are;
+    covers = λ path w f t. by path w f (or_cases (has_file found path) (is_pending was path) (r.covers path w f t));
+  }
+    where
+      by : (path : List ℕ) → is_watched path ≡ true → has_file files path ≡ true → (has_file found path ≡ true) ⊎ (is_pending was path ≡ true) → (has_file new path || is_pending now path) ≡ true
+      by path w f (inl h) = or_first _ _ (c.found path h)
+      by path w f (inr h) = c.covers path w f h
+
+  -- at first nothing is found
+  pub reaches_none : (these : List ℕ → Bool) (pending : List (List ℕ)) → ((path : List ℕ) → these path ≡ true → is_pending pending path ≡ true) → Reaches files these [] pending
+  reaches_none these pending h = record { are = λ path text e. absurd (cc); covers = λ path w f t. h path t }
+
+  -- no level is left
+  pub reaches_all : (these : List ℕ → Bool) (found : Files) → Reaches files these found [] → ((path : List ℕ) → is_watched path ≡ true → these path ≡ true) → IsScanOf files found
+  reaches_all these found r h path = by (text_at found path) refl
+    where
+      untold : (w : Bool) (o : Option (List ℕ)) → is_watched path ≡ w → text_at files path ≡ o → has_file found path ≡ false → None ≡ cond w o None
+      untold true None a b e = refl
+      untold true (Some text) a b e = absurd (let x : true ≡ false = sym (r.covers path a (ap is_some b) (h path a)) ∙ ap (λ t. t || false) e in cc)
+      untold false o a b e = refl
+
+      by : (o : Option (List ℕ)) → text_at found path ≡ o → text_at found path ≡ watched_text files path
+      by None e = e ∙ untold (is_watched path) (text_at files path) refl refl (ap is_some e)
+      by (Some text) e = e ∙ sym (r.are path text e)
 
   taken_turn : (path other text : List ℕ) (old new : Files) (t : Bool) → is_text path other ≡ t → text_at new other ≡ cond t (Some text) (text_at old other)
       → has_file old other ≡ true → has_file new other ≡ true

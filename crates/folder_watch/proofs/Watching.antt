@@ -9,7 +9,7 @@ use Rattle.std.proofs.lemmas.List.Splits.{length-slice_split}
 use Rattle.hmr_types.specs.ModName.{is_name, is_segment, parts, slash}
 use Rattle.folders.specs.Entries.{has_slash}
 use Rattle.folders.specs.Files.{below}
-use Rattle.folder_watch.specs.Watched.{are_looked_into, ends_in_js, is_open, is_passed, is_watched}
+use Rattle.folder_watch.specs.Watched.{are_looked_into, ends_in_js, is_kept, is_open, is_passed, is_watched}
 
 some_parts : (text : List ℕ) → 0 < length (parts text)
 some_parts text = let e = length-slice_split (λ b. b == slash) text in omega (arith, e)
@@ -37,7 +37,7 @@ parts_plain (b ∷ name) h = plain_turn b name (b == slash) h (parts_plain name)
 parts_of : (folder name : List ℕ) → has_slash name ≡ false → parts (below folder name) ≡ parts folder ++ name ∷ []
 parts_of folder name h = parts_below folder name ∙ ap (λ ns. parts folder ++ ns) (parts_plain name h)
 
-not_true : (t : Bool) → not t ≡ true → t ≡ false
+pub not_true : (t : Bool) → not t ≡ true → t ≡ false
 not_true true h = absurd (cc)
 not_true false h = refl
 
@@ -115,6 +115,12 @@ name_short (b ∷ bs) h =
     let t = and_parts ((b == slash) && nat_le (length (b ∷ bs)) 255) (list_all is_segment (parts bs)) h in
     leb-true (length (b ∷ bs)) 255 (and_parts (b == slash) (nat_le (length (b ∷ bs)) 255) t.0).1
 
+-- and begins with a slash
+pub slash_first : (b : ℕ) (bs : List ℕ) → is_name (b ∷ bs) ≡ true → (b == slash) ≡ true
+slash_first b bs h =
+    let t = and_parts ((b == slash) && nat_le (length (b ∷ bs)) 255) (list_all is_segment (parts bs)) h in
+    (and_parts (b == slash) (nat_le (length (b ∷ bs)) 255) t.0).0
+
 some_below : (folder name : List ℕ) → 0 < length (below folder name)
 some_below folder name = let e = length-append folder (slash ∷ name) in omega (arith, e)
 
@@ -131,3 +137,12 @@ through_watched folder name rest w h =
     let none : list_any is_passed (parts (below folder name)) ≡ false = none_before (parts (below folder name)) (parts rest) (some_parts rest) (ap are_looked_into (sym (parts_below (below folder name) rest)) ∙ p.2) in
     let split : (list_any is_passed (parts folder) || (is_passed name || false)) ≡ false = sym (list_any-append is_passed (parts folder) (name ∷ [])) ∙ ap (list_any is_passed) (sym (parts_of folder name h)) ∙ none in
     (name_front (below folder name) rest (some_below folder name) p.0, last_false (list_any is_passed (parts folder)) (is_passed name) split)
+
+-- a folder that is kept is one that is looked into
+pub kept_open : (folder name path : List ℕ) → path ≡ below folder name → is_open folder ≡ true → has_slash name ≡ false
+    → (not (is_passed name) && is_name path) ≡ true → is_open path ≡ true
+kept_open folder name path e o h k =
+    ap is_open e ∙ open_below folder name o h (not_true (is_passed name) (and_parts (not (is_passed name)) (is_name path) k).0)
+
+pub kept_short : (name path : List ℕ) → (not (is_passed name) && is_name path) ≡ true → length path ≤ 255
+kept_short name path k = name_short path (and_parts (not (is_passed name)) (is_name path) k).1

@@ -69,3 +69,12 @@ pub record Takes (files : List (List ℕ × List ℕ)) (path : List ℕ) (old ne
   pub are : AreOf files old → AreOf files new
   pub found : (other : List ℕ) → has_file old other ≡ true → has_file new other ≡ true
   pub taken : is_watched path ≡ true → has_file new path ≡ true
+
+-- each module is in one of these folders, or below it
+abbrev pub IsRoot : List (List ℕ) → Type 0
+IsRoot folders = (path : List ℕ) → is_watched path ≡ true → is_pending folders path ≡ true
+
+-- the modules among the files at some paths are found, or are below folders that are still to be listed
+pub record Reaches (files : List (List ℕ × List ℕ)) (these : List ℕ → Bool) (found : List (List ℕ × List ℕ)) (pending : List (List ℕ)) : Type 0 where
+  pub are : AreOf files found
+  pub covers : (path : List ℕ) → is_watched path ≡ true → has_file files path ≡ true → these path ≡ true → (has_file found path || is_pending pending path) ≡ true

@@ -2,7 +2,7 @@
 use Rattle.std.specs.Prelude.{ℕ, List, [], ◌∷◌, Bool, true, false, not, ◌&&◌, ◌||◌, ◌==◌, nat_eq, cond, codes, Option, None}
 use Rattle.std.specs.List.{ends_with, list_any}
 use Rattle.hmr_types.specs.ModName.{is_name, is_text, parts}
-use Rattle.folders.specs.Files.{text_at}
+use Rattle.folders.specs.Files.{below, text_at}
 
 -- whether a name begins with a dot
 abbrev pub begins_with_dot : List ℕ → Bool
@@ -30,6 +30,10 @@ is_watched path = is_name path && ends_in_js path && are_looked_into (parts path
 -- whether a folder is one that is looked into
 abbrev pub is_open : List ℕ → Bool
 is_open folder = not (list_any is_passed (parts folder))
+
+-- whether a folder in such a folder is one too, and its path is a name
+abbrev pub is_kept : List ℕ → List ℕ → Bool
+is_kept folder name = not (is_passed name) && is_name (below folder name)
 
 -- the text of a module among some files
 abbrev pub watched_text : List (List ℕ × List ℕ) → List ℕ → Option (List ℕ)

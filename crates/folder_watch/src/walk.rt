@@ -1,6 +1,6 @@
 // A folder is gone through level by level: the folders of one level are listed, their files are read, and
 // the folders in them are the next level. A path has at most 255 bytes, so that there are no more levels.
-ghost use Rattle.std.specs.Prelude.{◌≡◌, ◌≤◌, ◌+◌, ◌++◌, ◌∷◌, [], List, ℕ, Option, Some, true, length, map, All, IfOk, IfErr, IfSome, OnOk, is_some, string_bytes};
+ghost use Rattle.std.specs.Prelude.{◌≡◌, ◌≤◌, ◌+◌, ◌++◌, ◌∷◌, [], List, ℕ, Option, Some, true, false, length, map, All, IfOk, IfErr, IfSome, OnOk, is_some, not, ◌&&◌, string_bytes};
 ghost use Rattle.std.specs.List.{list_any};
 ghost use Rattle.std.specs.Option.{option_map};
 ghost use Rattle.hmr_base.specs.Causes.{Rose};
@@ -9,9 +9,9 @@ ghost use Rattle.folders.specs.Entries.{has_slash, is_there, leads_to, path_of};
 ghost use Rattle.folders.specs.Files.{MayOpen, below, files_after, next_files, rest_after};
 ghost use Rattle.folder_watch.specs.declared.scan_stop.ScanStop.{ScanStop};
 ghost use Rattle.folder_watch.specs.Listings.{AreShort, Rises, most_names};
-ghost use Rattle.folder_watch.specs.Pending.{Adds};
-ghost use Rattle.folder_watch.specs.Scans.{AreOf, Covers, IsPlaced, IsScanOf, StopsFor, Takes, is_pending};
-ghost use Rattle.folder_watch.specs.Watched.{are_looked_into, begins_with_dot, ends_in_js, is_open, is_passed};
+ghost use Rattle.folder_watch.specs.Pending.{Adds, AddsIf, AreDeep, ArePlaced, paths_of};
+ghost use Rattle.folder_watch.specs.Scans.{AreOf, Covers, IsPlaced, IsRoot, IsScanOf, StopsFor, Takes, is_pending};
+ghost use Rattle.folder_watch.specs.Watched.{are_looked_into, begins_with_dot, ends_in_js, is_kept, is_open, is_passed};
 
 use crate::folder::Folder;
 use crate::{Listing, ScanStop};
@@ -46,10 +46,32 @@ pub fn scan<T: Tree>(alloc: Global, tree: &mut T, folder: &str) -> Result<Listin
     let dir = tree.open(alloc, folder)?;
     let mut level = Vec::new(alloc);
     add_folder(&mut level, Vec::new(alloc), dir)?;
+    look_below(alloc, tree, level)
+}
+
+// The modules in the folders of a level and below them.
+fn look_below<T: Tree>(
+    alloc: Global,
+    tree: &mut T,
+    mut level: Vec<Folder<T::Dir>>,
+) -> Result<Listing, ScanStop>
+    ensures told { (files : List (List ℕ × List ℕ)) → T.files tree.old ≡ Some files → ArePlaced T.dir_path level.items
+        → IsRoot (paths_of level.items) → IfOk result (IsScanOf files) }
+    ensures rising { IfOk result Rises }
+    ensures short { IfOk result AreShort }
+    ensures few { IfOk result (λ listing. length listing ≤ most_names) }
+    ensures stops { (files : List (List ℕ × List ℕ)) → T.files tree.old ≡ Some files → ArePlaced T.dir_path level.items
+        → IfErr result (StopsFor files) }
+    ensures tree_fault { IfErr result (λ stop. stop ≡ ScanStop.TreeFault → Rose (T.faults tree.old) (T.faults tree.new)) }
+    ensures later { T.faults tree.old ≤ T.faults tree.new }
+    ensures asked { T.asked tree.new ≡ T.asked tree.old }
+    ensures coming { T.coming tree.new ≡ T.coming tree.old }
+{
     let mut found = Listing::new(alloc);
-    for _ in 0..LEVELS {
-        level = look_into(alloc, tree, &level, &mut found)?;
+    for _depth in 0..LEVELS {
+        level = look_into(alloc, tree, level, &mut found)?;
     }
+    prove!(found.len() <= SOURCE_NAMES);
     Ok(found)
 }
 
@@ -57,17 +79,17 @@ pub fn scan<T: Tree>(alloc: Global, tree: &mut T, folder: &str) -> Result<Listin
 fn look_into<T: Tree>(
     alloc: Global,
     tree: &mut T,
-    level: &[Folder<T::Dir>],
+    level: Vec<Folder<T::Dir>>,
     found: &mut Listing,
 ) -> Result<Vec<Folder<T::Dir>>, ScanStop>
     requires few { length found.old ≤ most_names }
     ensures few { OnOk result (length found.new ≤ most_names) }
-    ensures deeper { (depth : ℕ) → All (λ f. depth ≤ length f.path.items) level.now → IfOk result (λ next. All (λ f. depth + 1 ≤ length f.path.items) next.items) }
-    ensures placed { (files : List (List ℕ × List ℕ)) → T.files tree.old ≡ Some files → All (λ f. T.dir_path f.dir ≡ f.path.items) level.now
-        → IfOk result (λ next. All (λ f. T.dir_path f.dir ≡ f.path.items) next.items) }
-    ensures covers { (files : List (List ℕ × List ℕ)) → T.files tree.old ≡ Some files → All (λ f. T.dir_path f.dir ≡ f.path.items) level.now
-        → IfOk result (λ next. Covers files (is_pending (map (λ f. f.path.items) level.now)) found.old [] found.new (map (λ f. f.path.items) next.items)) }
-    ensures stops { (files : List (List ℕ × List ℕ)) → T.files tree.old ≡ Some files → All (λ f. T.dir_path f.dir ≡ f.path.items) level.now
+    ensures deeper { (depth : ℕ) → AreDeep depth level.items → IfOk result (λ next. AreDeep (depth + 1) next.items) }
+    ensures placed { (files : List (List ℕ × List ℕ)) → T.files tree.old ≡ Some files → ArePlaced T.dir_path level.items
+        → IfOk result (λ next. ArePlaced T.dir_path next.items) }
+    ensures covers { (files : List (List ℕ × List ℕ)) → T.files tree.old ≡ Some files → ArePlaced T.dir_path level.items
+        → IfOk result (λ next. Covers files (is_pending (paths_of level.items)) found.old [] found.new (paths_of next.items)) }
+    ensures stops { (files : List (List ℕ × List ℕ)) → T.files tree.old ≡ Some files → ArePlaced T.dir_path level.items
         → AreOf files found.old → IfErr result (StopsFor files) }
     ensures tree_fault { IfErr result (λ stop. stop ≡ ScanStop.TreeFault → Rose (T.faults tree.old) (T.faults tree.new)) }
     ensures later { T.faults tree.old ≤ T.faults tree.new }
@@ -77,7 +99,7 @@ fn look_into<T: Tree>(
 {
     let mut next = Vec::new(alloc);
     for folder in level {
-        list_folder(alloc, tree, folder, found, &mut next)?;
+        list_folder(alloc, tree, &folder, found, &mut next)?;
     }
     Ok(next)
 }
@@ -92,12 +114,13 @@ fn list_folder<T: Tree>(
 ) -> Result<(), ScanStop>
     requires few { length found.old ≤ most_names }
     ensures few { OnOk result (length found.new ≤ most_names) }
-    ensures deeper { (depth : ℕ) → depth ≤ length folder.now.path.items → All (λ f. depth + 1 ≤ length f.path.items) next.old.items
-        → OnOk result (All (λ f. depth + 1 ≤ length f.path.items) next.new.items) }
+    ensures deeper { (depth : ℕ) → depth ≤ length folder.now.path.items → AreDeep (depth + 1) next.old.items
+        → OnOk result (AreDeep (depth + 1) next.new.items) }
     ensures placed { (files : List (List ℕ × List ℕ)) → T.files tree.old ≡ Some files → T.dir_path folder.now.dir ≡ folder.now.path.items
-        → All (λ f. T.dir_path f.dir ≡ f.path.items) next.old.items → OnOk result (All (λ f. T.dir_path f.dir ≡ f.path.items) next.new.items) }
+        → ArePlaced T.dir_path next.old.items → OnOk result (ArePlaced T.dir_path next.new.items) }
     ensures covers { (files : List (List ℕ × List ℕ)) → T.files tree.old ≡ Some files → T.dir_path folder.now.dir ≡ folder.now.path.items
-        → OnOk result (Covers files (λ path. is_some (rest_after folder.now.path.items path)) found.old (map (λ f. f.path.items) next.old.items) found.new (map (λ f. f.path.items) next.new.items)) }
+        → OnOk result (Covers files (λ path. is_some (rest_after folder.now.path.items path))
+            found.old (paths_of next.old.items) found.new (paths_of next.new.items)) }
     ensures stops { (files : List (List ℕ × List ℕ)) → T.files tree.old ≡ Some files → T.dir_path folder.now.dir ≡ folder.now.path.items
         → AreOf files found.old → IfErr result (StopsFor files) }
     ensures tree_fault { IfErr result (λ stop. stop ≡ ScanStop.TreeFault → Rose (T.faults tree.old) (T.faults tree.new)) }
@@ -106,14 +129,14 @@ fn list_folder<T: Tree>(
     ensures files { T.files tree.new ≡ T.files tree.old }
     ensures coming { T.coming tree.new ≡ T.coming tree.old }
 {
-    for entry in tree.list(alloc, &folder.dir)? {
+    let entries = tree.list(alloc, &folder.dir)?;
+    for entry in entries {
         take_entry(alloc, tree, &folder.path, entry, found, next)?;
     }
     Ok(())
 }
 
 // Reads a file that is a module, or adds a folder that is looked into.
-#[tactic(auto, using(crate::proofs::Watching::open_below))]
 fn take_entry<T: Tree>(
     alloc: Global,
     tree: &mut T,
@@ -125,12 +148,13 @@ fn take_entry<T: Tree>(
     requires few { length found.old ≤ most_names }
     requires open { is_open folder.now ≡ true }
     ensures few { OnOk result (length found.new ≤ most_names) }
-    ensures deeper { (depth : ℕ) → depth ≤ length folder.now → All (λ f. depth + 1 ≤ length f.path.items) next.old.items
-        → OnOk result (All (λ f. depth + 1 ≤ length f.path.items) next.new.items) }
+    ensures deeper { (depth : ℕ) → depth ≤ length folder.now → AreDeep (depth + 1) next.old.items
+        → OnOk result (AreDeep (depth + 1) next.new.items) }
     ensures placed { (files : List (List ℕ × List ℕ)) → IsPlaced T.dir_path T.file_path files folder.now entry
-        → All (λ f. T.dir_path f.dir ≡ f.path.items) next.old.items → OnOk result (All (λ f. T.dir_path f.dir ≡ f.path.items) next.new.items) }
+        → ArePlaced T.dir_path next.old.items → OnOk result (ArePlaced T.dir_path next.new.items) }
     ensures covers { (files : List (List ℕ × List ℕ)) → T.files tree.old ≡ Some files → IsPlaced T.dir_path T.file_path files folder.now entry
-        → OnOk result (Covers files (λ path. leads_to T.dir_path T.file_path path entry.node) found.old (map (λ f. f.path.items) next.old.items) found.new (map (λ f. f.path.items) next.new.items)) }
+        → OnOk result (Covers files (λ path. leads_to T.dir_path T.file_path path entry.node)
+            found.old (paths_of next.old.items) found.new (paths_of next.new.items)) }
     ensures stops { (files : List (List ℕ × List ℕ)) → T.files tree.old ≡ Some files → IsPlaced T.dir_path T.file_path files folder.now entry
         → AreOf files found.old → IfErr result (StopsFor files) }
     ensures tree_fault { IfErr result (λ stop. stop ≡ ScanStop.TreeFault → Rose (T.faults tree.old) (T.faults tree.new)) }
@@ -147,9 +171,34 @@ fn take_entry<T: Tree>(
     let path = path_below(alloc, folder, name)?;
     match node {
         Node::File(file) => take_file(alloc, tree, &path, file, found),
-        Node::Dir(_) if is_passed(name) || !is_name(&path) => Ok(()),
-        Node::Dir(dir) => Ok(add_folder(next, path, dir)?),
+        Node::Dir(dir) => Ok(take_folder(next, folder, name, path, dir)?),
     }
+}
+
+// Adds a folder that is looked into.
+fn take_folder<D: Drop>(
+    folders: &mut Vec<Folder<D>>,
+    folder: &[u8],
+    name: &[u8],
+    path: Vec<u8>,
+    dir: D,
+) -> Result<(), AllocError>
+    requires open { is_open folder.now ≡ true }
+    requires plain { has_slash name.now ≡ false }
+    requires place { path.items ≡ below folder.now name.now }
+    ensures { OnOk result (AddsIf (is_kept folder.now name.now) (below folder.now name.now) dir folders.old.items folders.new.items) }
+{
+    if is_kept(name, &path) {
+        add_folder(folders, path, dir)?;
+    }
+    Ok(())
+}
+
+// Whether a folder of this name and path is looked into.
+fn is_kept(name: &[u8], path: &[u8]) -> bool
+    ensures { result ≡ (not (is_passed name.now) && is_name path.now) }
+{
+    !is_passed(name) && is_name(path)
 }
 
 // Reads a file that is a module and wasn't found before.
