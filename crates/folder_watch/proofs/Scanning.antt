@@ -1,14 +1,13 @@
 -- How a listing grows as a folder is gone through.
-use Rattle.std.proofs.Common.{ℕ, ◌+◌, ◌<◌, ◌≤◌, List, [], ◌∷◌, ◌++◌, length, map, Bool, true, false, cond, ◌≡◌, refl, sym, ap, ◌∙◌, subst, arith, inl, inr, Option, Some, None}
+use Rattle.std.proofs.Common.{ℕ, List, [], ◌∷◌, ◌++◌, Bool, true, false, cond, ◌≡◌, refl, sym, ap, ◌∙◌, subst, inl, inr, Option, Some, None}
 use Rattle.std.specs.Prelude.{◌||◌, ◌&&◌, not, ◌⊎◌, is_some, IfSome}
-use Rattle.std.specs.List.{list_any}
 use Rattle.std.specs.Cmp.Lexicographic.{same_text}
 use Rattle.std.proofs.lemmas.List.Folds.{list_any-append}
 use Rattle.hmr_types.specs.ModName.{is_name, is_text, parts}
 use Rattle.folders.specs.Files.{HasRead, has_file, rest_after, text_at}
-use Rattle.folder_watch.specs.Scans.{AreOf, Covers, IsRoot, IsScanOf, Reaches, Takes, is_pending}
+use Rattle.folder_watch.specs.Scans.{AreOf, Covers, IsScanOf, Reaches, Takes, is_pending}
 use Rattle.folder_watch.specs.Watched.{are_looked_into, ends_in_js, is_watched, watched_text}
-use Rattle.folder_watch.proofs.Watching.{watched_parts, watched_from}
+use Rattle.folder_watch.proofs.Watching.{watched_from}
 
 abbrev Files : Type 0
 Files = List (List ℕ × List ℕ)

@@ -1,24 +1,23 @@
 -- How the folders that are still to be listed grow, entry by entry.
-use Rattle.std.proofs.Common.{ℕ, ◌+◌, get_or, ◌<◌, ◌≤◌, List, [], ◌∷◌, ◌++◌, length, map, Bool, true, false, cond, ◌≡◌, refl, sym, ap, ◌∙◌, subst, arith, Option, Some, None, string_bytes}
-use Rattle.std.specs.Prelude.{◌&&◌, ◌||◌, ◌==◌, not, is_some, All, IfOk, IfSome, Result, Ok, Err}
+use Rattle.std.proofs.Common.{ℕ, ◌+◌, ◌≤◌, List, [], ◌∷◌, ◌++◌, length, Bool, true, false, cond, ◌≡◌, refl, sym, ap, ◌∙◌, subst, arith, Option, Some, None, string_bytes}
+use Rattle.std.specs.Prelude.{◌||◌, ◌==◌, not, is_some, All, IfOk, IfSome, Result, Ok, Err}
 use Rattle.std.specs.Option.{option_map}
 use Rattle.std.specs.List.{list_any}
 use Rattle.std.specs.Cmp.Lexicographic.{same_text}
-use Rattle.std.proofs.lemmas.Bool.{and_from, and_parts}
+use Rattle.std.proofs.lemmas.Bool.{and_from}
 use Rattle.std.proofs.lemmas.List.{length-append, map-append}
 use Rattle.std.proofs.lemmas.List.Elements.{All-append, All-cons}
-use Rattle.hmr_types.specs.ModName.{is_name, is_text, parts, slash}
+use Rattle.hmr_types.specs.ModName.{slash}
 use Rattle.folders.specs.declared.tree.Entry.{Entry}
-use Rattle.folders.specs.declared.tree.Node.{Node}
 use Rattle.folders.specs.declared.tree.Node.TheVariants.{Dir, File}
-use Rattle.folders.specs.Entries.{IsListed, has_slash, is_there, leads_to, path_of}
-use Rattle.folders.specs.Files.{below, has_file, next_files, rest_after, text_at}
+use Rattle.folders.specs.Entries.{IsListed, has_slash, leads_to, path_of}
+use Rattle.folders.specs.Files.{below, has_file, next_files, rest_after}
 use Rattle.folders.proofs.Paths.{rest-is}
 use Rattle.folder_watch.specs.declared.folder.Folder.{Folder}
 use Rattle.folder_watch.specs.Pending.{Adds, AddsIf, AreDeep, ArePlaced, paths_of}
-use Rattle.folder_watch.specs.Scans.{AreOf, Covers, IsPlaced, IsRoot, IsScanOf, Takes, is_pending}
-use Rattle.folder_watch.specs.Watched.{are_looked_into, is_kept, is_open, is_passed, is_watched}
-use Rattle.folder_watch.proofs.Watching.{looked_below, slash_first, through_watched, watched_parts}
+use Rattle.folder_watch.specs.Scans.{Covers, IsPlaced, IsRoot, IsScanOf, Takes, is_pending}
+use Rattle.folder_watch.specs.Watched.{is_kept, is_watched}
+use Rattle.folder_watch.proofs.Watching.{slash_first, through_watched, watched_parts}
 use Rattle.folder_watch.proofs.Scanning.{covers_file, covers_folder, covers_none}
 
 abbrev Files : Type 0
@@ -55,11 +54,11 @@ module _ {D : Type 0} (folder name : List ℕ) (dir : D) (old new : List (Folder
       let whole : paths_of new ≡ paths_of old ++ at ∷ [] =
       ap paths_of a.whole ∙ map-append (λ f. f.path.items) old (a.folder ∷ []) ∙ ap (λ p. paths_of old ++ p ∷ []) (a.path_is ∙ sym e) in
       subst (λ now. Covers files (λ path. is_some (rest_after at path)) found (paths_of old) found now) (sym whole)
-          (covers_folder files (λ path. is_some (rest_after at path)) at found (paths_of old) (λ path l. l))
+      (covers_folder files (λ path. is_some (rest_after at path)) at found (paths_of old) (λ path l. l))
   covered_turn files found at e h false k a =
       subst (λ now. Covers files (λ path. is_some (rest_after at path)) found (paths_of old) found now) (sym (ap paths_of a))
-          (covers_none files (λ path. is_some (rest_after at path)) found (paths_of old)
-              (λ path w. ap (λ p. is_some (rest_after p path)) e ∙ away_turn path (rest_after (below folder name) path) refl w h k))
+      (covers_none files (λ path. is_some (rest_after at path)) found (paths_of old)
+      (λ path w. ap (λ p. is_some (rest_after p path)) e ∙ away_turn path (rest_after (below folder name) path) refl w h k))
 
   pub grown_covers : (files found : Files) (at : List ℕ) → AddsIf (is_kept folder name) (below folder name) dir old new → at ≡ below folder name → has_slash name ≡ false
       → Covers files (λ path. is_some (rest_after at path)) found (paths_of old) found (paths_of new)
@@ -137,10 +136,11 @@ root_pending (b ∷ bs) w = by (b == slash) (slash_first b bs (watched_parts (b 
 pub root_stands : {D : Type 0} (dir_path : D → List ℕ) (dir : D) (path : List ℕ) (old new : List (Folder D)) → Adds path dir old new → old ≡ [] → path ≡ [] → dir_path dir ≡ []
     → ArePlaced dir_path new × IsRoot (paths_of new)
 root_stands dir_path dir path old new a o p d =
-    let whole : new ≡ a.folder ∷ [] = a.whole ∙ ap (λ fs. fs ++ a.folder ∷ []) o in
-    (subst (λ fs. ArePlaced dir_path fs) (sym whole)
-        (All-cons (λ f. dir_path f.dir ≡ f.path.items) a.folder [] (ap dir_path a.dir_is ∙ d ∙ sym (a.path_is ∙ p)) (λ k x lt. absurd (omega arith))),
-        λ to w. ap (λ fs. is_pending (paths_of fs) to) whole ∙ ap (λ t. t || false) (ap (λ at. is_some (rest_after at to)) (a.path_is ∙ p) ∙ root_pending to w))
+    let whole : new ≡ a.folder ∷ [] = a.whole ∙ ap (λ fs. fs ++ a.folder ∷ []) o in (
+      subst (λ fs. ArePlaced dir_path fs) (sym whole)
+          (All-cons (λ f. dir_path f.dir ≡ f.path.items) a.folder [] (ap dir_path a.dir_is ∙ d ∙ sym (a.path_is ∙ p)) (λ k x lt. absurd (omega arith))),
+      λ to w. ap (λ fs. is_pending (paths_of fs) to) whole ∙ ap (λ t. t || false) (ap (λ at. is_some (rest_after at to)) (a.path_is ∙ p) ∙ root_pending to w),
+    )
 
 -- what holds of the files that are open holds of those that were to come
 pub told_coming : {E : Type 0} (coming : Option (List Files)) (now : Option Files) (r : Result Files E) → now ≡ option_map next_files coming

@@ -9,7 +9,7 @@ use Rattle.std.proofs.lemmas.List.Splits.{length-slice_split}
 use Rattle.hmr_types.specs.ModName.{is_name, is_segment, parts, slash}
 use Rattle.folders.specs.Entries.{has_slash}
 use Rattle.folders.specs.Files.{below}
-use Rattle.folder_watch.specs.Watched.{are_looked_into, ends_in_js, is_kept, is_open, is_passed, is_watched}
+use Rattle.folder_watch.specs.Watched.{are_looked_into, ends_in_js, is_open, is_passed, is_watched}
 
 some_parts : (text : List ℕ) → 0 < length (parts text)
 some_parts text = let e = length-slice_split (λ b. b == slash) text in omega (arith, e)

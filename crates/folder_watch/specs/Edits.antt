@@ -1,5 +1,5 @@
 -- The edits between two listings.
-use Rattle.std.specs.Prelude.{◌≡◌, ℕ, List, [], ◌∷◌, map, cond, Option, Some, None}
+use Rattle.std.specs.Prelude.{◌≡◌, ℕ, List, map, cond, Option, Some, None}
 use Rattle.std.specs.Global.{Vec}
 use Rattle.std.specs.Map.{lookup}
 use Rattle.std.specs.Option.{option_map}

@@ -1,5 +1,5 @@
 -- What a scan gives, and why it stops.
-use Rattle.std.specs.Prelude.{◌≡◌, ℕ, ◌<◌, List, [], length, Bool, true, false, ◌||◌, Option, Some, ⊤, is_some, string_bytes}
+use Rattle.std.specs.Prelude.{◌≡◌, ℕ, ◌<◌, List, length, Bool, true, false, ◌||◌, Some, ⊤, is_some, string_bytes}
 use Rattle.std.specs.List.{list_any}
 use Rattle.folders.specs.declared.tree.Entry.{Entry}
 use Rattle.folders.specs.Entries.{has_slash, is_there, path_of}

@@ -56,7 +56,8 @@ fn put_changed(
     edits: &mut BTreeMap<ModName, Option<Vec<u8>>>,
 ) -> Result<(), AllocError>
     requires none { edits.old.entries ≡ [] }
-    ensures { OnOk result ((name : List ℕ) → edit_at (rows_of edits.new.entries) name ≡ change_to (text_at old.now name) (text_at new.now name)) }
+    ensures { OnOk result ((name : List ℕ) → edit_at (rows_of edits.new.entries) name
+        ≡ change_to (text_at old.now name) (text_at new.now name)) }
 {
     for (name, text) in new.files() {
         if differs(old.text(name), text.as_slice()) {
@@ -73,8 +74,10 @@ fn put_removed(
     new: &Listing,
     edits: &mut BTreeMap<ModName, Option<Vec<u8>>>,
 ) -> Result<(), AllocError>
-    requires changed { (name : List ℕ) → edit_at (rows_of edits.old.entries) name ≡ change_to (text_at old.now name) (text_at new.now name) }
-    ensures { OnOk result ((name : List ℕ) → edit_at (rows_of edits.new.entries) name ≡ change (text_at old.now name) (text_at new.now name)) }
+    requires changed { (name : List ℕ) → edit_at (rows_of edits.old.entries) name
+        ≡ change_to (text_at old.now name) (text_at new.now name) }
+    ensures { OnOk result ((name : List ℕ) → edit_at (rows_of edits.new.entries) name
+        ≡ change (text_at old.now name) (text_at new.now name)) }
 {
     for (name, _) in old.files() {
         if new.text(name).is_none() {
@@ -91,7 +94,8 @@ fn put(
     edit: Option<Vec<u8>>,
 ) -> Result<(), AllocError>
     ensures { OnOk result ((other : List ℕ) → edit_at (rows_of edits.new.entries) other
-        ≡ cond (is_text name other) (Some (option_map (λ text. text.items) edit)) (edit_at (rows_of edits.old.entries) other)) }
+        ≡ cond (is_text name other) (Some (option_map (λ text. text.items) edit))
+        (edit_at (rows_of edits.old.entries) other)) }
 {
     edits.insert(name, edit)?;
     Ok(())

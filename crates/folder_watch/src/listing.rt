@@ -64,7 +64,8 @@ impl Listing {
     /// Adds a module. In place of another text of the name the new one stands.
     pub(crate) fn add(&mut self, name: ModName, text: Vec<u8>) -> Result<(), AllocError>
         requires short { length text.items ≤ text_bytes }
-        ensures added { OnOk result ((other : List ℕ) → text_at self.new other ≡ cond (is_text name other) (Some text.items) (text_at self.old other)) }
+        ensures added { OnOk result ((other : List ℕ) → text_at self.new other
+            ≡ cond (is_text name other) (Some text.items) (text_at self.old other)) }
     {
         self.files.insert(name, Sequence::from_vec(text))?;
         Ok(())

@@ -32,12 +32,15 @@ const LEVELS: usize = 256;
 /// bytes that are read, but for the logarithm of the modules.
 pub fn scan<T: Tree>(alloc: Global, tree: &mut T, folder: &str) -> Result<Listing, ScanStop>
     requires may { MayOpen (T.asked tree.old) folder.now }
-    ensures told { IfOk result (λ listing. IfSome (T.coming tree.old) (λ coming. IsScanOf (next_files coming) listing)) }
+    ensures told { IfOk result
+        (λ listing. IfSome (T.coming tree.old) (λ coming. IsScanOf (next_files coming) listing)) }
     ensures rising { IfOk result Rises }
     ensures short { IfOk result AreShort }
     ensures few { IfOk result (λ listing. length listing ≤ most_names) }
-    ensures tree_fault { IfErr result (λ stop. stop ≡ ScanStop.TreeFault → Rose (T.faults tree.old) (T.faults tree.new)) }
-    ensures limits { IfErr result (λ stop. IfSome (T.coming tree.old) (λ coming. StopsFor (next_files coming) stop)) }
+    ensures tree_fault { IfErr result (λ stop. stop ≡ ScanStop.TreeFault
+        → Rose (T.faults tree.old) (T.faults tree.new)) }
+    ensures limits { IfErr result
+        (λ stop. IfSome (T.coming tree.old) (λ coming. StopsFor (next_files coming) stop)) }
     ensures later { T.faults tree.old ≤ T.faults tree.new }
     ensures asked { OnOk result (T.asked tree.new ≡ Some folder.now) }
     ensures no_other { MayOpen (T.asked tree.new) folder.now }
@@ -55,14 +58,17 @@ fn look_below<T: Tree>(
     tree: &mut T,
     mut level: Vec<Folder<T::Dir>>,
 ) -> Result<Listing, ScanStop>
-    ensures told { (files : List (List ℕ × List ℕ)) → T.files tree.old ≡ Some files → ArePlaced T.dir_path level.items
+    ensures told { (files : List (List ℕ × List ℕ)) → T.files tree.old ≡ Some files
+        → ArePlaced T.dir_path level.items
         → IsRoot (paths_of level.items) → IfOk result (IsScanOf files) }
     ensures rising { IfOk result Rises }
     ensures short { IfOk result AreShort }
     ensures few { IfOk result (λ listing. length listing ≤ most_names) }
-    ensures stops { (files : List (List ℕ × List ℕ)) → T.files tree.old ≡ Some files → ArePlaced T.dir_path level.items
+    ensures stops { (files : List (List ℕ × List ℕ)) → T.files tree.old ≡ Some files
+        → ArePlaced T.dir_path level.items
         → IfErr result (StopsFor files) }
-    ensures tree_fault { IfErr result (λ stop. stop ≡ ScanStop.TreeFault → Rose (T.faults tree.old) (T.faults tree.new)) }
+    ensures tree_fault { IfErr result (λ stop. stop ≡ ScanStop.TreeFault
+        → Rose (T.faults tree.old) (T.faults tree.new)) }
     ensures later { T.faults tree.old ≤ T.faults tree.new }
     ensures asked { T.asked tree.new ≡ T.asked tree.old }
     ensures coming { T.coming tree.new ≡ T.coming tree.old }
@@ -84,14 +90,20 @@ fn look_into<T: Tree>(
 ) -> Result<Vec<Folder<T::Dir>>, ScanStop>
     requires few { length found.old ≤ most_names }
     ensures few { OnOk result (length found.new ≤ most_names) }
-    ensures deeper { (depth : ℕ) → AreDeep depth level.items → IfOk result (λ next. AreDeep (depth + 1) next.items) }
-    ensures placed { (files : List (List ℕ × List ℕ)) → T.files tree.old ≡ Some files → ArePlaced T.dir_path level.items
+    ensures deeper { (depth : ℕ) → AreDeep depth level.items
+        → IfOk result (λ next. AreDeep (depth + 1) next.items) }
+    ensures placed { (files : List (List ℕ × List ℕ)) → T.files tree.old ≡ Some files
+        → ArePlaced T.dir_path level.items
         → IfOk result (λ next. ArePlaced T.dir_path next.items) }
-    ensures covers { (files : List (List ℕ × List ℕ)) → T.files tree.old ≡ Some files → ArePlaced T.dir_path level.items
-        → IfOk result (λ next. Covers files (is_pending (paths_of level.items)) found.old [] found.new (paths_of next.items)) }
-    ensures stops { (files : List (List ℕ × List ℕ)) → T.files tree.old ≡ Some files → ArePlaced T.dir_path level.items
+    ensures covers { (files : List (List ℕ × List ℕ)) → T.files tree.old ≡ Some files
+        → ArePlaced T.dir_path level.items
+        → IfOk result (λ next. Covers files (is_pending (paths_of level.items))
+        found.old [] found.new (paths_of next.items)) }
+    ensures stops { (files : List (List ℕ × List ℕ)) → T.files tree.old ≡ Some files
+        → ArePlaced T.dir_path level.items
         → AreOf files found.old → IfErr result (StopsFor files) }
-    ensures tree_fault { IfErr result (λ stop. stop ≡ ScanStop.TreeFault → Rose (T.faults tree.old) (T.faults tree.new)) }
+    ensures tree_fault { IfErr result (λ stop. stop ≡ ScanStop.TreeFault
+        → Rose (T.faults tree.old) (T.faults tree.new)) }
     ensures later { T.faults tree.old ≤ T.faults tree.new }
     ensures asked { T.asked tree.new ≡ T.asked tree.old }
     ensures files { T.files tree.new ≡ T.files tree.old }
@@ -114,16 +126,21 @@ fn list_folder<T: Tree>(
 ) -> Result<(), ScanStop>
     requires few { length found.old ≤ most_names }
     ensures few { OnOk result (length found.new ≤ most_names) }
-    ensures deeper { (depth : ℕ) → depth ≤ length folder.now.path.items → AreDeep (depth + 1) next.old.items
+    ensures deeper { (depth : ℕ) → depth ≤ length folder.now.path.items
+        → AreDeep (depth + 1) next.old.items
         → OnOk result (AreDeep (depth + 1) next.new.items) }
-    ensures placed { (files : List (List ℕ × List ℕ)) → T.files tree.old ≡ Some files → T.dir_path folder.now.dir ≡ folder.now.path.items
+    ensures placed { (files : List (List ℕ × List ℕ)) → T.files tree.old ≡ Some files
+        → T.dir_path folder.now.dir ≡ folder.now.path.items
         → ArePlaced T.dir_path next.old.items → OnOk result (ArePlaced T.dir_path next.new.items) }
-    ensures covers { (files : List (List ℕ × List ℕ)) → T.files tree.old ≡ Some files → T.dir_path folder.now.dir ≡ folder.now.path.items
+    ensures covers { (files : List (List ℕ × List ℕ)) → T.files tree.old ≡ Some files
+        → T.dir_path folder.now.dir ≡ folder.now.path.items
         → OnOk result (Covers files (λ path. is_some (rest_after folder.now.path.items path))
-            found.old (paths_of next.old.items) found.new (paths_of next.new.items)) }
-    ensures stops { (files : List (List ℕ × List ℕ)) → T.files tree.old ≡ Some files → T.dir_path folder.now.dir ≡ folder.now.path.items
+        found.old (paths_of next.old.items) found.new (paths_of next.new.items)) }
+    ensures stops { (files : List (List ℕ × List ℕ)) → T.files tree.old ≡ Some files
+        → T.dir_path folder.now.dir ≡ folder.now.path.items
         → AreOf files found.old → IfErr result (StopsFor files) }
-    ensures tree_fault { IfErr result (λ stop. stop ≡ ScanStop.TreeFault → Rose (T.faults tree.old) (T.faults tree.new)) }
+    ensures tree_fault { IfErr result (λ stop. stop ≡ ScanStop.TreeFault
+        → Rose (T.faults tree.old) (T.faults tree.new)) }
     ensures later { T.faults tree.old ≤ T.faults tree.new }
     ensures asked { T.asked tree.new ≡ T.asked tree.old }
     ensures files { T.files tree.new ≡ T.files tree.old }
@@ -150,14 +167,18 @@ fn take_entry<T: Tree>(
     ensures few { OnOk result (length found.new ≤ most_names) }
     ensures deeper { (depth : ℕ) → depth ≤ length folder.now → AreDeep (depth + 1) next.old.items
         → OnOk result (AreDeep (depth + 1) next.new.items) }
-    ensures placed { (files : List (List ℕ × List ℕ)) → IsPlaced T.dir_path T.file_path files folder.now entry
+    ensures placed { (files : List (List ℕ × List ℕ))
+        → IsPlaced T.dir_path T.file_path files folder.now entry
         → ArePlaced T.dir_path next.old.items → OnOk result (ArePlaced T.dir_path next.new.items) }
-    ensures covers { (files : List (List ℕ × List ℕ)) → T.files tree.old ≡ Some files → IsPlaced T.dir_path T.file_path files folder.now entry
+    ensures covers { (files : List (List ℕ × List ℕ)) → T.files tree.old ≡ Some files
+        → IsPlaced T.dir_path T.file_path files folder.now entry
         → OnOk result (Covers files (λ path. leads_to T.dir_path T.file_path path entry.node)
-            found.old (paths_of next.old.items) found.new (paths_of next.new.items)) }
-    ensures stops { (files : List (List ℕ × List ℕ)) → T.files tree.old ≡ Some files → IsPlaced T.dir_path T.file_path files folder.now entry
+        found.old (paths_of next.old.items) found.new (paths_of next.new.items)) }
+    ensures stops { (files : List (List ℕ × List ℕ)) → T.files tree.old ≡ Some files
+        → IsPlaced T.dir_path T.file_path files folder.now entry
         → AreOf files found.old → IfErr result (StopsFor files) }
-    ensures tree_fault { IfErr result (λ stop. stop ≡ ScanStop.TreeFault → Rose (T.faults tree.old) (T.faults tree.new)) }
+    ensures tree_fault { IfErr result (λ stop. stop ≡ ScanStop.TreeFault
+        → Rose (T.faults tree.old) (T.faults tree.new)) }
     ensures later { T.faults tree.old ≤ T.faults tree.new }
     ensures asked { T.asked tree.new ≡ T.asked tree.old }
     ensures files { T.files tree.new ≡ T.files tree.old }
@@ -186,7 +207,8 @@ fn take_folder<D: Drop>(
     requires open { is_open folder.now ≡ true }
     requires plain { has_slash name.now ≡ false }
     requires place { path.items ≡ below folder.now name.now }
-    ensures { OnOk result (AddsIf (is_kept folder.now name.now) (below folder.now name.now) dir folders.old.items folders.new.items) }
+    ensures { OnOk result (AddsIf (is_kept folder.now name.now)
+        (below folder.now name.now) dir folders.old.items folders.new.items) }
 {
     if is_kept(name, &path) {
         add_folder(folders, path, dir)?;
@@ -211,11 +233,14 @@ fn take_file<T: Tree>(
 ) -> Result<(), ScanStop>
     requires few { length found.old ≤ most_names }
     ensures few { OnOk result (length found.new ≤ most_names) }
-    ensures reads { (files : List (List ℕ × List ℕ)) → T.files tree.old ≡ Some files → T.file_path file ≡ path.now → are_looked_into (parts path.now) ≡ true
+    ensures reads { (files : List (List ℕ × List ℕ)) → T.files tree.old ≡ Some files
+        → T.file_path file ≡ path.now → are_looked_into (parts path.now) ≡ true
         → OnOk result (Takes files path.now found.old found.new) }
-    ensures stops { (files : List (List ℕ × List ℕ)) → T.files tree.old ≡ Some files → T.file_path file ≡ path.now → are_looked_into (parts path.now) ≡ true
+    ensures stops { (files : List (List ℕ × List ℕ)) → T.files tree.old ≡ Some files
+        → T.file_path file ≡ path.now → are_looked_into (parts path.now) ≡ true
         → AreOf files found.old → IfErr result (StopsFor files) }
-    ensures tree_fault { IfErr result (λ stop. stop ≡ ScanStop.TreeFault → Rose (T.faults tree.old) (T.faults tree.new)) }
+    ensures tree_fault { IfErr result (λ stop. stop ≡ ScanStop.TreeFault
+        → Rose (T.faults tree.old) (T.faults tree.new)) }
     ensures later { T.faults tree.old ≤ T.faults tree.new }
     ensures asked { T.asked tree.new ≡ T.asked tree.old }
     ensures files { T.files tree.new ≡ T.files tree.old }

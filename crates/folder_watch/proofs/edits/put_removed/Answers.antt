@@ -1,5 +1,5 @@
-use Rattle.std.proofs.Common.{rules, ◌≡◌, ◌∷◌, List, ℕ, Bool, true, false, Some, None, sym, ap, subst, cond, ◌∙◌}
-use Rattle.std.specs.Prelude.{All, is_some, is_none}
+use Rattle.std.proofs.Common.{rules, ◌≡◌, ◌∷◌, List, ℕ, true, false, Some, None, subst, cond, ◌∙◌}
+use Rattle.std.specs.Prelude.{All, is_some}
 use Rattle.hmr_types.specs.ModName.{is_text}
 use Rattle.folders.specs.Files.{text_at}
 use Rattle.folder_watch.specs.Edits.{change, change_to, edit_at, rows_of}

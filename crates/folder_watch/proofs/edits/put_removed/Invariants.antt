@@ -1,4 +1,4 @@
-use Rattle.std.proofs.Common.{◌≡◌, Some, None}
+use Rattle.std.proofs.Common.{◌≡◌, Some}
 use Rattle.std.specs.Prelude.{All}
 use Rattle.folders.specs.Files.{text_at}
 use Rattle.folder_watch.specs.Edits.{change, change_to, rows_of}

@@ -1,11 +1,11 @@
-use Rattle.std.proofs.Common.{rules, ◌≡◌, ◌+◌, ◌≤◌, ◌∷◌, [], List, ℕ, Some, length, sym, ap, subst, ◌∙◌, refl, arith}
-use Rattle.std.specs.Prelude.{All, is_some}
+use Rattle.std.proofs.Common.{rules, ◌≡◌, ◌≤◌, ◌∷◌, [], length, sym, ap, subst, ◌∙◌, arith}
+use Rattle.std.specs.Prelude.{is_some}
 use Rattle.std.specs.List.{list_any}
 use Rattle.std.specs.Vec.Iter.{into_iter_items}
-use Rattle.folders.specs.Entries.{IsListed, leads_to}
+use Rattle.folders.specs.Entries.{leads_to}
 use Rattle.folders.specs.Files.{rest_after}
-use Rattle.folder_watch.specs.Pending.{AreDeep, ArePlaced, paths_of}
-use Rattle.folder_watch.specs.Scans.{AreOf, Covers, IsPlaced}
+use Rattle.folder_watch.specs.Pending.{paths_of}
+use Rattle.folder_watch.specs.Scans.{IsPlaced}
 use Rattle.folder_watch.proofs.Scanning.{covers_first, covers_last, covers_next}
 use Rattle.folder_watch.proofs.Walking.{all_first, listed_leads, listed_of, listed_placed, nothing_left}
 use Rattle.std.proofs.lemmas.List.Elements.{All-rest}

@@ -21,7 +21,7 @@ invariant-loop-entry g l = record {
       → ArePlaced g.T.Tree.dir_path l.fn.next.items → ArePlaced g.T.Tree.dir_path l.next.items;
   covers : (files : List (List ℕ × List ℕ)) → g.T.Tree.files l.fn.tree ≡ Some files → g.T.Tree.dir_path l.folder.dir ≡ l.folder.path.items
       → Covers files (λ path. is_some (rest_after l.folder.path.items path) && not (list_any (λ entry. leads_to g.T.Tree.dir_path g.T.Tree.file_path path entry.node) (into_iter_items l.entry-iterator)))
-          l.fn.found (paths_of l.fn.next.items) l.found (paths_of l.next.items);
+      l.fn.found (paths_of l.fn.next.items) l.found (paths_of l.next.items);
   later : g.T.Tree.faults l.fn.tree ≤ g.T.Tree.faults l.tree;
   asked : g.T.Tree.asked l.tree ≡ g.T.Tree.asked l.fn.tree;
   files : g.T.Tree.files l.tree ≡ g.T.Tree.files l.fn.tree;

@@ -1,7 +1,7 @@
-use Rattle.std.proofs.Common.{rules, ◌≡◌, ◌+◌, ◌≤◌, [], List, ℕ, Some, length, sym, ap, subst, ◌∙◌, refl, arith}
+use Rattle.std.proofs.Common.{rules, sym, subst, ◌∙◌, refl, arith}
 use Rattle.std.proofs.lemmas.Result.{err_from_is_err_and}
-use Rattle.folder_watch.specs.Pending.{AreDeep, ArePlaced, paths_of}
-use Rattle.folder_watch.specs.Scans.{AreOf, IsRoot, IsScanOf, Reaches, is_pending}
+use Rattle.folder_watch.specs.Pending.{AreDeep, paths_of}
+use Rattle.folder_watch.specs.Scans.{Reaches, is_pending}
 use Rattle.folder_watch.proofs.Scanning.{reaches_all, reaches_none, reaches_then}
 use Rattle.folder_watch.proofs.Walking.{none_deep}
 use Rattle.folder_watch.proofs.walk.look_below.Goals as goal

@@ -1,9 +1,9 @@
-use Rattle.std.proofs.Common.{rules, ◌≡◌, ◌+◌, ◌≤◌, ◌∷◌, [], List, ℕ, Some, length, sym, ap, subst, ◌∙◌, refl, arith}
-use Rattle.std.specs.Prelude.{All, ◌&&◌, not, is_some}
+use Rattle.std.proofs.Common.{rules, ◌≡◌, ◌+◌, ◌≤◌, ◌∷◌, [], length, sym, ap, subst, ◌∙◌, refl, arith}
+use Rattle.std.specs.Prelude.{◌&&◌, not, is_some}
 use Rattle.std.specs.Vec.Iter.{into_iter_items}
 use Rattle.folders.specs.Files.{rest_after}
-use Rattle.folder_watch.specs.Pending.{AreDeep, ArePlaced, paths_of}
-use Rattle.folder_watch.specs.Scans.{AreOf, Covers, is_pending}
+use Rattle.folder_watch.specs.Pending.{paths_of}
+use Rattle.folder_watch.specs.Scans.{Covers, is_pending}
 use Rattle.folder_watch.proofs.Scanning.{covers_first, covers_last, covers_next}
 use Rattle.folder_watch.proofs.Walking.{all_first, all_none, nothing_left}
 use Rattle.std.proofs.lemmas.List.Elements.{All-rest, All-same}

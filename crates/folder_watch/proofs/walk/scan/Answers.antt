@@ -1,4 +1,3 @@
-use Rattle.std.proofs.Common.{◌≡◌}
 use Rattle.folder_watch.proofs.Walking.{root_stands, told_coming}
 use Rattle.folder_watch.proofs.walk.scan.Goals as goal
 

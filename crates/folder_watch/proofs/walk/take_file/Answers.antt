@@ -1,4 +1,4 @@
-use Rattle.std.proofs.Common.{rules, ◌≡◌, ◌<◌, true, sym, ap, subst, ◌∙◌, cond, length, List, ℕ, Option, Some, map}
+use Rattle.std.proofs.Common.{rules, ◌≡◌, ◌<◌, true, sym, ap, subst, ◌∙◌, cond, Some}
 use Rattle.std.specs.Option.{option_map}
 use Rattle.hmr_types.specs.ModName.{is_name, is_text}
 use Rattle.folders.specs.Files.{text_at}

@@ -1,7 +1,5 @@
-use Rattle.std.proofs.Common.{◌≤◌, length, sym, subst, cond, ◌≡◌, List, ℕ, Some}
-use Rattle.std.specs.BTreeMap.{is_at}
+use Rattle.std.proofs.Common.{◌≤◌, length, sym, subst, cond, ◌≡◌, Some}
 use Rattle.std.specs.Cmp.Lexicographic.{slice_cmp}
-use Rattle.std.specs.Map.{lookup}
 use Rattle.std.specs.Ordering.{nat_cmp}
 use Rattle.std.proofs.lemmas.Map.Views.{All-values-insert_entry}
 use Rattle.hmr_types.specs.ModName.{is_text}
