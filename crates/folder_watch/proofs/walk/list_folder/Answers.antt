@@ -58,9 +58,9 @@ loop-entry-preserved g c =
           (subst (λ f. IsPlaced g.T.Tree.dir_path g.T.Tree.file_path files f x) (sym c.deref.ensures.value)
           (all_first (λ entry. IsPlaced g.T.Tree.dir_path g.T.Tree.file_path files path entry) x (into_iter_items c.next.new.self) (into_iter_items at.entry-iterator) steps (at.invariant.entries files e p))));
       later = omega (arith, at.invariant.later, c.take_entry.ensures.later);
-      asked = c.take_entry.ensures.asked ∙ at.invariant.asked;
-      files = c.take_entry.ensures.files ∙ at.invariant.files;
-      coming = c.take_entry.ensures.coming ∙ at.invariant.coming;
+      asked = search rules;
+      files = search rules;
+      coming = search rules;
     }
 
 pub returns-in_err-take_entry-clause-stops : goal.returns-in_err-take_entry-clause-stops
