@@ -1,2 +1,2 @@
-mod Paths
+pub mod Paths
 mod Listings

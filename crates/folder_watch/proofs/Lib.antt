@@ -1,0 +1,5 @@
+pub mod Looking
+pub mod Watching
+pub mod Scanning
+pub mod Walking
+pub mod Editing
