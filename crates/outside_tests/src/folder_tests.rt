@@ -3,8 +3,8 @@ use crate::{file_named, is_gone, show};
 use folders::{FolderTree, MemFile, MemTree, OutFault, Tree};
 use std::alloc::{AllocError, Global};
 use std::collections::VecDeque;
-use std::fs;
 use std::test::Fail;
+use std::{fs, thread};
 
 fn files(alloc: Global, rows: &[(&str, &str)]) -> Result<Vec<MemFile>, AllocError> {
     let mut files = Vec::new(alloc);
@@ -69,19 +69,12 @@ fn a_file_of_an_earlier_state_is_gone(rt: HostRuntime) -> Result<(), Fail> {
 }
 
 #[test]
-fn a_folder_of_the_file_system_shows_each_state(rt: HostRuntime) -> Result<(), Fail> {
+fn a_folder_of_the_file_system_waits_for_each_change(rt: HostRuntime) -> Result<(), Fail> {
     let alloc = rt.alloc();
     fs::create_dir_all(&rt, "site/lib")?;
     fs::write(&rt, "site/main.js", "one")?;
     fs::write(&rt, "site/lib/util.js", "two")?;
     let mut tree = FolderTree::new(rt);
-    let lines = show(alloc, &mut tree, "site", 3)?;
-    assert!(rt; are(&lines, &["/lib/util.js: two", "/main.js: one"]));
-    fs::write(&rt, "site/main.js", "changed")?;
-    fs::remove_file(&rt, "site/lib/util.js")?;
-    let lines = show(alloc, &mut tree, "site", 3)?;
-    assert!(rt; are(&lines, &["/main.js has more"]));
-    fs::write(&rt, "site/main.js", "two")?;
     let root = tree.open(alloc, "site")?;
     let Some(file) = file_named(alloc, &mut tree, &root, "main.js")? else {
         panic!(rt; "main.js isn't listed")
@@ -89,6 +82,16 @@ fn a_folder_of_the_file_system_shows_each_state(rt: HostRuntime) -> Result<(), F
     assert!(rt; !is_gone(alloc, &mut tree, &file));
     fs::remove_file(&rt, "site/main.js")?;
     assert!(rt; is_gone(alloc, &mut tree, &file));
+    fs::write(&rt, "site/main.js", "changed")?;
+    let lines = show(alloc, &mut tree, "site", 3)?;
+    assert!(rt; are(&lines, &["/lib/util.js: two", "/main.js has more"]));
+    let (lines, removed) = thread::join(
+        &rt,
+        || show(alloc, &mut tree, "site", 7),
+        || fs::remove_file(&rt, "site/lib/util.js").is_ok(),
+    );
+    assert!(rt; removed && are(&lines?, &["/main.js: changed"]));
+    fs::remove_dir_all(&rt, "site")?;
     Ok(())
 }
 

@@ -5,7 +5,7 @@ ghost use Rattle.folders.specs.Files.{MayOpen};
 use folders::{Entry, Node, OutFault, Tree};
 use std::alloc::{AllocError, Global};
 
-/// How many folders are looked into.
+/// The most folders that are looked into.
 const FOLDERS: u8 = 9;
 
 // What was found so far.
@@ -18,7 +18,7 @@ struct Found<D: Drop> {
 }
 
 /// Opens a folder, and answers a line for each file in it and below it, in order: its path and its text, or
-/// that it has more bytes than the limit.
+/// that it has more bytes than the limit. No more than nine folders are looked into.
 pub fn show<T: Tree>(
     alloc: Global,
     tree: &mut T,
