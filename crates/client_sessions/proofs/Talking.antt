@@ -71,9 +71,9 @@ talked_more opening count format f l m n s t u h h' lines lines' k same j = reco
   answers = k.answers ++ j.answer ∷ [];
   left_is = k.left_is ∙ (ap (λ x. told_front k.takes x) j.exchanged.left_is ∙ front_more k.takes (j.exchanged.bytes ∷ []) n);
   sent_is =
-    j.exchanged.sent_is ∙ (ap (λ x. told_and x (client_text (asked_after opening (past_after [] k.answers)) ∷ [])) k.sent_is
-    ∙ (and_more s (map client_text (requests opening [] k.answers)) (client_text (asked_after opening (past_after [] k.answers)) ∷ [])
-    ∙ ap (λ x. told_and s x) (sym (ap (map client_text) (requests_more opening [] k.answers j.answer) ∙ map-append client_text (requests opening [] k.answers) (asked_after opening (past_after [] k.answers) ∷ [])))));
+      j.exchanged.sent_is ∙ (ap (λ x. told_and x (client_text (asked_after opening (past_after [] k.answers)) ∷ [])) k.sent_is
+      ∙ (and_more s (map client_text (requests opening [] k.answers)) (client_text (asked_after opening (past_after [] k.answers)) ∷ [])
+      ∙ ap (λ x. told_and s x) (sym (ap (map client_text) (requests_more opening [] k.answers j.answer) ∙ map-append client_text (requests opening [] k.answers) (asked_after opening (past_after [] k.answers) ∷ [])))));
   reads = reads_more format k.takes k.answers j.exchanged.bytes j.answer k.reads (subst (λ x. ReadsIn x j.exchanged.bytes j.answer) same j.exchanged.reads);
   counted = length-append k.answers (j.answer ∷ []) ∙ ap (λ x. x + 1) k.counted;
   lines_are = j.lines_are ∙ (ap (λ x. x ++ j.more) k.lines_are ∙ (ap (λ x. lines_of opening [] k.answers ++ lines_by x) (sym j.taken) ∙ sym (lines_more opening [] k.answers j.answer)));

@@ -162,15 +162,22 @@ fn a_fault_in_mid_stream_is_told(rt: HostRuntime) -> Result<(), Fail> {
 }
 
 #[test]
+fn a_text_over_the_limit_is_told(rt: HostRuntime) -> Result<(), Fail> {
+    let alloc = rt.alloc();
+    let text = vec![in alloc; b' '; 131_073]?;
+    let (status, written) = outcome(alloc, "check /m.js", &text, NEVER, NEVER)?;
+    assert_eq!(rt; status, 8);
+    assert_eq!(rt; written.as_slice(), b"limit text 131072\n".as_slice());
+    Ok(())
+}
+
+#[test]
 fn an_input_over_the_limit_is_told(rt: HostRuntime) -> Result<(), Fail> {
     let alloc = rt.alloc();
     let mut script = vec![in alloc; b'#'; 16_777_217]?;
     let (status, written) = outcome(alloc, "play", &script, NEVER, NEVER)?;
     assert_eq!(rt; status, 8);
     assert_eq!(rt; written.as_slice(), b"limit input 16777216\n".as_slice());
-    let (status, written) = outcome(alloc, "check /m.js", &script[..131_073], NEVER, NEVER)?;
-    assert_eq!(rt; status, 8);
-    assert_eq!(rt; written.as_slice(), b"limit text 131072\n".as_slice());
     script.truncate(16_777_216);
     let (status, written) = outcome(alloc, "play", &script, NEVER, NEVER)?;
     assert_eq!(rt; status, 3);
