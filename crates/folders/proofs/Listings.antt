@@ -1,5 +1,5 @@
 -- How the listing of a folder grows by the files that are below it.
-use Rattle.std.proofs.Common.{ℕ, zero, suc, ◌+◌, ◌<◌, List, [], ◌∷◌, ◌++◌, take, drop, length, get_or, map, Bool, true, false, cond, ◌≡◌, refl, sym, ap, ◌∙◌, subst, inl, inr, append_assoc, arith, Option, Some, None, string_bytes}
+use Rattle.std.proofs.Common.{ℕ, ◌+◌, ◌<◌, List, [], ◌∷◌, ◌++◌, take, length, get_or, map, Bool, true, false, cond, ◌≡◌, refl, sym, ap, ◌∙◌, subst, inl, inr, append_assoc, arith, Some, None, string_bytes}
 use Rattle.std.specs.Prelude.{◌||◌, ◌==◌, ◌⊎◌, All, is_some}
 use Rattle.std.specs.List.{list_any, position_or_len, before_first, after_first}
 use Rattle.std.specs.Cmp.Lexicographic.{same_text, other_text}

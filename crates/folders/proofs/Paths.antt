@@ -1,8 +1,8 @@
 -- Paths that lead through a folder, and what the words of std on texts say of them.
-use Rattle.std.proofs.Common.{ℕ, zero, suc, List, [], ◌∷◌, ◌++◌, drop, take, length, ◌<◌, Bool, true, false, cond, ◌≡◌, refl, sym, ap, ◌∙◌, arith, Option, Some, None, Bor}
-use Rattle.std.specs.Prelude.{◌==◌, ◌≢◌, MatchOption, All, get_or}
+use Rattle.std.proofs.Common.{ℕ, List, [], ◌∷◌, ◌++◌, length, ◌<◌, Bool, true, false, cond, ◌≡◌, refl, sym, ap, ◌∙◌, arith, Option, Some, None, Bor}
+use Rattle.std.specs.Prelude.{◌==◌, ◌≢◌, MatchOption, All}
 use Rattle.std.specs.Option.{option_copied}
-use Rattle.std.specs.List.{list_any, position_or_len, before_first, after_first}
+use Rattle.std.specs.List.{position_or_len, before_first, after_first}
 use Rattle.std.proofs.lemmas.Grind.{common_steps}
 use Rattle.std.proofs.lemmas.Bool.{eqb-true, eq-eqb}
 use Rattle.std.proofs.lemmas.List.{take_all}

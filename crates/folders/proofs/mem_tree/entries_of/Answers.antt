@@ -1,4 +1,4 @@
-use Rattle.std.proofs.Common.{subst, string_bytes}
+use Rattle.std.proofs.Common.{subst}
 use Rattle.folders.specs.Memory.{IsOneMore}
 use Rattle.folders.proofs.Listings.{listed_turn}
 use Rattle.folders.proofs.mem_tree.entries_of.Goals as goal
