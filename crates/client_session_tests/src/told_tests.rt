@@ -82,7 +82,9 @@ fn joined<R: Wait + Copy + Drop, F: FnOnce(Bag) -> Result<Ran, AllocError> + Dro
 {
     let coming = coming(alloc, messages).ok()?;
     let mut net = TellNet::new(rt, coming, Vec::new(alloc), VecDeque::new(alloc));
-    let mut link = net.connect(alloc, 5173).ok()?;
+    let Ok(mut link) = net.connect(alloc, 5173) else {
+        return None;
+    };
     let shelf: Shelf<F> = Shelf::new(Vec::new(alloc));
     let mut runtime = HotRuntime::new(alloc, shelf, Vec::new(alloc), 2);
     let (ended, lines) = client_session(alloc, &mut link, &mut runtime, turns);
