@@ -23,7 +23,12 @@ use Rattle.client_model.specs.Applying.{apply, prune}
 
 -- a plan begins: nothing is fetched, and no cause is found
 abbrev pub begin : PlanKind → List Name → List (Name × Name) → Runtime → Runtime
-begin kind replaced pairs r = record r { page = begun kind replaced r.page; texts = []; pairs = pairs; cause = None }
+begin kind replaced pairs r = record r {
+  page = begun kind replaced r.page;
+  texts = [];
+  pairs = pairs;
+  cause = None;
+}
 
 -- the client has its number and its roots, and the page is to be loaded
 abbrev pub connect : ℕ → List Name → Runtime → Did
@@ -31,7 +36,8 @@ connect client roots r = nothing (record (begin Load [] [] r) { client = client;
 
 -- the line of a batch, where the message has one
 abbrev pub write_batch : ℕ → List Name → Runtime → Did
-write_batch batch triggered r = if batch == 0 then nothing r else write (line.Batch r.client batch (in_order triggered)) r
+write_batch batch triggered r =
+    if batch == 0 then nothing r else write (line.Batch r.client batch (in_order triggered)) r
 
 -- the line is written, and a reload begins
 abbrev pub start_reload : OutLine → Runtime → Did
@@ -58,7 +64,10 @@ with_cause cause r = nothing (record r { cause = Some cause })
 
 -- a text came: it is staged, or can't be read
 abbrev pub stage : Outcome → Plan → Name → ℕ → Text → Runtime → Did
-stage (Good a) p n v t r = nothing (record r { page = staged p n (record { version = v; analysis = a }) r.page; texts = with_row n t r.texts })
+stage (Good a) p n v t r = nothing (record r {
+  page = staged p n (record { version = v; analysis = a }) r.page;
+  texts = with_row n t r.texts;
+})
 stage (Bad fault) p n v t r = with_cause (broken n) r
 
 -- a text that came for the plan under way
@@ -85,7 +94,8 @@ write_cause (Some cause) r = write (line.Aborted r.client (outcome_of cause)) r
 -- the plan is given up, and nothing else changes
 abbrev pub abort_in : Option Plan → Language → Runtime → Did
 abort_in None language r = nothing r
-abort_in (Some p) language r = and_then (write_cause (cause_by r.cause language p r) r) (λ r. nothing (record r { page = given_up r.page; texts = []; pairs = []; cause = None }))
+abort_in (Some p) language r = and_then (write_cause (cause_by r.cause language p r) r)
+    (λ r. nothing (record r { page = given_up r.page; texts = []; pairs = []; cause = None }))
 
 -- the invalidations that are left once the first was answered
 abbrev pub without_first : List Invalidation → List Invalidation
@@ -94,11 +104,13 @@ without_first (i ∷ more) = more
 
 -- an invalidation was taken: its module is forced
 abbrev pub invalidated : Name → Text → Runtime → Did
-invalidated n message r = and_then (write (line.Invalidated r.client n message) r) (λ r. nothing (record r { page = forced_too n r.page; unsent = without_first r.unsent }))
+invalidated n message r = and_then (write (line.Invalidated r.client n message) r)
+    (λ r. nothing (record r { page = forced_too n r.page; unsent = without_first r.unsent }))
 
 -- an invalidation was ignored
 abbrev pub ignored : Name → Runtime → Did
-ignored n r = and_then (write (line.Ignored r.client n) r) (λ r. nothing (record r { unsent = without_first r.unsent }))
+ignored n r =
+    and_then (write (line.Ignored r.client n) r) (λ r. nothing (record r { unsent = without_first r.unsent }))
 
 -- `done`, by what was told
 abbrev pub done : ClientMsg → Language → Runtime → Did
@@ -123,9 +135,11 @@ took_refusal request_is.Bye r = nothing r
 -- what the answer to a request does
 abbrev pub answered : Language → ClientMsg → ServerMsg → Runtime → Did
 answered language asked (msg.Connected client roots) r = connect client roots r
-answered language asked (msg.Update replaced updates batch triggered) r = and_then (write_batch batch triggered r) (start_update replaced (map pair_of updates))
+answered language asked (msg.Update replaced updates batch triggered) r =
+    and_then (write_batch batch triggered r) (start_update replaced (map pair_of updates))
 answered language asked (msg.Prune paths) r = prune language paths r
-answered language asked (msg.FullReload cause path batch triggered) r = and_then (write_batch batch triggered r) (start_reload (line.Reload r.client cause path))
+answered language asked (msg.FullReload cause path batch triggered) r =
+    and_then (write_batch batch triggered r) (start_reload (line.Reload r.client cause path))
 answered language asked (msg.Error n row column word) r = write (line.Error r.client n row column word) r
 answered language asked (msg.Broken n row column word) r = with_cause (broken n) r
 answered language asked msg.Idle r = nothing r

@@ -59,17 +59,22 @@ replaced_instances p r = live_of (λ n. has p.replaced n && has (new_names p r) 
 abbrev pub end_old : PlanKind → Language → Plan → Runtime → Did
 end_old Load language p r = nothing r
 end_old Reload language p r = reload_all r
-end_old Update language p r = for_each (replace_instance language (number_after p r)) (replaced_instances p r) r
+end_old Update language p r =
+    for_each (replace_instance language (number_after p r)) (replaced_instances p r) r
 
 -- the instance to be made, of the entry, the text and the number that are there
-abbrev pub birth_of : Option Entry → Option Text → Option ℕ → (List Name → List (Name × ℕ)) → Name → List Birth
-birth_of (Some e) (Some t) (Some k) links n = record { number = k; name = n; entry = e; text = t; links = links e.analysis.imports } ∷ []
+abbrev pub birth_of : Option Entry → Option Text → Option ℕ →
+    (List Name → List (Name × ℕ)) → Name → List Birth
+birth_of (Some e) (Some t) (Some k) links n =
+    record { number = k; name = n; entry = e; text = t; links = links e.analysis.imports } ∷ []
 birth_of e t k links n = []
 
 -- the new instances of the plan, in the order of their evaluation
 abbrev pub births : List Name → Plan → Runtime → List Birth
 births [] p r = []
-births (n ∷ names) p r = birth_of (entry_at p r.page.view n) (at r.texts n) (number_after p r n) (links_after p r) n ++ births names p r
+births (n ∷ names) p r =
+    birth_of (entry_at p r.page.view n) (at r.texts n) (number_after p r n) (links_after p r) n
+    ++ births names p r
 
 -- a callback of n on itself gets the new module
 abbrev pub itself_in : Name → Runtime → Handler → List (Option Slots)
@@ -119,7 +124,8 @@ drop_set_aside p before r = for_each (λ i r. drop_each is_held i.number r) (set
 
 -- the page is the plan's
 abbrev pub finish : Plan → Runtime → Did
-finish p r = and_then (write (line.Applied r.client p.kind) r) (λ r. nothing (record r { page = applied r.roots p r.page; texts = []; pairs = []; cause = None }))
+finish p r = and_then (write (line.Applied r.client p.kind) r)
+    (λ r. nothing (record r { page = applied r.roots p r.page; texts = []; pairs = []; cause = None }))
 
 -- the plan is applied
 abbrev pub apply : Language → Plan → Runtime → Did
@@ -146,4 +152,5 @@ leave_page names r = nothing (record r { page = pruned names r.page })
 
 -- modules that no root reaches any more are pruned, in falling number of their instances
 abbrev pub prune : Language → List Name → Runtime → Did
-prune language names r = and_then (for_each (prune_instance language) (live_of (has names) r) r) (leave_page names)
+prune language names r =
+    and_then (for_each (prune_instance language) (live_of (has names) r) r) (leave_page names)

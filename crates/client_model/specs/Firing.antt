@@ -18,15 +18,18 @@ event_module value = (codes "data", Val value) ∷ []
 
 -- the arguments of a callback: the event's module at the event's places, and undefined elsewhere
 abbrev pub event_arguments : Name → Value → Runtime → Handler → List (Option Slots)
-event_arguments event value r h = map (λ d. if same_name d event then Some (event_module value) else None) h.deps
+event_arguments event value r h =
+    map (λ d. if same_name d event then Some (event_module value) else None) h.deps
 
 -- the callbacks of an instance that list the event run, in the order of registration
 abbrev pub hear_event : Language → Name → Value → Instance → Runtime → Did
-hear_event language event value i = run_each language place.Dep (event_arguments event value) (accepts_dep event) i.number
+hear_event language event value i =
+    run_each language place.Dep (event_arguments event value) (accepts_dep event) i.number
 
 -- each live instance hears the event, in rising number
 abbrev pub hear_all : Language → Name → Value → Runtime → Did
-hear_all language event value r = for_each (hear_event language event value) (reverse (live_of (λ n. true) r)) r
+hear_all language event value r =
+    for_each (hear_event language event value) (reverse (live_of (λ n. true) r)) r
 
 -- what firing an event answers
 pub data Fired : Type 0 where

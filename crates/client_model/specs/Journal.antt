@@ -20,7 +20,8 @@ pub data Happening : Type 0 where
   not_run : ℕ → Name → Happening  -- it is linked to an instance that faulted or wasn't run
   registered : ℕ → Handler → Happening  -- of the instance of this number
   no_host : ℕ → Name → Text → Happening  -- no closure of this label is left
-  ran : ℕ → ℕ → Name → FaultPlace → Bag → Ran → Happening  -- the handler at a place of an instance, the bag before, what was left
+  ran : ℕ → ℕ → Name → FaultPlace → Bag → Ran → Happening
+      -- the handler at a place of an instance, the bag before, what was left
   dropped : ℕ → ℕ → Happening  -- the handler at a place of an instance, unrun
   ended : ℕ → Name → InstanceFate → Happening
   gave_up : Name → Happening  -- the bag of the name
@@ -50,7 +51,8 @@ fate_lines client n Reloaded = []
 -- the lines that something that happened gives
 abbrev pub lines_of : ℕ → Happening → List OutLine
 lines_of client (made i) = []
-lines_of client (evaluated k n bag e) = log_lines client n e.lines ++ fault_lines client n place.Module e.fault
+lines_of client (evaluated k n bag e) =
+    log_lines client n e.lines ++ fault_lines client n place.Module e.fault
 lines_of client (not_run k n) = line.Unrun client n ∷ []
 lines_of client (registered k h) = []
 lines_of client (no_host k n label) = line.NoHost client n label ∷ []

@@ -79,4 +79,5 @@ links_of language n t = map (λ b. (b.dependency, b.exported)) (language.binding
 
 -- each binding of a module's text is from one of the module's imports
 abbrev pub BindsImports : Language → Type 0
-BindsImports language = (n : Name) (t : Text) (a : Analysis) → language.transformed n t ≡ Good a → list_all (λ b. has a.imports b.dependency) (language.bindings n t) ≡ true
+BindsImports language = (n : Name) (t : Text) (a : Analysis) → language.transformed n t ≡ Good a →
+    list_all (λ b. has a.imports b.dependency) (language.bindings n t) ≡ true

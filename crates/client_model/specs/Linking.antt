@@ -23,7 +23,8 @@ is_kept p view n = is_kept_kind p.kind (has p.replaced n) (at view n)
 
 -- the first name of the walk that isn't kept and isn't staged
 abbrev pub next_needed : Plan → Runtime → Option Name
-next_needed p r = first_of (filter (λ n. is_none (entry_at p r.page.view n)) (fetch_order r.roots p r.page.view))
+next_needed p r =
+    first_of (filter (λ n. is_none (entry_at p r.page.view n)) (fetch_order r.roots p r.page.view))
 
 -- the names that get a new instance, in the order of their evaluation
 abbrev pub new_names : Plan → Runtime → List Name
@@ -41,7 +42,9 @@ number_in (Some i) = Some i.number
 
 -- the number of the instance of a name that is live once the plan is applied
 abbrev pub number_after : Plan → Runtime → Name → Option ℕ
-number_after p r n = if has (new_names p r) n then Some (suc (length r.instances) + place_of (new_names p r) n) else number_in (live_at r.instances n)
+number_after p r n =
+    if has (new_names p r) n then Some (suc (length r.instances) + place_of (new_names p r) n)
+    else number_in (live_at r.instances n)
 
 -- an import with its number, where it has one
 abbrev pub link_to : Name → Option ℕ → Option (Name × ℕ)
@@ -67,7 +70,8 @@ bindings_of language n (Some t) = language.bindings n t
 
 -- the imports of the new instances that aren't exported, in the order of evaluation and then of the text
 abbrev pub unlinked_in : Language → Plan → Runtime → List Cause
-unlinked_in language p r = flat_map (λ n. map (λ b. unlinked n b.dependency b.exported) (filter (is_unlinked p r.page.view) (bindings_of language n (at r.texts n)))) (new_names p r)
+unlinked_in language p r = flat_map (λ n. map (λ b. unlinked n b.dependency b.exported)
+    (filter (is_unlinked p r.page.view) (bindings_of language n (at r.texts n)))) (new_names p r)
 
 -- the first import of a new instance that isn't exported
 abbrev pub link_cause : Language → Plan → Runtime → Option Cause

@@ -40,7 +40,8 @@ new_handler entry deed = record { kind = entry.kind; deps = entry.deps; deed = d
 abbrev pub with_handler : ℕ → Registered → Deed → Registry → Registry
 with_handler k entry deed g = record g {
   handlers = with_dropped (is_displaced_by entry.kind) g.handlers ++ new_handler entry deed ∷ [];
-  journal = g.journal ++ (map (dropped k) (places_from 0 (is_displaced_by entry.kind) g.handlers) ++ registered k (new_handler entry deed) ∷ []);
+  journal = g.journal ++ (map (dropped k) (places_from 0 (is_displaced_by entry.kind) g.handlers)
+      ++ registered k (new_handler entry deed) ∷ []);
 }
 
 -- the closures without the first of this label
@@ -51,7 +52,8 @@ without_first label (row ∷ rows) = if same_name row.0 label then rows else row
 -- a closure of the label is taken off the shelf; where none is left nothing is registered
 abbrev pub with_host : Option ℕ → ℕ → Name → Registered → Text → Registry → Registry
 with_host None k n entry label g = record g { journal = g.journal ++ no_host k n label ∷ [] }
-with_host (Some number) k n entry label g = with_handler k entry (host label number) (record g { shelf = without_first label g.shelf })
+with_host (Some number) k n entry label g =
+    with_handler k entry (host label number) (record g { shelf = without_first label g.shelf })
 
 -- code is registered as it is, a closure once it is taken off the shelf
 abbrev pub register_once : OnceTree → ℕ → Name → Registered → Registry → Registry
@@ -60,7 +62,8 @@ register_once (syntax.host label) k n entry g = with_host (at g.shelf label) k n
 
 -- what an evaluation registered, in order
 abbrev pub register_all : ℕ → Name → List Registered → List (Text × ℕ) → Registry
-register_all k n entries shelf = fold (λ g entry. register_once entry.what k n entry g) (record { handlers = []; shelf = shelf; journal = [] }) entries
+register_all k n entries shelf = fold (λ g entry. register_once entry.what k n entry g)
+    (record { handlers = []; shelf = shelf; journal = [] }) entries
 
 -- Done where no fault ended the evaluation
 abbrev pub status_after : Option EvalFault → InstanceStatus
@@ -86,22 +89,41 @@ pub record Birth : Type 0 where
 
 -- the instance, with what its evaluation left
 abbrev pub born : Birth → InstanceStatus → Slots → List Handler → Instance
-born b status values handlers = record { number = b.number; name = b.name; version = b.entry.version; text = b.text; exports = b.entry.analysis.exports; links = b.links; status = status; fate = Live; values = values; handlers = handlers }
+born b status values handlers = record {
+  number = b.number;
+  name = b.name;
+  version = b.entry.version;
+  text = b.text;
+  exports = b.entry.analysis.exports;
+  links = b.links;
+  status = status;
+  fate = Live;
+  values = values;
+  handlers = handlers;
+}
 
 -- it isn't run, since a link failed
 abbrev pub make_unrun : Birth → Runtime → Did
-make_unrun b r = (record r { instances = born b Unrun [] [] ∷ r.instances }, made (born b Unrun [] []) ∷ (not_run b.number b.name ∷ []))
+make_unrun b r = (
+  record r { instances = born b Unrun [] [] ∷ r.instances },
+  made (born b Unrun [] []) ∷ (not_run b.number b.name ∷ []),
+)
 
 -- it was evaluated with its name's bag, and what it registered was registered
 abbrev pub make_evaluated : Birth → Bag → Evaluated → Registry → Runtime → Did
 make_evaluated b bag e g r = (
-  record r { instances = born b (status_after e.fault) e.vars g.handlers ∷ r.instances; bags = with_row b.name e.bag r.bags; shelf = g.shelf },
+  record r {
+    instances = born b (status_after e.fault) e.vars g.handlers ∷ r.instances;
+    bags = with_row b.name e.bag r.bags;
+    shelf = g.shelf;
+  },
   made (born b (status_after e.fault) e.vars g.handlers) ∷ (evaluated b.number b.name bag e ∷ g.journal),
 )
 
 -- the evaluation of a new instance, over what its links hold now
 abbrev pub evaluate : Language → Birth → Runtime → Evaluated
-evaluate language b r = language.evaluated b.name b.text (imported_slots language r.instances b.links b.name b.text) (bag_of r b.name)
+evaluate language b r = language.evaluated b.name b.text
+    (imported_slots language r.instances b.links b.name b.text) (bag_of r b.name)
 
 -- what the evaluation registered
 abbrev pub register_in : Birth → Evaluated → Runtime → Registry
@@ -109,8 +131,12 @@ register_in b e r = register_all b.number b.name e.registered r.shelf
 
 -- a new instance is evaluated
 abbrev pub make_run : Language → Birth → Runtime → Did
-make_run language b r = let e : Evaluated = evaluate language b r in make_evaluated b (bag_of r b.name) e (register_in b e r) r
+make_run language b r =
+    let e : Evaluated = evaluate language b r in
+    make_evaluated b (bag_of r b.name) e (register_in b e r) r
 
 -- a new instance: unrun where a link failed, else evaluated
 abbrev pub make : Language → Birth → Runtime → Did
-make language b r = let run : Did = make_run language b r in if has_failed_link r.instances b.links then make_unrun b r else run
+make language b r =
+    let run : Did = make_run language b r in
+    if has_failed_link r.instances b.links then make_unrun b r else run

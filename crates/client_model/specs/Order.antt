@@ -20,7 +20,9 @@ left_too n w = record w { left = w.left ++ n ∷ [] }
 
 -- a module that was met before is passed; else it is met, then what it leads to, then it is left
 abbrev pub visit : (List Name → Walked → Walked) → (Name → List Name) → Walked → Name → Walked
-visit deeper next w n = let visited : Walked = left_too n (deeper (next n) (met_too n w)) in if has w.met n then w else visited
+visit deeper next w n =
+    let visited : Walked = left_too n (deeper (next n) (met_too n w)) in
+    if has w.met n then w else visited
 
 -- the modules of a list are visited in order, so deep at most
 abbrev pub walk : ℕ → (Name → List Name) → List Name → Walked → Walked

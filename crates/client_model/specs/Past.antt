@@ -32,4 +32,5 @@ runtime_after language opening (came ∷ past) = (met language came (runtime_aft
 -- all that happened meanwhile, the oldest first
 abbrev pub journal_of : Language → Opening → Past → Journal
 journal_of language opening [] = []
-journal_of language opening (came ∷ past) = journal_of language opening past ++ (met language came (runtime_after language opening past)).1
+journal_of language opening (came ∷ past) =
+    journal_of language opening past ++ (met language came (runtime_after language opening past)).1

@@ -45,7 +45,9 @@ value_lines_in n (Some i) = map (λ x. line.Value n x (slot_at i.values x)) i.ex
 
 -- the exports of each live module with what they hold
 abbrev pub value_lines : Runtime → List OutLine
-value_lines r = line.Values r.client ∷ flat_map (λ n. value_lines_in n (live_at r.instances n)) (sorted (names_of r.page.view))
+value_lines r =
+    line.Values r.client
+    ∷ flat_map (λ n. value_lines_in n (live_at r.instances n)) (sorted (names_of r.page.view))
 
 -- whether a handler is code or a closure
 abbrev pub handled_by : Deed → Handled

@@ -29,7 +29,8 @@ export_by (Some k) instances x = export_in (numbered instances k) x
 
 -- what the imports of a text hold now, by their local names, where its links are these
 abbrev pub imported_slots : Language → List Instance → List (Name × ℕ) → Name → Text → Slots
-imported_slots language instances links n t = map (λ b. (b.local, export_by (at links b.dependency) instances b.exported)) (language.bindings n t)
+imported_slots language instances links n t =
+    map (λ b. (b.local, export_by (at links b.dependency) instances b.exported)) (language.bindings n t)
 
 -- what the code of an instance reads: its own variables, and its imports
 abbrev pub scope_of : Language → Runtime → Instance → Slots
@@ -66,16 +67,27 @@ version_in (Some i) = i.version
 
 -- an invalidation is of the version of the name that is live
 abbrev pub invalidation : Runtime → Name → Text → Invalidation
-invalidation r n message = record { name = n; version = version_in (live_at r.instances n); message = message }
+invalidation r n message = record {
+  name = n;
+  version = version_in (live_at r.instances n);
+  message = message;
+}
 
 -- what a run leaves of the instance
 abbrev pub after_run : ℕ → HandlerKind → Ran → Instance → Instance
-after_run spot kind left i = record i { values = fold assigned i.values left.changes; handlers = with_end spot (end_after kind) i.handlers }
+after_run spot kind left i = record i {
+  values = fold assigned i.values left.changes;
+  handlers = with_end spot (end_after kind) i.handlers;
+}
 
 -- the handler at a place of the instance was run, with its name's bag
 abbrev pub did_run : FaultPlace → Instance → ℕ → Handler → Ran → Runtime → Did
 did_run at i spot h left r = (
-  record r { instances = with_change i.number (after_run spot h.kind left) r.instances; bags = with_row i.name left.bag r.bags; unsent = r.unsent ++ map (invalidation r i.name) left.invalidations },
+  record r {
+    instances = with_change i.number (after_run spot h.kind left) r.instances;
+    bags = with_row i.name left.bag r.bags;
+    unsent = r.unsent ++ map (invalidation r i.name) left.invalidations;
+  },
   ran i.number spot i.name at (bag_of r i.name) left ∷ [],
 )
 
@@ -85,18 +97,25 @@ run_deed language (code tree) scope arguments bag = language.ran tree scope argu
 run_deed language (host label number) scope arguments bag = language.hosted label number bag
 
 -- a handler is run over its instance's scope and bag
-abbrev pub run_handler : Language → FaultPlace → (Runtime → Handler → List (Option Slots)) → Instance → ℕ → Option Handler → Runtime → Did
+abbrev pub run_handler : Language → FaultPlace → (Runtime → Handler → List (Option Slots)) → Instance → ℕ →
+    Option Handler → Runtime → Did
 run_handler language at arguments i spot None r = nothing r
-run_handler language at arguments i spot (Some h) r = did_run at i spot h (run_deed language h.deed (scope_of language r i) (arguments r h) (bag_of r i.name)) r
+run_handler language at arguments i spot (Some h) r =
+    did_run at i spot h (run_deed language h.deed (scope_of language r i) (arguments r h) (bag_of r i.name)) r
 
 -- the handler at a place of an instance is run
-abbrev pub run_of : Language → FaultPlace → (Runtime → Handler → List (Option Slots)) → Option Instance → ℕ → Runtime → Did
+abbrev pub run_of : Language → FaultPlace → (Runtime → Handler → List (Option Slots)) →
+    Option Instance → ℕ → Runtime → Did
 run_of language at arguments None spot r = nothing r
-run_of language at arguments (Some i) spot r = run_handler language at arguments i spot (slice_get i.handlers spot) r
+run_of language at arguments (Some i) spot r =
+    run_handler language at arguments i spot (slice_get i.handlers spot) r
 
 -- the handlers of an instance that pass the test are run, in the order of registration
-abbrev pub run_each : Language → FaultPlace → (Runtime → Handler → List (Option Slots)) → (Handler → Bool) → ℕ → Runtime → Did
-run_each language at arguments test k r = for_each (λ spot r. run_of language at arguments (numbered r.instances k) spot r) (places_of test (numbered r.instances k)) r
+abbrev pub run_each : Language → FaultPlace → (Runtime → Handler → List (Option Slots)) →
+    (Handler → Bool) → ℕ → Runtime → Did
+run_each language at arguments test k r =
+    for_each (λ spot r. run_of language at arguments (numbered r.instances k) spot r)
+    (places_of test (numbered r.instances k)) r
 
 -- no arguments, as for a disposer
 abbrev pub no_arguments : Runtime → Handler → List (Option Slots)
@@ -104,11 +123,19 @@ no_arguments r h = []
 
 -- the handlers of an instance that pass the test are dropped unrun
 abbrev pub drop_each : (Handler → Bool) → ℕ → Runtime → Did
-drop_each test k r = (record r { instances = with_change k (λ i. record i { handlers = with_dropped test i.handlers }) r.instances }, map (dropped k) (places_of test (numbered r.instances k)))
+drop_each test k r = (
+  record r {
+    instances = with_change k (λ i. record i { handlers = with_dropped test i.handlers }) r.instances;
+  },
+  map (dropped k) (places_of test (numbered r.instances k)),
+)
 
 -- an instance gets its fate
 abbrev pub end_instance : InstanceFate → ℕ → Name → Runtime → Did
-end_instance fate k n r = (record r { instances = with_change k (λ i. record i { fate = fate }) r.instances }, ended k n fate ∷ [])
+end_instance fate k n r = (
+  record r { instances = with_change k (λ i. record i { fate = fate }) r.instances },
+  ended k n fate ∷ [],
+)
 
 -- the bag of a name is given up
 abbrev pub give_up_bag : Name → Runtime → Did

@@ -41,7 +41,8 @@ pub record IsStale (r : Runtime) (b x : Name) : Type 0 where
 
 -- the stale edges, rising by importer and then by dependency
 abbrev pub stale_from : Runtime → Name → List (Name × Name)
-stale_from r b = map (λ x. (b, x)) (filter (λ x. not (same_link (link_of r b x) (live_number r x))) (sorted (imports_of (at r.page.view b))))
+stale_from r b = map (λ x. (b, x))
+    (filter (λ x. not (same_link (link_of r b x) (live_number r x))) (sorted (imports_of (at r.page.view b))))
 
 -- all stale edges, rising by importer and then by dependency
 abbrev pub stale_of : Runtime → List (Name × Name)
@@ -73,4 +74,6 @@ pub record StopsAt (before after : Runtime) (k : ℕ) (b x : Name) : Type 0 wher
 -- some update did, since the instance was made
 abbrev pub Stopped : Language → Opening → Past → ℕ → Name → Name → Type 0
 Stopped language opening [] k b x = ⊥
-Stopped language opening (came ∷ past) k b x = StopsAt (runtime_after language opening past) (runtime_after language opening (came ∷ past)) k b x ⊎ Stopped language opening past k b x
+Stopped language opening (came ∷ past) k b x =
+    StopsAt (runtime_after language opening past) (runtime_after language opening (came ∷ past)) k b x
+    ⊎ Stopped language opening past k b x

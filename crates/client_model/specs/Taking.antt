@@ -28,7 +28,8 @@ is_applied asked m = false
 
 -- applying would make more instances than a client may
 abbrev pub is_too_many : ClientMsg → ServerMsg → Runtime → Bool
-is_too_many asked m r = is_applied asked m && nat_lt INSTANCES (length r.instances + made_by_plan r.page.plan r)
+is_too_many asked m r =
+    is_applied asked m && nat_lt INSTANCES (length r.instances + made_by_plan r.page.plan r)
 
 -- what taking a message answers
 pub data Taken : Type 0 where
@@ -62,5 +63,7 @@ take language r m =
     let asked : ClientMsg = request language r in
     let did : Taking = did_take (answered language asked m r) in
     if r.stopped then unchanged_by is_stopped r else (
-    if not (is_answer r.page.loaded asked m) then unchanged_by (unexpected (request_place asked) (answer_place m)) r else (
+    if not (is_answer r.page.loaded asked m)
+    then unchanged_by (unexpected (request_place asked) (answer_place m)) r
+    else (
     if is_too_many asked m r then stop r else did))

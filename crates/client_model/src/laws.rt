@@ -14,13 +14,16 @@ ghost use Rattle.client_model.specs.Order.{fetch_order, evaluation_order};
 
 /// A client's walk meets exactly the modules that the core's walk of the plan meets.
 pub fn walk_meets_what_is_reached()
-    ensures reached { (roots : List Name) (p : Plan) (view : View) (m : Name) → (has (fetch_order roots p view) m ≡ true) ↔ Reaches (plan_imports p view) roots m }
-    ensures core { (roots : List Name) (p : Plan) (view : View) (m : Name) → has (fetch_order roots p view) m ≡ has (met_of roots p view) m }
+    ensures reached { (roots : List Name) (p : Plan) (view : View) (m : Name) →
+        (has (fetch_order roots p view) m ≡ true) ↔ Reaches (plan_imports p view) roots m }
+    ensures core { (roots : List Name) (p : Plan) (view : View) (m : Name) →
+        has (fetch_order roots p view) m ≡ has (met_of roots p view) m }
 {}
 
 /// The order of evaluation has the modules of the order of fetching.
 pub fn orders_have_the_same_modules()
-    ensures { (roots : List Name) (p : Plan) (view : View) (m : Name) → has (fetch_order roots p view) m ≡ has (evaluation_order roots p view) m }
+    ensures { (roots : List Name) (p : Plan) (view : View) (m : Name) →
+        has (fetch_order roots p view) m ≡ has (evaluation_order roots p view) m }
 {}
 
 /// The bag that a client keeps for a name is the one that all that happened left: what the last
@@ -32,5 +35,6 @@ pub fn bags_are_what_was_left()
 
 /// The bag of a module is empty after its prune.
 pub fn pruned_module_has_an_empty_bag()
-    ensures { (language : Language) (i : Instance) (r : Runtime) → bag_of (prune_instance language i r).0 i.name ≡ [] }
+    ensures { (language : Language) (i : Instance) (r : Runtime) →
+        bag_of (prune_instance language i r).0 i.name ≡ [] }
 {}

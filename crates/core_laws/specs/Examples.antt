@@ -41,7 +41,9 @@ served = saved m first_text (plain (a ∷ []) (a ∷ [])) 1 ++ saved a first_tex
 
 -- the client of this number loads the page
 abbrev pub loads : ℕ → List Event
-loads i = connect [] ∷ request i (fetch m) ∷ request i (fetch a) ∷ request i (applied_as ((a, 2) ∷ (m, 1) ∷ [])) ∷ []
+loads i =
+    connect [] ∷ request i (fetch m) ∷ request i (fetch a)
+    ∷ request i (applied_as ((a, 2) ∷ (m, 1) ∷ [])) ∷ []
 
 -- a is saved with an import of b, which is new
 abbrev pub grown : List Event
@@ -49,7 +51,9 @@ grown = saved a second_text (plain (b ∷ []) []) 3 ++ saved b first_text (plain
 
 -- the first client updates its page
 abbrev pub updates : List Event
-updates = request 1 ask ∷ request 1 (fetch a) ∷ request 1 (fetch b) ∷ request 1 (applied_as ((a, 3) ∷ (b, 4) ∷ (m, 1) ∷ [])) ∷ []
+updates =
+    request 1 ask ∷ request 1 (fetch a) ∷ request 1 (fetch b)
+    ∷ request 1 (applied_as ((a, 3) ∷ (b, 4) ∷ (m, 1) ∷ [])) ∷ []
 
 -- a is saved without the import
 abbrev pub shrunk : List Event
@@ -57,7 +61,8 @@ shrunk = saved a third_text (plain [] []) 5
 
 -- and updates it again
 abbrev pub updates_again : List Event
-updates_again = request 1 ask ∷ request 1 (fetch a) ∷ request 1 (applied_as ((a, 5) ∷ (b, 4) ∷ (m, 1) ∷ [])) ∷ []
+updates_again =
+    request 1 ask ∷ request 1 (fetch a) ∷ request 1 (applied_as ((a, 5) ∷ (b, 4) ∷ (m, 1) ∷ [])) ∷ []
 
 -- m imports a, which accepts itself
 abbrev pub served_leaf : List Event
@@ -65,7 +70,9 @@ served_leaf = saved m first_text (plain (a ∷ []) []) 1 ++ saved a first_text (
 
 -- a is saved while the first client loads the page, which has then fetched both modules
 abbrev pub loads_meanwhile : List Event
-loads_meanwhile = connect [] ∷ request 1 (fetch m) ∷ request 1 (fetch a) ∷ saved a second_text (plain [] []) 3 ++ request 1 (applied_as ((a, 2) ∷ (m, 1) ∷ [])) ∷ []
+loads_meanwhile =
+    connect [] ∷ request 1 (fetch m) ∷ request 1 (fetch a) ∷ saved a second_text (plain [] []) 3
+    ++ request 1 (applied_as ((a, 2) ∷ (m, 1) ∷ [])) ∷ []
 
 -- m is to be told that a has this version
 abbrev pub told_of_a : ℕ → JsUpdate

@@ -15,7 +15,8 @@ given_too late m w before n v = before n v
 abbrev pub analysis_given : List Change → Name → ℕ → Option Analysis
 analysis_given [] n v = None
 analysis_given (edit m t ∷ past) n v = analysis_given past n v
-analysis_given (result m t o w ∷ past) n v = given_too (result_answer (sources_after past) m t o w) m w (analysis_given past) n v
+analysis_given (result m t o w ∷ past) n v =
+    given_too (result_answer (sources_after past) m t o w) m w (analysis_given past) n v
 
 -- what is served of a name, as an entry of a page
 abbrev pub entry_of : Option Serving → Option Entry

@@ -14,7 +14,8 @@ abbrev pub IsTrueChange : (Name → Text → Outcome) → Change → Type 0
 IsTrueChange transformed ch = IsTrueEvent transformed (change ch)
 
 -- an edit of n with some text was counted as v, and transforming that text gives this analysis
-pub record IsOfText (transformed : Name → Text → Outcome) (written : Name → ℕ → Option Text) (n : Name) (v : ℕ) (a : Analysis) : Type 0 where
+pub record IsOfText (transformed : Name → Text → Outcome) (written : Name → ℕ → Option Text) (n : Name)
+    (v : ℕ) (a : Analysis) : Type 0 where
   pub text : Text
   pub counted : written n v ≡ Some text
   pub analysed : transformed n text ≡ Good a

@@ -93,4 +93,8 @@ number_or_zero (Some v) = v
 
 -- a boundary is told of a module, with the version that is served of it
 abbrev pub js_update : Sources → Name × Name → JsUpdate
-js_update s pair = record { path = pair.0; accepted_path = pair.1; timestamp = number_or_zero (version_in (at s.served pair.1)) }
+js_update s pair = record {
+  path = pair.0;
+  accepted_path = pair.1;
+  timestamp = number_or_zero (version_in (at s.served pair.1));
+}

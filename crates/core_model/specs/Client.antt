@@ -19,7 +19,14 @@ pub record Client : Type 0 where
 
 -- a client that has just been connected
 abbrev pub new_client : List Name → ℕ → Client
-new_client roots served_no = record { roots = roots; batches = 0; page = new_page; plan_at = served_no; held_at = None; notices = [] }
+new_client roots served_no = record {
+  roots = roots;
+  batches = 0;
+  page = new_page;
+  plan_at = served_no;
+  held_at = None;
+  notices = [];
+}
 
 -- the number is there, and is this one
 abbrev pub same_number : Option ℕ → ℕ → Bool

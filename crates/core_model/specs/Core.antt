@@ -9,7 +9,8 @@ use Rattle.core_model.specs.Sources.{Sources, Change, edit, result, edit_answer,
 use Rattle.core_model.specs.Client.{Client, new_client, told_of_edit, told_of_result}
 use Rattle.core_model.specs.Requests.{Request, Reply, edited, settled, to_client, refused, gone, heard}
 
--- an edit or a result, a client that comes and names its roots or none, a request of a client, or a client that goes
+-- an edit or a result, a client that comes and names its roots or none, a request of a client, or a client
+-- that goes
 pub data Event : Type 0 where
   change : Change → Event
   connect : List Name → Event
@@ -54,7 +55,10 @@ told_of s (result n t o v) c = told_of_result (result_answer s n t o v) n c
 
 -- the core after an edit or a result
 abbrev pub after_change : Core → Change → Core
-after_change core ch = record core { sources = changed_by core.sources ch; clients = each_client (told_of core.sources ch) core.clients }
+after_change core ch = record core {
+  sources = changed_by core.sources ch;
+  clients = each_client (told_of core.sources ch) core.clients;
+}
 
 -- no further client is taken
 abbrev pub is_full : Core → Bool
@@ -63,7 +67,10 @@ is_full core = nat_le CLIENTS (length core.clients) || nat_le LARGEST_CLIENT cor
 -- a client gets the next number, with these roots
 abbrev pub admitted : List Name → Core → Core × Reply
 admitted roots core = (
-  record core { clients = with_client (core.given + 1) (new_client roots core.sources.served_no) core.clients; given = core.given + 1 },
+  record core {
+    clients = with_client (core.given + 1) (new_client roots core.sources.served_no) core.clients;
+    given = core.given + 1;
+  },
   to_client (msg.Connected (core.given + 1) roots),
 )
 
@@ -80,7 +87,10 @@ connected false roots core = if_room (is_full core) roots core
 -- a connected client's request is heard on its own record
 abbrev pub requested : Option Client → ℕ → Core → Request → Core × Reply
 requested None i core r = (core, refused UnknownClient)
-requested (Some c) i core r = (record core { clients = with_client i (heard i core.sources c r).0 core.clients }, (heard i core.sources c r).1)
+requested (Some c) i core r = (
+  record core { clients = with_client i (heard i core.sources c r).0 core.clients },
+  (heard i core.sources c r).1,
+)
 
 -- a connected client is no more
 abbrev pub disconnected : Option Client → ℕ → Core → Core × Reply
@@ -110,7 +120,8 @@ replay roots events = core_after roots (reverse events)
 -- the replies to the events, in their order
 abbrev pub replies : List Name → Core → List Event → List Reply
 replies roots core [] = []
-replies roots core (event ∷ events) = (step roots core event).1 ∷ replies roots (step roots core event).0 events
+replies roots core (event ∷ events) =
+    (step roots core event).1 ∷ replies roots (step roots core event).0 events
 
 -- the edits and results among the events
 abbrev pub changes_of : List Event → List Change

@@ -11,7 +11,13 @@ use Rattle.core_model.specs.View.{View, Entry}
 
 -- a module that imports these, and accepts those of them
 abbrev pub plain : List Name → List Name → Analysis
-plain imports accepted = record { imports = imports; exports = []; self_accepts = false; accepted = accepted; declined = false }
+plain imports accepted = record {
+  imports = imports;
+  exports = [];
+  self_accepts = false;
+  accepted = accepted;
+  declined = false;
+}
 
 abbrev pub self_accepting : Analysis → Analysis
 self_accepting a = record a { self_accepts = true }
@@ -45,19 +51,27 @@ x = codes "/x.js"
 
 -- m imports a, which imports b
 abbrev pub chain : View
-chain = (m, at_version 1 (plain (a ∷ []) [])) ∷ (a, at_version 2 (plain (b ∷ []) [])) ∷ (b, at_version 3 (plain [] [])) ∷ []
+chain =
+    (m, at_version 1 (plain (a ∷ []) [])) ∷ (a, at_version 2 (plain (b ∷ []) []))
+    ∷ (b, at_version 3 (plain [] [])) ∷ []
 
 -- m imports a and b; both import c, and a accepts it
 abbrev pub diamond : View
-diamond = (m, at_version 1 (plain (a ∷ b ∷ []) [])) ∷ (a, at_version 2 (plain (c ∷ []) (c ∷ []))) ∷ (b, at_version 3 (plain (c ∷ []) [])) ∷ (c, at_version 4 (plain [] [])) ∷ []
+diamond =
+    (m, at_version 1 (plain (a ∷ b ∷ []) [])) ∷ (a, at_version 2 (plain (c ∷ []) (c ∷ [])))
+    ∷ (b, at_version 3 (plain (c ∷ []) [])) ∷ (c, at_version 4 (plain [] [])) ∷ []
 
 -- m accepts a; a and b import each other, b accepts itself, and a imports x
 abbrev pub cycle : View
-cycle = (m, at_version 1 (plain (a ∷ []) (a ∷ []))) ∷ (a, at_version 2 (plain (b ∷ x ∷ []) [])) ∷ (b, at_version 3 (self_accepting (plain (a ∷ []) []))) ∷ (x, at_version 4 (plain [] [])) ∷ []
+cycle =
+    (m, at_version 1 (plain (a ∷ []) (a ∷ []))) ∷ (a, at_version 2 (plain (b ∷ x ∷ []) []))
+    ∷ (b, at_version 3 (self_accepting (plain (a ∷ []) []))) ∷ (x, at_version 4 (plain [] [])) ∷ []
 
 -- m accepts a, which imports d, which imports e and declines
 abbrev pub decliner : View
-decliner = (m, at_version 1 (plain (a ∷ []) (a ∷ []))) ∷ (a, at_version 2 (plain (d ∷ []) [])) ∷ (d, at_version 3 (declining (plain (e ∷ []) []))) ∷ (e, at_version 4 (plain [] [])) ∷ []
+decliner =
+    (m, at_version 1 (plain (a ∷ []) (a ∷ []))) ∷ (a, at_version 2 (plain (d ∷ []) []))
+    ∷ (d, at_version 3 (declining (plain (e ∷ []) []))) ∷ (e, at_version 4 (plain [] [])) ∷ []
 
 -- m imports a, which accepts itself
 abbrev pub leaf : View
@@ -65,15 +79,21 @@ leaf = (m, at_version 1 (plain (a ∷ []) [])) ∷ (a, at_version 2 (self_accept
 
 -- m imports a and b, and accepts a
 abbrev pub half_accepting : View
-half_accepting = (m, at_version 1 (plain (a ∷ b ∷ []) (a ∷ []))) ∷ (a, at_version 2 (plain [] [])) ∷ (b, at_version 3 (plain [] [])) ∷ []
+half_accepting =
+    (m, at_version 1 (plain (a ∷ b ∷ []) (a ∷ []))) ∷ (a, at_version 2 (plain [] []))
+    ∷ (b, at_version 3 (plain [] [])) ∷ []
 
 -- m imports nothing; a and b import each other
 abbrev pub rootless_cycle : View
-rootless_cycle = (m, at_version 1 (plain [] [])) ∷ (a, at_version 2 (plain (b ∷ []) [])) ∷ (b, at_version 3 (plain (a ∷ []) [])) ∷ []
+rootless_cycle =
+    (m, at_version 1 (plain [] [])) ∷ (a, at_version 2 (plain (b ∷ []) []))
+    ∷ (b, at_version 3 (plain (a ∷ []) [])) ∷ []
 
 -- m imports c and b, which both import a
 abbrev pub two_ways : View
-two_ways = (m, at_version 1 (plain (c ∷ b ∷ []) [])) ∷ (b, at_version 2 (plain (a ∷ []) [])) ∷ (c, at_version 3 (plain (a ∷ []) [])) ∷ (a, at_version 4 (plain [] [])) ∷ []
+two_ways =
+    (m, at_version 1 (plain (c ∷ b ∷ []) [])) ∷ (b, at_version 2 (plain (a ∷ []) []))
+    ∷ (c, at_version 3 (plain (a ∷ []) [])) ∷ (a, at_version 4 (plain [] [])) ∷ []
 
 -- a module that exports n
 abbrev pub one_text : Text
@@ -88,7 +108,10 @@ serving_one = replay (m ∷ []) (change (edit m (Some one_text)) ∷ change (res
 
 -- a client asks out of turn, tells tables that aren't its plan's, and invalidates what doesn't accept itself
 abbrev pub lies : List Event
-lies = connect [] ∷ request 1 ask ∷ request 1 (applied_as []) ∷ request 1 (fetch m) ∷ request 1 (applied_as ((m, 2) ∷ [])) ∷ request 1 (applied_as ((m, 1) ∷ [])) ∷ request 1 (invalidate m 1) ∷ request 2 ask ∷ []
+lies =
+    connect [] ∷ request 1 ask ∷ request 1 (applied_as [])
+    ∷ request 1 (fetch m) ∷ request 1 (applied_as ((m, 2) ∷ [])) ∷ request 1 (applied_as ((m, 1) ∷ []))
+    ∷ request 1 (invalidate m 1) ∷ request 2 ask ∷ []
 
 -- A transcript: m is saved and its text is good, a client loads the page, and m is removed.
 

@@ -49,9 +49,11 @@ names_in format names = if format == 1 then [] else names
 -- a message as it is read in a format
 abbrev pub read_in : ℕ → ServerMsg → ServerMsg
 read_in format (msg.Connected client roots) = msg.Connected client roots
-read_in format (msg.Update replaced updates batch triggered) = msg.Update replaced updates (batch_in format batch) (names_in format triggered)
+read_in format (msg.Update replaced updates batch triggered) =
+    msg.Update replaced updates (batch_in format batch) (names_in format triggered)
 read_in format (msg.Prune paths) = msg.Prune paths
-read_in format (msg.FullReload cause path batch triggered) = msg.FullReload cause path (batch_in format batch) (names_in format triggered)
+read_in format (msg.FullReload cause path batch triggered) =
+    msg.FullReload cause path (batch_in format batch) (names_in format triggered)
 read_in format (msg.Error n row column word) = msg.Error n row column word
 read_in format (msg.Broken n row column word) = msg.Broken n row column word
 read_in format msg.Idle = msg.Idle

@@ -45,16 +45,20 @@ linked_from links m = map (λ link. link.1) (filter (λ link. same_name link.0 m
 -- the imports of n from a served m that m doesn't export
 abbrev pub unlinked_edge : List (Name × Name) → Option Serving → Name → Name → List (Name × Name × Name)
 unlinked_edge links None n m = []
-unlinked_edge links (Some s) n m = map (λ x. (n, m, x)) (sorted (filter (λ x. not (has s.analysis.exports x)) (linked_from links m)))
+unlinked_edge links (Some s) n m =
+    map (λ x. (n, m, x)) (sorted (filter (λ x. not (has s.analysis.exports x)) (linked_from links m)))
 
 -- the imports of n from served modules that they don't export
-abbrev pub unlinked_module : (Name → Text → List (Name × Name)) → Served → Name → Option Serving → List (Name × Name × Name)
+abbrev pub unlinked_module : (Name → Text → List (Name × Name)) → Served → Name → Option Serving →
+    List (Name × Name × Name)
 unlinked_module links served n None = []
-unlinked_module links served n (Some s) = flat_map (λ m. unlinked_edge (links n s.text) (at served m) n m) (sorted s.analysis.imports)
+unlinked_module links served n (Some s) =
+    flat_map (λ m. unlinked_edge (links n s.text) (at served m) n m) (sorted s.analysis.imports)
 
 -- n, m and x for each reached n that imports x from a served m that doesn't export it, rising
 abbrev pub unlinked_of : (Name → Text → List (Name × Name)) → Served → List Name → List (Name × Name × Name)
-unlinked_of links served roots = flat_map (λ n. unlinked_module links served n (at served n)) (reached_by served roots)
+unlinked_of links served roots =
+    flat_map (λ n. unlinked_module links served n (at served n)) (reached_by served roots)
 
 -- a page load of what is served
 pub record FreshLoad : Type 0 where
@@ -65,7 +69,11 @@ pub record FreshLoad : Type 0 where
 -- The fresh load. What a text imports from which dependency only its tree tells: links gives for a
 -- module's name and text each dependency with the name that is imported from it, in the text's order.
 abbrev pub fresh_load : (Name → Text → List (Name × Name)) → Served → List Name → FreshLoad
-fresh_load links served roots = record { table = fresh_table served roots; missing = missing_of served roots; unlinked = unlinked_of links served roots }
+fresh_load links served roots = record {
+  table = fresh_table served roots;
+  missing = missing_of served roots;
+  unlinked = unlinked_of links served roots;
+}
 
 -- everything reached is served, and every import is exported
 pub record IsWhole (fresh : FreshLoad) : Type 0 where

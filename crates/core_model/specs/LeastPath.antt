@@ -20,7 +20,8 @@ abbrev pub AtMost : List Name → List Name → Type 0
 AtMost p q = (length p < length q) ⊎ ((length p ≡ length q) × NotAfter p q)
 
 -- a path with a bad end, and each other such path comes after it
-pub record IsLeastPath (edge : Name → Name → Bool) (starts : List Name) (bad : Name → Bool) (path : List Name) : Type 0 where
+pub record IsLeastPath (edge : Name → Name → Bool) (starts : List Name) (bad : Name → Bool)
+    (path : List Name) : Type 0 where
   pub end : Name
   pub is : IsPath edge starts path end
   pub badly : bad end ≡ true
@@ -40,7 +41,8 @@ least f (n ∷ names) = lesser (f n) (least f names)
 -- the least path from n of k + 1 names that has a bad end
 abbrev pub least_from : (Name → Name → Bool) → List Name → (Name → Bool) → ℕ → Name → Option (List Name)
 least_from edge names bad zero n = if bad n then Some (n ∷ []) else None
-least_from edge names bad (suc k) n = option_map (λ path. n ∷ path) (least (least_from edge names bad k) (filter (edge n) names))
+least_from edge names bad (suc k) n =
+    option_map (λ path. n ∷ path) (least (least_from edge names bad k) (filter (edge n) names))
 
 -- the first that is there
 abbrev pub or_next : Option (List Name) → Option (List Name) → Option (List Name)
@@ -54,4 +56,5 @@ shortest f k (suc more) = let next : Option (List Name) = shortest f (suc k) mor
 
 -- the least path from the starts, where each edge leads to one of the names
 abbrev pub least_path_of : (Name → Name → Bool) → List Name → List Name → (Name → Bool) → Option (List Name)
-least_path_of edge names starts bad = shortest (λ k. least (least_from edge names bad k) starts) 0 (1 + length names)
+least_path_of edge names starts bad =
+    shortest (λ k. least (least_from edge names bad k) starts) 0 (1 + length names)

@@ -28,7 +28,9 @@ edited_last (edit_refused w) t before = before
 -- the last counted edit of n: its number and its text, none where it is a removal or there is none
 abbrev pub last_edit : List Change → Name → Option (ℕ × Text)
 last_edit [] n = None
-last_edit (edit m t ∷ past) n = if same_name m n then edited_last (edit_answer (sources_after past) m t) t (last_edit past n) else last_edit past n
+last_edit (edit m t ∷ past) n =
+    if same_name m n then edited_last (edit_answer (sources_after past) m t) t (last_edit past n)
+    else last_edit past n
 last_edit (result m t o v ∷ past) n = last_edit past n
 
 -- a removal leaves none of the results before it
@@ -47,8 +49,12 @@ good_last late t v before = before
 -- the last good result for n with no removal of n after it
 abbrev pub last_good : List Change → Name → Option Serving
 last_good [] n = None
-last_good (edit m t ∷ past) n = if same_name m n then good_left (edit_answer (sources_after past) m t) (last_good past n) else last_good past n
-last_good (result m t o v ∷ past) n = if same_name m n then good_last (result_answer (sources_after past) m t o v) t v (last_good past n) else last_good past n
+last_good (edit m t ∷ past) n =
+    if same_name m n then good_left (edit_answer (sources_after past) m t) (last_good past n)
+    else last_good past n
+last_good (result m t o v ∷ past) n =
+    if same_name m n then good_last (result_answer (sources_after past) m t o v) t v (last_good past n)
+    else last_good past n
 
 -- the number and the text of a source
 abbrev pub source_edit : Option Source → Option (ℕ × Text)

@@ -15,7 +15,8 @@ pub record IsMissing (served : Served) (roots : List Name) (n : Name) : Type 0 w
   pub unserved : at served n ≡ None
 
 -- n is reached, and its served text imports x from m, which is served and doesn't export x
-pub record IsUnlinked (links : Name → Text → List (Name × Name)) (served : Served) (roots : List Name) (n m x : Name) : Type 0 where
+pub record IsUnlinked (links : Name → Text → List (Name × Name)) (served : Served) (roots : List Name)
+    (n m x : Name) : Type 0 where
   pub importer : Serving
   pub dependency : Serving
   pub reached : Reaches (imports served) roots n

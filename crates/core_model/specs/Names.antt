@@ -50,7 +50,9 @@ collect get (n ∷ names) = with_entry n (get n) (collect get names)
 -- the name put into a list that rises by bytes, where it isn't in it yet
 abbrev pub put_name : Name → List Name → List Name
 put_name n [] = n ∷ []
-put_name n (m ∷ names) = if same_name n m then m ∷ names else (if is_lt (slice_cmp nat_cmp n m) then n ∷ (m ∷ names) else m ∷ put_name n names)
+put_name n (m ∷ names) =
+    if same_name n m then m ∷ names
+    else (if is_lt (slice_cmp nat_cmp n m) then n ∷ (m ∷ names) else m ∷ put_name n names)
 
 -- the names of a list, each once, rising by bytes
 abbrev pub sorted : List Name → List Name

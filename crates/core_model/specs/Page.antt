@@ -64,7 +64,8 @@ new_entry met p view n = if met then entry_at p view n else unmet_entry p.kind (
 -- the view that the plan makes: the entries of the met names, and in an update also the old entries
 -- of names that aren't met
 abbrev pub new_view : List Name → Plan → View → View
-new_view roots p view = collect (λ n. new_entry (has (met_of roots p view) n) p view n) (sorted (met_of roots p view ++ names_of view))
+new_view roots p view = collect (λ n. new_entry (has (met_of roots p view) n) p view n)
+    (sorted (met_of roots p view ++ names_of view))
 
 -- a plan begins
 abbrev pub begun : PlanKind → List Name → Page → Page
@@ -76,7 +77,12 @@ staged p n e page = record page { plan = Some (record p { staged = with_row n e 
 
 -- the plan was applied
 abbrev pub applied : List Name → Plan → Page → Page
-applied roots p page = record page { loaded = true; view = new_view roots p page.view; forced = []; plan = None }
+applied roots p page = record page {
+  loaded = true;
+  view = new_view roots p page.view;
+  forced = [];
+  plan = None;
+}
 
 -- the plan was given up
 abbrev pub given_up : Page → Page
@@ -84,7 +90,10 @@ given_up page = record page { plan = None }
 
 -- modules left the page
 abbrev pub pruned : List Name → Page → Page
-pruned names page = record page { view = without_all names page.view; forced = filter (λ n. not (has names n)) page.forced }
+pruned names page = record page {
+  view = without_all names page.view;
+  forced = filter (λ n. not (has names n)) page.forced;
+}
 
 -- a module was invalidated
 abbrev pub forced_too : Name → Page → Page

@@ -38,7 +38,8 @@ ask_reply i s c (tell n fault) = to_client (msg.Error n fault.line fault.col fau
 ask_reply i s c load = to_client (msg.Connected i c.roots)
 ask_reply i s c idle = to_client msg.Idle
 ask_reply i s c (prune ns) = to_client (msg.Prune ns)
-ask_reply i s c (reload path) = to_client (msg.FullReload (cause_of c.page.view path) path c.batches (triggered s c))
+ask_reply i s c (reload path) =
+    to_client (msg.FullReload (cause_of c.page.view path) path c.batches (triggered s c))
 ask_reply i s c (update ns ps) = to_client (msg.Update ns (map (js_update s) ps) c.batches (triggered s c))
 
 -- the answer to an Ask that leaves the client so
@@ -76,7 +77,9 @@ fetch_row s n = row_served (at s.served n) (at s.current n)
 
 -- a text is staged, and nothing else changes anything
 abbrev pub fetched : FetchRow → Plan → Name → Client → Client
-fetched (text s) p n c = record c { page = staged p n (record { version = s.version; analysis = s.analysis }) c.page }
+fetched (text s) p n c = record c {
+  page = staged p n (record { version = s.version; analysis = s.analysis }) c.page;
+}
 fetched not_yet p n c = c
 fetched (broken fault) p n c = c
 fetched missing p n c = c
@@ -102,7 +105,8 @@ version_at table n = number_or_zero (at table n)
 
 -- the least name, if any, at which the versions told and kept differ
 abbrev pub differing : List (Name × ℕ) → List (Name × ℕ) → List Name
-differing told kept = filter (λ n. not (version_at told n == version_at kept n)) (sorted (names_of told ++ names_of kept))
+differing told kept =
+    filter (λ n. not (version_at told n == version_at kept n)) (sorted (names_of told ++ names_of kept))
 
 -- the least name with two versions
 abbrev pub row_differing : List Name → List (Name × ℕ) → List (Name × ℕ) → AppliedRow
@@ -116,7 +120,8 @@ row_unfetched (n ∷ ns) row = unfetched n
 
 -- the row that an Applied meets
 abbrev pub applied_row : List Name → Plan → View → List (Name × ℕ) → AppliedRow
-applied_row roots p view table = row_unfetched (unfetched_of roots p view) (row_differing (differing table (table_of (new_view roots p view))) table (table_of (new_view roots p view)))
+applied_row roots p view table = row_unfetched (unfetched_of roots p view) (row_differing (differing table
+    (table_of (new_view roots p view))) table (table_of (new_view roots p view)))
 
 -- the plan's page stands where all fits, and else nothing changes
 abbrev pub after_applied : AppliedRow → Plan → Client → Client
@@ -157,7 +162,10 @@ fetched_in (Some p) s n c = (fetched (fetch_row s n) p n c, fetch_reply (fetch_r
 -- an Applied needs a plan under way
 abbrev pub applied_in : Option Plan → List (Name × ℕ) → Client → Client × Reply
 applied_in None table c = (c, refused OutOfTurn)
-applied_in (Some p) table c = (after_applied (applied_row c.roots p c.page.view table) p c, applied_reply (applied_row c.roots p c.page.view table))
+applied_in (Some p) table c = (
+  after_applied (applied_row c.roots p c.page.view table) p c,
+  applied_reply (applied_row c.roots p c.page.view table),
+)
 
 -- an Aborted needs a plan under way, and holds the client until something is served
 abbrev pub aborted_in : Option Plan → Client → Client × Reply
@@ -166,7 +174,10 @@ aborted_in (Some p) c = (record c { page = given_up c.page; held_at = Some c.pla
 
 -- an Invalidate needs no plan under way
 abbrev pub invalidated_in : Option Plan → Name → ℕ → Client → Client × Reply
-invalidated_in None n v c = (invalidated (is_at_version (at c.page.view n) v) n c, invalidate_reply (is_at_version (at c.page.view n) v))
+invalidated_in None n v c = (
+  invalidated (is_at_version (at c.page.view n) v) n c,
+  invalidate_reply (is_at_version (at c.page.view n) v),
+)
 invalidated_in (Some p) n v c = (c, refused OutOfTurn)
 
 -- what a request makes of the client's record, and the reply

@@ -16,7 +16,8 @@ on_new (x ∷ xs) stop more = more
 -- so many rounds over the names that are left
 abbrev pub rounds : (Name → Name → Bool) → ℕ → List Name → List Name → List Name
 rounds edge zero left known = known
-rounds edge (suc k) left known = on_new (filter (touched edge known) left) known (rounds edge k (filter (λ m. not (touched edge known m)) left) (known ++ filter (touched edge known) left))
+rounds edge (suc k) left known = on_new (filter (touched edge known) left) known (rounds edge k
+    (filter (λ m. not (touched edge known m)) left) (known ++ filter (touched edge known) left))
 
 -- what the starts reach, where each edge leads to one of the names
 abbrev pub reached_of : (Name → Name → Bool) → List Name → List Name → List Name

@@ -65,7 +65,8 @@ total_of s = sum_by (λ row. length row.1.text) s.current
 
 -- the next number, or a refusal where all numbers are given
 abbrev pub numbered : (ℕ → EditAnswer) → ℕ → EditAnswer
-numbered answer counted = if nat_le LARGEST_NUMBER counted then edit_refused NumbersSpent else answer (counted + 1)
+numbered answer counted =
+    if nat_le LARGEST_NUMBER counted then edit_refused NumbersSpent else answer (counted + 1)
 
 -- the rows of the table of edits, in their order, for the name's old source
 abbrev pub answer_for : Option Source → Sources → Option Text → EditAnswer
@@ -86,8 +87,16 @@ text_or_none (Some t) = t
 
 -- what an edit leaves
 abbrev pub after_edit : EditAnswer → Name → Option Text → Sources → Sources
-after_edit (job v) n t s = record s { counted = v; current = with_row n (record { version = v; text = text_or_none t; verdict = outstanding }) s.current }
-after_edit (removed v) n t s = record s { counted = v; current = without n s.current; served = without n s.served; served_no = s.served_no + 1 }
+after_edit (job v) n t s = record s {
+  counted = v;
+  current = with_row n (record { version = v; text = text_or_none t; verdict = outstanding }) s.current;
+}
+after_edit (removed v) n t s = record s {
+  counted = v;
+  current = without n s.current;
+  served = without n s.served;
+  served_no = s.served_no + 1;
+}
 after_edit same n t s = s
 after_edit (edit_refused w) n t s = s
 
@@ -119,7 +128,11 @@ settled_row n t v verdict rows = with_row n (record { version = v; text = t; ver
 
 -- what a result leaves
 abbrev pub after_result : ResultAnswer → Name → Text → ℕ → Sources → Sources
-after_result (serve a) n t v s = record s { current = settled_row n t v good s.current; served = with_row n (record { version = v; text = t; analysis = a }) s.served; served_no = s.served_no + 1 }
+after_result (serve a) n t v s = record s {
+  current = settled_row n t v good s.current;
+  served = with_row n (record { version = v; text = t; analysis = a }) s.served;
+  served_no = s.served_no + 1;
+}
 after_result (refuse f) n t v s = record s { current = settled_row n t v (bad f) s.current }
 after_result late n t v s = s
 

@@ -13,11 +13,13 @@ use Rattle.core_model.specs.View.{View, imports, accepts, self_accepts, declines
 
 -- a change of n passes on to m: m imports n and doesn't accept it, and n doesn't accept itself or is forced
 abbrev pub passes : View → List Name → Name → Name → Bool
-passes view forced n m = imports view m n && not (accepts view m n) && (not (self_accepts view n) || has forced n)
+passes view forced n m =
+    imports view m n && not (accepts view m n) && (not (self_accepts view n) || has forced n)
 
 -- a change that comes to m wants a reload: m declines, or is a root that doesn't accept itself or is forced
 abbrev pub ends_badly : View → List Name → List Name → Name → Bool
-ends_badly view roots forced m = declines view m || (has roots m && (not (self_accepts view m) || has forced m))
+ends_badly view roots forced m =
+    declines view m || (has roots m && (not (self_accepts view m) || has forced m))
 
 -- an unaccepted path: from a changed or forced name on, each next name by a passing edge
 abbrev pub IsUnaccepted : View → List Name → List Name → List Name → Name → Type 0
@@ -31,11 +33,13 @@ pub record IsReloadWanted (view : View) (roots changed forced : List Name) : Typ
 
 -- the unaccepted path that is the reason of a reload: the least that ends badly
 abbrev pub IsReason : View → List Name → List Name → List Name → List Name → Type 0
-IsReason view roots changed forced path = IsLeastPath (passes view forced) (changed ++ forced) (ends_badly view roots forced) path
+IsReason view roots changed forced path =
+    IsLeastPath (passes view forced) (changed ++ forced) (ends_badly view roots forced) path
 
 -- the reason, computed
 abbrev pub reason_of : View → List Name → List Name → List Name → Option (List Name)
-reason_of view roots changed forced = least_path_of (passes view forced) (names_of view) (changed ++ forced) (ends_badly view roots forced)
+reason_of view roots changed forced =
+    least_path_of (passes view forced) (names_of view) (changed ++ forced) (ends_badly view roots forced)
 
 -- Declined where the last name declines, else Root
 abbrev pub cause_of : View → List Name → ReloadCause
@@ -59,7 +63,8 @@ spread_of view changed forced = reached_of (passes view forced) (names_of view) 
 
 -- the replaced names, rising by bytes
 abbrev pub replaced_of : View → List Name → List Name → List Name
-replaced_of view changed forced = sorted (changed ++ filter (λ m. list_any (λ n. passes view forced n m) (spread_of view changed forced)) (names_of view))
+replaced_of view changed forced = sorted (changed
+    ++ filter (λ m. list_any (λ n. passes view forced n m) (spread_of view changed forced)) (names_of view))
 
 -- these are names of the view
 abbrev pub AreIn : List Name → View → Type 0
@@ -83,7 +88,8 @@ IsPair view changed forced m n = IsOwnPair view changed forced m n ⊎ IsNamedPa
 
 -- the test for a pair, given the replaced names
 abbrev pub is_pair : View → List Name → List Name → Name → Name → Bool
-is_pair view replaced forced m n = (same_name m n && has replaced n && self_accepts view n) || (accepts view m n && not (has replaced m) && (has replaced n || has forced n))
+is_pair view replaced forced m n = (same_name m n && has replaced n && self_accepts view n)
+    || (accepts view m n && not (has replaced m) && (has replaced n || has forced n))
 
 -- the pairs of a boundary
 abbrev pub pairs_with : (Name → Name → Bool) → List Name → Name → List (Name × Name)
@@ -91,4 +97,5 @@ pairs_with test names m = map (λ n. (m, n)) (filter (test m) names)
 
 -- the pairs, rising by boundary and then by via
 abbrev pub pairs_of : View → List Name → List Name → List (Name × Name)
-pairs_of view replaced forced = flat_map (pairs_with (is_pair view replaced forced) (sorted (names_of view))) (sorted (names_of view))
+pairs_of view replaced forced =
+    flat_map (pairs_with (is_pair view replaced forced) (sorted (names_of view))) (sorted (names_of view))

@@ -54,7 +54,8 @@ IsTrueEvent transformed (request i r) = ⊤
 IsTrueEvent transformed (disconnect i) = ⊤
 
 -- a transcript that a core with these roots can have: its events are well formed, and its results true
-pub record IsLegal (transformed : Name → Text → Outcome) (roots : List Name) (entries : List Recorded) : Type 0 where
+pub record IsLegal (transformed : Name → Text → Outcome) (roots : List Name)
+    (entries : List Recorded) : Type 0 where
   pub roots_are : AreRoots roots
   pub formed : All IsFormed (events_of entries)
   pub results : All (IsTrueEvent transformed) (events_of entries)

@@ -46,7 +46,8 @@ end_of (told l) = []
 -- The page: m accepts itself and the counter c, which keeps its count in its bag when it goes.
 
 abbrev pub with_counter : Text
-with_counter = codes "import \"./counter.js\";\nimport.meta.hot.accept(\"./counter.js\");\nimport.meta.hot.accept();"
+with_counter =
+    codes "import \"./counter.js\";\nimport.meta.hot.accept(\"./counter.js\");\nimport.meta.hot.accept();"
 
 abbrev pub without_counter : Text
 without_counter = codes "import.meta.hot.accept();"

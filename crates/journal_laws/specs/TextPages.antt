@@ -60,7 +60,8 @@ two = codes "export const n = 2\n"
 
 -- sees the constant, and hears of a new one
 abbrev pub seeing : Text
-seeing = codes "import {n} from './x.js'\nexport let seen = n\nimport.meta.hot.accept('./x.js', m => { seen = m?.n })\n"
+seeing = codes
+    "import {n} from './x.js'\nexport let seen = n\nimport.meta.hot.accept('./x.js', m => { seen = m?.n })\n"
 
 -- both are served, and a client loads the page: instance 1 is the constant, 2 is the text that sees it
 abbrev pub seeing_loaded : List Step

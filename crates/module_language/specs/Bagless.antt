@@ -34,7 +34,8 @@ abbrev mutual
   is_bagless_statement (tree.bag_set k e) = false
   is_bagless_statement (tree.throw e) = is_bagless e
   is_bagless_statement (tree.invalidate e) = is_bagless_option e
-  is_bagless_statement (tree.branch cond first second) = is_bagless_condition cond && (are_bagless first && are_bagless second)
+  is_bagless_statement (tree.branch cond first second) =
+      is_bagless_condition cond && (are_bagless first && are_bagless second)
 
   pub are_bagless : StmtTrees → Bool
   are_bagless tree.no_stmts = true

@@ -25,13 +25,18 @@ importer = codes "import {b as c,a} from './x.js'\nexport let n = 1+(2*c)\nimpor
 
 -- the callback of `importer`
 abbrev pub hears : HandlerTree
-hears = record { params = codes "m" ∷ []; body = tree.one_stmt (tree.assign (codes "n") (tree.member 0 true (codes "b"))) tree.no_stmts }
+hears = record {
+  params = codes "m" ∷ [];
+  body = tree.one_stmt (tree.assign (codes "n") (tree.member 0 true (codes "b"))) tree.no_stmts;
+}
 
 -- what `importer` reads as
 abbrev pub importer_tree : ModuleTree
 importer_tree =
-    tree.import (codes "./x.js") (record { exported = codes "b"; local = codes "c" } ∷ record { exported = codes "a"; local = codes "a" } ∷ [])
-    ∷ tree.declare true true (codes "n") (tree.binary ops.Add (tree.num 1) (tree.binary ops.Mul (tree.num 2) (tree.name (codes "c"))))
+    tree.import (codes "./x.js") (record { exported = codes "b"; local = codes "c" }
+    ∷ record { exported = codes "a"; local = codes "a" } ∷ [])
+    ∷ tree.declare true true (codes "n")
+    (tree.binary ops.Add (tree.num 1) (tree.binary ops.Mul (tree.num 2) (tree.name (codes "c"))))
     ∷ tree.deps false (codes "./x.js" ∷ []) (Some hears) ∷ []
 
 -- keeps its number from instance to instance
@@ -40,7 +45,10 @@ keeper = codes "export let n = import.meta.hot.data.n ?? 1\nimport.meta.hot.disp
 
 -- the disposer of `keeper`
 abbrev pub keeps : HandlerTree
-keeps = record { params = []; body = tree.one_stmt (tree.bag_set (codes "n") (tree.name (codes "n"))) tree.no_stmts }
+keeps = record {
+  params = [];
+  body = tree.one_stmt (tree.bag_set (codes "n") (tree.name (codes "n"))) tree.no_stmts;
+}
 
 -- what `keeper` reads as
 abbrev pub keeper_tree : ModuleTree

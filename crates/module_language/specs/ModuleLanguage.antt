@@ -38,7 +38,8 @@ binding_to dependency n = record { dependency = dependency; exported = n.exporte
 
 -- what an item binds: each of its names, to the module that its specifier means
 abbrev pub bound_by : Name → ItemTree → List Binding
-bound_by base i = flat_map (λ dependency. map (binding_to dependency) (names_in i)) (meant base (imported_by i))
+bound_by base i =
+    flat_map (λ dependency. map (binding_to dependency) (names_in i)) (meant base (imported_by i))
 
 -- what a module binds, in order
 abbrev pub bound_in : Name → ModuleTree → List Binding
@@ -46,7 +47,8 @@ bound_in base m = flat_map (bound_by base) m
 
 -- each module that an item imports, with each of the item's names as it is exported there
 abbrev pub linked_by : Name → ItemTree → List (Name × Name)
-linked_by base i = flat_map (λ dependency. map (λ n. (dependency, n.exported)) (names_in i)) (meant base (imported_by i))
+linked_by base i =
+    flat_map (λ dependency. map (λ n. (dependency, n.exported)) (names_in i)) (meant base (imported_by i))
 
 -- a handler that was registered, with the modules that its specifiers mean
 abbrev pub registered_as : Name → Registration → Registered
@@ -54,7 +56,13 @@ registered_as base r = record { kind = r.kind; deps = meant base r.deps; what = 
 
 -- what the evaluation of a module of this name leaves
 abbrev pub evaluated_as : Name → modules.Evaluated → Evaluated
-evaluated_as base e = record { fault = e.fault; vars = e.vars; lines = e.lines; registered = map (registered_as base) e.registered; bag = e.bag }
+evaluated_as base e = record {
+  fault = e.fault;
+  vars = e.vars;
+  lines = e.lines;
+  registered = map (registered_as base) e.registered;
+  bag = e.bag;
+}
 
 -- a module by its exports, or `undefined`
 abbrev pub argument_of : Option Slots → ModParam
@@ -63,7 +71,13 @@ argument_of (Some exports) = params.Mod exports
 
 -- what the run of a handler leaves
 abbrev pub ran_as : bodies.Ran → Ran
-ran_as r = record { fault = r.fault; lines = r.lines; changes = r.changes; invalidations = r.invalidations; bag = r.bag }
+ran_as r = record {
+  fault = r.fault;
+  lines = r.lines;
+  changes = r.changes;
+  invalidations = r.invalidations;
+  bag = r.bag;
+}
 
 -- the evaluation of a module of this name
 abbrev pub evaluation_of : Name → ModuleTree → Slots → Bag → Evaluated

@@ -9,11 +9,25 @@ use hmr_types::{FaultWord, HandlerKind, Outcome, Slot, Value};
 /// What analysis tells of a text, or the first fault of it.
 pub fn texts_are_transformed()
     ensures importer { module_language.transformed m importer
-        ≡ Outcome.Good (record { imports = x ∷ []; exports = codes "n" ∷ []; self_accepts = false; accepted = x ∷ []; declined = false }) }
+        ≡ Outcome.Good (record {
+          imports = x ∷ [];
+          exports = codes "n" ∷ [];
+          self_accepts = false;
+          accepted = x ∷ [];
+          declined = false;
+        }) }
     ensures keeper { module_language.transformed m keeper
-        ≡ Outcome.Good (record { imports = []; exports = codes "n" ∷ []; self_accepts = true; accepted = []; declined = false }) }
-    ensures astray { module_language.transformed m astray ≡ Outcome.Bad (record { line = 0; col = 0; word = FaultWord.SpecifierBare }) }
-    ensures nameless { module_language.transformed m nameless ≡ Outcome.Bad (record { line = 1; col = 14; word = FaultWord.Unexpected }) }
+        ≡ Outcome.Good (record {
+          imports = [];
+          exports = codes "n" ∷ [];
+          self_accepts = true;
+          accepted = [];
+          declined = false;
+        }) }
+    ensures astray { module_language.transformed m astray
+        ≡ Outcome.Bad (record { line = 0; col = 0; word = FaultWord.SpecifierBare }) }
+    ensures nameless { module_language.transformed m nameless
+        ≡ Outcome.Bad (record { line = 1; col = 14; word = FaultWord.Unexpected }) }
 {}
 
 /// Each name of an import is bound to the module that the specifier means. Where it means none, and
@@ -54,12 +68,38 @@ pub fn modules_are_evaluated()
 /// bag, and a closure of the embedding program leaves its number there.
 #[tactic(auto, unfolding(module_semantics::specs::Entries::entry_at, module_semantics::specs::Entries::with_entry))]
 pub fn handlers_are_run()
-    ensures module { module_language.ran hears ((codes "n", Slot.Val (Value.Num (pos 7))) ∷ []) (Some ((codes "b", Slot.Val (Value.Num (pos 4))) ∷ []) ∷ []) []
-        ≡ record { fault = None; lines = []; changes = (codes "n", Value.Num (pos 4)) ∷ []; invalidations = []; bag = [] } }
-    ensures undefined { module_language.ran hears ((codes "n", Slot.Val (Value.Num (pos 7))) ∷ []) (None ∷ []) []
-        ≡ record { fault = None; lines = []; changes = (codes "n", Value.Undef) ∷ []; invalidations = []; bag = [] } }
+    ensures module { module_language.ran hears ((codes "n", Slot.Val (Value.Num (pos 7))) ∷ [])
+        (Some ((codes "b", Slot.Val (Value.Num (pos 4))) ∷ []) ∷ []) []
+        ≡ record {
+          fault = None;
+          lines = [];
+          changes = (codes "n", Value.Num (pos 4)) ∷ [];
+          invalidations = [];
+          bag = [];
+        } }
+    ensures undefined { module_language.ran hears
+        ((codes "n", Slot.Val (Value.Num (pos 7))) ∷ []) (None ∷ []) []
+        ≡ record {
+          fault = None;
+          lines = [];
+          changes = (codes "n", Value.Undef) ∷ [];
+          invalidations = [];
+          bag = [];
+        } }
     ensures disposer { module_language.ran keeps ((codes "n", Slot.Val (Value.Num (pos 7))) ∷ []) [] kept_five
-        ≡ record { fault = None; lines = []; changes = []; invalidations = []; bag = (codes "n", Value.Num (pos 7)) ∷ [] } }
+        ≡ record {
+          fault = None;
+          lines = [];
+          changes = [];
+          invalidations = [];
+          bag = (codes "n", Value.Num (pos 7)) ∷ [];
+        } }
     ensures closure { module_language.hosted (codes "L") 12 []
-        ≡ record { fault = None; lines = codes "host L 12" ∷ []; changes = []; invalidations = []; bag = (codes "host", Value.Num (pos 12)) ∷ [] } }
+        ≡ record {
+          fault = None;
+          lines = codes "host L 12" ∷ [];
+          changes = [];
+          invalidations = [];
+          bag = (codes "host", Value.Num (pos 12)) ∷ [];
+        } }
 {}

@@ -44,7 +44,8 @@ pub fn specifiers_of_good_texts_mean_modules()
 pub fn evaluations_keep_bags()
     ensures evaluated { (n : Name) (t : Text) (imports : Slots) (before : Bag) → is_bag before ≡
         true → is_bag (module_language.evaluated n t imports before).bag ≡ true }
-    ensures ran { (code : HandlerTree) (scope : Slots) (arguments : List (Option Slots)) (before : Bag) → is_bag before ≡ true → is_bag (module_language.ran code scope arguments before).bag ≡ true }
+    ensures ran { (code : HandlerTree) (scope : Slots) (arguments : List (Option Slots)) (before : Bag) →
+        is_bag before ≡ true → is_bag (module_language.ran code scope arguments before).bag ≡ true }
     ensures hosted { (label : Text) (number : ℕ) (before : Bag) → is_bag before ≡
         true → is_bag (module_language.hosted label number before).bag ≡ true }
 {}
@@ -67,5 +68,6 @@ pub fn variables_are_the_declared_names()
 pub fn texts_without_data_do_not_hang_on_it()
     ensures { (n : Name) (t : Text) (m : ModuleTree) (imports : Slots) (before : Bag) →
         parsing t ≡ Ok m → is_bagless_module m ≡ true →
-        module_language.evaluated n t imports before ≡ record (module_language.evaluated n t imports []) { bag = before } }
+        module_language.evaluated n t imports before
+        ≡ record (module_language.evaluated n t imports []) { bag = before } }
 {}

@@ -107,7 +107,8 @@ imports_of base m = firsts (meant base (flat_map imported_by m))
 
 -- the imported modules that are accepted by name
 abbrev pub accepted_of : List ℕ → ModuleTree → List (List ℕ)
-accepted_of base m = filter (λ n. has_name n (imports_of base m)) (firsts (meant base (flat_map accepted_by m)))
+accepted_of base m =
+    filter (λ n. has_name n (imports_of base m)) (firsts (meant base (flat_map accepted_by m)))
 
 -- what analysis tells where nothing is wrong
 abbrev pub analysis_of : List ℕ → ModuleTree → Analysis
@@ -161,7 +162,8 @@ outcome_of base (Err fault) = Bad fault
 abbrev pub transformed : (List ℕ → Result ModuleTree TextFault) → List ℕ → List ℕ → Outcome
 transformed reading base text = outcome_of base (reading text)
 
--- what holds of each analysis: its imports are different and at most 256, and its accepted names are different and imported
+-- what holds of each analysis: its imports are different and at most 256, and its accepted names are
+-- different and imported
 pub record IsWellMade (a : Analysis) : Type 0 where
   pub imports : are_different a.imports ≡ true
   pub few : length a.imports ≤ 256

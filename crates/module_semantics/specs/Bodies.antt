@@ -77,7 +77,10 @@ add_line s vs = (record s { lines = s.lines ++ line_of vs ∷ [] }, None)
 
 -- only a variable that has a value is assigned
 abbrev pub assign_slot : List ℕ → State → Value → Option Slot → Progress
-assign_slot n s v (Some (Val old)) = (record s { vars = with_entry n (Val v) s.vars; changes = s.changes ++ (n, v) ∷ [] }, None)
+assign_slot n s v (Some (Val old)) = (
+  record s { vars = with_entry n (Val v) s.vars; changes = s.changes ++ (n, v) ∷ [] },
+  None,
+)
 assign_slot n s v (Some Unset) = (s, Some (Uninitialised n))
 assign_slot n s v None = (s, Some (Uninitialised n))
 
@@ -87,7 +90,8 @@ assign n s v = assign_slot n s v (entry_at n s.vars)
 
 -- a new key needs room
 abbrev pub keep : List ℕ → State → Value → Progress
-keep key s v = if has_room key s.bag then (record s { bag = with_entry key v s.bag }, None) else (s, Some BagFull)
+keep key s v =
+    if has_room key s.bag then (record s { bag = with_entry key v s.bag }, None) else (s, Some BagFull)
 
 -- a fault with the value as text
 abbrev pub throw : State → Value → Progress
@@ -121,7 +125,8 @@ abbrev mutual
   run c (tree.bag_set k e) s = with_result s (value_of (scope_of c s) e) (keep k s)
   run c (tree.throw e) s = with_result s (value_of (scope_of c s) e) (throw s)
   run c (tree.invalidate e) s = invalidate (scope_of c s) s e
-  run c (tree.branch cond first second) s = with_result s (holds (scope_of c s) cond) (λ b. if b then run_all c first s else run_all c second s)
+  run c (tree.branch cond first second) s =
+      with_result s (holds (scope_of c s) cond) (λ b. if b then run_all c first s else run_all c second s)
 
   pub run_all : Context → StmtTrees → State → Progress
   run_all c tree.no_stmts s = (s, None)
@@ -129,7 +134,14 @@ abbrev mutual
 
 -- before anything ran
 abbrev pub opening : List (List ℕ × Slot) → List (List ℕ × Value) → State
-opening vars bag = record { vars = vars; bag = bag; lines = []; changes = []; invalidations = []; registered = [] }
+opening vars bag = record {
+  vars = vars;
+  bag = bag;
+  lines = [];
+  changes = [];
+  invalidations = [];
+  registered = [];
+}
 
 -- what a handler leaves
 pub record Ran : Type 0 where
@@ -141,11 +153,18 @@ pub record Ran : Type 0 where
 
 -- what stands after a handler's run
 abbrev pub ran_of : Progress → Ran
-ran_of (s, fault) = record { fault = fault; lines = s.lines; changes = s.changes; invalidations = s.invalidations; bag = s.bag }
+ran_of (s, fault) = record {
+  fault = fault;
+  lines = s.lines;
+  changes = s.changes;
+  invalidations = s.invalidations;
+  bag = s.bag;
+}
 
 -- the body of a callback, where the names hold this, with these modules and this bag
 abbrev pub body_run : HandlerTree → List (List ℕ × Slot) → List ModParam → List (List ℕ × Value) → Ran
-body_run code env mods bag = ran_of (run_all (record { imports = []; mods = mods }) code.body (opening env bag))
+body_run code env mods bag =
+    ran_of (run_all (record { imports = []; mods = mods }) code.body (opening env bag))
 
 -- the line of a host closure: `host LABEL NUMBER`
 abbrev pub host_line : List ℕ → ℕ → List ℕ
@@ -153,7 +172,8 @@ host_line label number = codes "host " ++ label ++ codes " " ++ decimal number
 
 -- a host closure keeps its number under the key `host`
 abbrev pub host_progress : List ℕ → ℕ → List (List ℕ × Value) → Progress
-host_progress label number bag = keep (codes "host") (record (opening [] bag) { lines = host_line label number ∷ [] }) (Num (pos number))
+host_progress label number bag =
+    keep (codes "host") (record (opening [] bag) { lines = host_line label number ∷ [] }) (Num (pos number))
 
 -- what a host closure leaves
 abbrev pub host_ran : List ℕ → ℕ → List (List ℕ × Value) → Ran

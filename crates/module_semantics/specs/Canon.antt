@@ -1,5 +1,5 @@
--- The canonical text of a module: each item and statement on lines of its own, two spaces for each block, parentheses exactly
--- where an operand is of a lower level than its place asks for.
+-- The canonical text of a module: each item and statement on lines of its own, two spaces for each block,
+-- parentheses exactly where an operand is of a lower level than its place asks for.
 use Rattle.std.specs.Prelude.{ℕ, zero, suc, List, [], ◌∷◌, ◌++◌, Bool, true, false, ◌==◌, nat_lt, if◌then◌else◌, Option, Some, None, codes, map}
 use Rattle.std.specs.Str.{bytes_eq}
 use Rattle.std.specs.Fmt.{decimal}
@@ -10,7 +10,13 @@ use Rattle.module_tree.specs.declared.tree.ImportName.{ImportName}
 
 -- a byte of a text, with a backslash where it is one, a double quote, an LF, a tab or a CR
 abbrev pub escaped : ℕ → List ℕ
-escaped b = if b == 92 then codes "\\\\" else if b == 34 then codes "\\\"" else if b == 10 then codes "\\n" else if b == 9 then codes "\\t" else if b == 13 then codes "\\r" else b ∷ []
+escaped b =
+    if b == 92 then codes "\\\\"
+    else if b == 34 then codes "\\\""
+    else if b == 10 then codes "\\n"
+    else if b == 9 then codes "\\t"
+    else if b == 13 then codes "\\r"
+    else b ∷ []
 
 -- the bytes of a text between its quotes
 abbrev pub all_escaped : List ℕ → List ℕ
@@ -45,7 +51,8 @@ op_text ops.Add = codes " + "
 op_text ops.Sub = codes " - "
 op_text ops.Mul = codes " * "
 
--- the level of the grammar that an expression is of: 0 `?:`, 1 `??`, 2 `+` and `-`, 3 `*`, 4 a minus, 5 all others
+-- the level of the grammar that an expression is of: 0 `?:`, 1 `??`, 2 `+` and `-`, 3 `*`, 4 a minus, 5 all
+-- others
 abbrev pub level : ExprTree → ℕ
 level (num n) = 5
 level (text s) = 5
@@ -81,8 +88,10 @@ expr_text ps (name n) = n
 expr_text ps (bag k) = codes "import.meta.hot.data." ++ k
 expr_text ps (member place safe k) = nth ps place ++ (dot_text safe ++ k)
 expr_text ps (neg a) = codes "-" ++ placed 5 (level a) (expr_text ps a)
-expr_text ps (binary op a b) = placed (op_level op) (level a) (expr_text ps a) ++ (op_text op ++ placed (suc (op_level op)) (level b) (expr_text ps b))
-expr_text ps (choose c a b) = placed 1 (level c) (expr_text ps c) ++ (codes " ? " ++ (expr_text ps a ++ (codes " : " ++ expr_text ps b)))
+expr_text ps (binary op a b) = placed (op_level op) (level a) (expr_text ps a)
+    ++ (op_text op ++ placed (suc (op_level op)) (level b) (expr_text ps b))
+expr_text ps (choose c a b) = placed 1 (level c) (expr_text ps c)
+    ++ (codes " ? " ++ (expr_text ps a ++ (codes " : " ++ expr_text ps b)))
 
 -- the condition of an if
 abbrev pub cond_text : List (List ℕ) → CondTree → List ℕ
@@ -107,12 +116,18 @@ else_text depth (one_stmt s r) body = codes " else {\n" ++ (body ++ (indent dept
 -- statements at a depth
 abbrev mutual
   pub stmt_text : List (List ℕ) → ℕ → StmtTree → List ℕ
-  stmt_text ps depth (log es) = indent depth ++ (codes "console.log(" ++ (commas (map (expr_text ps) es) ++ codes ");\n"))
+  stmt_text ps depth (log es) =
+      indent depth ++ (codes "console.log(" ++ (commas (map (expr_text ps) es) ++ codes ");\n"))
   stmt_text ps depth (assign n e) = indent depth ++ (n ++ (codes " = " ++ (expr_text ps e ++ codes ";\n")))
-  stmt_text ps depth (bag_set k e) = indent depth ++ (codes "import.meta.hot.data." ++ (k ++ (codes " = " ++ (expr_text ps e ++ codes ";\n"))))
-  stmt_text ps depth (throw e) = indent depth ++ (codes "throw new Error(" ++ (expr_text ps e ++ codes ");\n"))
-  stmt_text ps depth (invalidate e) = indent depth ++ (codes "import.meta.hot.invalidate(" ++ (told_text ps e ++ codes ");\n"))
-  stmt_text ps depth (branch c a b) = indent depth ++ (codes "if (" ++ (cond_text ps c ++ (codes ") {\n" ++ (stmts_text ps (suc depth) a ++ (indent depth ++ (codes "}" ++ else_text depth b (stmts_text ps (suc depth) b)))))))
+  stmt_text ps depth (bag_set k e) = indent depth
+      ++ (codes "import.meta.hot.data." ++ (k ++ (codes " = " ++ (expr_text ps e ++ codes ";\n"))))
+  stmt_text ps depth (throw e) =
+      indent depth ++ (codes "throw new Error(" ++ (expr_text ps e ++ codes ");\n"))
+  stmt_text ps depth (invalidate e) =
+      indent depth ++ (codes "import.meta.hot.invalidate(" ++ (told_text ps e ++ codes ");\n"))
+  stmt_text ps depth (branch c a b) =
+      indent depth ++ (codes "if (" ++ (cond_text ps c ++ (codes ") {\n" ++ (stmts_text ps (suc depth) a
+      ++ (indent depth ++ (codes "}" ++ else_text depth b (stmts_text ps (suc depth) b)))))))
 
   pub stmts_text : List (List ℕ) → ℕ → StmtTrees → List ℕ
   stmts_text ps depth no_stmts = []
@@ -147,7 +162,8 @@ import_name_text i = if bytes_eq i.exported i.local then i.local else i.exported
 -- an import, with or without names
 abbrev pub import_text : List ℕ → List ImportName → List ℕ
 import_text s [] = codes "import " ++ (quoted s ++ codes ";\n")
-import_text s (i ∷ is) = codes "import { " ++ (commas (map import_name_text (i ∷ is)) ++ (codes " } from " ++ (quoted s ++ codes ";\n")))
+import_text s (i ∷ is) = codes "import { "
+    ++ (commas (map import_name_text (i ∷ is)) ++ (codes " } from " ++ (quoted s ++ codes ";\n")))
 
 -- the word before an exported declaration
 abbrev pub export_text : Bool → List ℕ
@@ -182,7 +198,8 @@ deps_handler_text false (Some h) = codes ", " ++ handler_text h
 -- an item
 abbrev pub item_text : ItemTree → List ℕ
 item_text (import s names) = import_text s names
-item_text (declare exported mutable n e) = export_text exported ++ (declare_text mutable ++ (n ++ (codes " = " ++ (expr_text [] e ++ codes ";\n"))))
+item_text (declare exported mutable n e) =
+    export_text exported ++ (declare_text mutable ++ (n ++ (codes " = " ++ (expr_text [] e ++ codes ";\n"))))
 item_text (act s) = stmt_text [] 0 s
 item_text (own o) = call_text (codes "accept") (own_text o)
 item_text (deps list ss h) = call_text (codes "accept") (specs_text list ss ++ deps_handler_text list h)

@@ -25,16 +25,20 @@ text_tokens s = token.text s ∷ []
 
 -- a callback, after the tokens of its parameters
 abbrev pub callback_tokens : List Token → HandlerTree → List Token
-callback_tokens params h = params ++ (token.punct 15 ∷ (token.punct 0 ∷ (stmts_tokens h.params h.body ++ (token.punct 1 ∷ []))))
+callback_tokens params h =
+    params ++ (token.punct 15 ∷ (token.punct 0 ∷ (stmts_tokens h.params h.body ++ (token.punct 1 ∷ []))))
 
 -- a callback, with its parameters in parentheses
 abbrev pub handler_tokens : HandlerTree → List Token
-handler_tokens h = callback_tokens (token.punct 2 ∷ (between_commas name_tokens h.params ++ (token.punct 3 ∷ []))) h
+handler_tokens h =
+    callback_tokens (token.punct 2 ∷ (between_commas name_tokens h.params ++ (token.punct 3 ∷ []))) h
 
 -- in the list form parameters stand in brackets, unless there are none
 abbrev pub list_params_tokens : List (List ℕ) → List Token
 list_params_tokens [] = token.punct 2 ∷ (token.punct 3 ∷ [])
-list_params_tokens (p ∷ ps) = token.punct 2 ∷ (token.punct 4 ∷ (between_commas name_tokens (p ∷ ps) ++ (token.punct 5 ∷ (token.punct 3 ∷ []))))
+list_params_tokens (p ∷ ps) =
+    token.punct 2
+    ∷ (token.punct 4 ∷ (between_commas name_tokens (p ∷ ps) ++ (token.punct 5 ∷ (token.punct 3 ∷ []))))
 
 -- a callback of the list form
 abbrev pub list_handler_tokens : HandlerTree → List Token
@@ -47,12 +51,16 @@ once_tokens (host l) = token.name (codes "host") ∷ (token.punct 2 ∷ (token.t
 
 -- one name of an import
 abbrev pub import_name_tokens : ImportName → List Token
-import_name_tokens i = if bytes_eq i.exported i.local then token.name i.local ∷ [] else token.name i.exported ∷ (token.name (codes "as") ∷ (token.name i.local ∷ []))
+import_name_tokens i =
+    if bytes_eq i.exported i.local then token.name i.local ∷ []
+    else token.name i.exported ∷ (token.name (codes "as") ∷ (token.name i.local ∷ []))
 
 -- an import, with or without names
 abbrev pub import_tokens : List ℕ → List ImportName → List Token
 import_tokens s [] = token.name (codes "import") ∷ (token.text s ∷ (token.punct 7 ∷ []))
-import_tokens s (i ∷ is) = token.name (codes "import") ∷ (token.punct 0 ∷ (between_commas import_name_tokens (i ∷ is) ++ (token.punct 1 ∷ (token.name (codes "from") ∷ (token.text s ∷ (token.punct 7 ∷ []))))))
+import_tokens s (i ∷ is) =
+    token.name (codes "import") ∷ (token.punct 0 ∷ (between_commas import_name_tokens (i ∷ is)
+    ++ (token.punct 1 ∷ (token.name (codes "from") ∷ (token.text s ∷ (token.punct 7 ∷ []))))))
 
 -- the word before an exported declaration
 abbrev pub export_tokens : Bool → List Token
@@ -66,7 +74,9 @@ declare_token false = token.name (codes "const")
 
 -- a call of `import.meta.hot`
 abbrev pub call_tokens : List ℕ → List Token → List Token
-call_tokens word args = token.name (codes "import") ∷ hot_tokens (token.name word ∷ (token.punct 2 ∷ (args ++ (token.punct 3 ∷ (token.punct 7 ∷ [])))))
+call_tokens word args =
+    token.name (codes "import")
+    ∷ hot_tokens (token.name word ∷ (token.punct 2 ∷ (args ++ (token.punct 3 ∷ (token.punct 7 ∷ [])))))
 
 -- what `accept` of the module itself takes
 abbrev pub own_tokens : Option OnceTree → List Token
@@ -87,10 +97,12 @@ deps_handler_tokens false (Some h) = token.punct 6 ∷ handler_tokens h
 -- an item
 abbrev pub item_tokens : ItemTree → List Token
 item_tokens (import s names) = import_tokens s names
-item_tokens (declare exported mutable n e) = export_tokens exported ++ (declare_token mutable ∷ (token.name n ∷ (token.punct 9 ∷ (expr_tokens [] e ++ (token.punct 7 ∷ [])))))
+item_tokens (declare exported mutable n e) = export_tokens exported
+    ++ (declare_token mutable ∷ (token.name n ∷ (token.punct 9 ∷ (expr_tokens [] e ++ (token.punct 7 ∷ [])))))
 item_tokens (act s) = stmt_tokens [] s
 item_tokens (own o) = call_tokens (codes "accept") (own_tokens o)
-item_tokens (deps list ss h) = call_tokens (codes "accept") (specs_tokens list ss ++ deps_handler_tokens list h)
+item_tokens (deps list ss h) =
+    call_tokens (codes "accept") (specs_tokens list ss ++ deps_handler_tokens list h)
 item_tokens (dispose o) = call_tokens (codes "dispose") (once_tokens o)
 item_tokens (prune o) = call_tokens (codes "prune") (once_tokens o)
 item_tokens decline = call_tokens (codes "decline") []

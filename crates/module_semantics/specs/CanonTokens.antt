@@ -30,7 +30,8 @@ dot_token false = token.punct 8
 
 -- `.meta.hot.`, which follows `import`, and more
 abbrev pub hot_tokens : List Token → List Token
-hot_tokens ts = token.punct 8 ∷ token.name (codes "meta") ∷ token.punct 8 ∷ token.name (codes "hot") ∷ token.punct 8 ∷ ts
+hot_tokens ts =
+    token.punct 8 ∷ token.name (codes "meta") ∷ token.punct 8 ∷ token.name (codes "hot") ∷ token.punct 8 ∷ ts
 
 -- an expression, without parentheses of its own, where these are the parameters
 abbrev pub expr_tokens : List (List ℕ) → ExprTree → List Token
@@ -38,11 +39,14 @@ expr_tokens ps (num n) = token.number n ∷ []
 expr_tokens ps (text s) = token.text s ∷ []
 expr_tokens ps undefined = token.name (codes "undefined") ∷ []
 expr_tokens ps (name n) = token.name n ∷ []
-expr_tokens ps (bag k) = token.name (codes "import") ∷ hot_tokens (token.name (codes "data") ∷ token.punct 8 ∷ token.name k ∷ [])
+expr_tokens ps (bag k) =
+    token.name (codes "import") ∷ hot_tokens (token.name (codes "data") ∷ token.punct 8 ∷ token.name k ∷ [])
 expr_tokens ps (member place safe k) = token.name (nth ps place) ∷ dot_token safe ∷ token.name k ∷ []
 expr_tokens ps (neg a) = token.punct 11 ∷ placed_tokens 5 (level a) (expr_tokens ps a)
-expr_tokens ps (binary op a b) = placed_tokens (op_level op) (level a) (expr_tokens ps a) ++ (op_token op ∷ placed_tokens (suc (op_level op)) (level b) (expr_tokens ps b))
-expr_tokens ps (choose c a b) = placed_tokens 1 (level c) (expr_tokens ps c) ++ (token.punct 13 ∷ (expr_tokens ps a ++ (token.punct 14 ∷ expr_tokens ps b)))
+expr_tokens ps (binary op a b) = placed_tokens (op_level op) (level a) (expr_tokens ps a)
+    ++ (op_token op ∷ placed_tokens (suc (op_level op)) (level b) (expr_tokens ps b))
+expr_tokens ps (choose c a b) = placed_tokens 1 (level c) (expr_tokens ps c)
+    ++ (token.punct 13 ∷ (expr_tokens ps a ++ (token.punct 14 ∷ expr_tokens ps b)))
 
 -- how deep the expressions inside an expression are
 abbrev pub inner_depth : ExprTree → ℕ
@@ -53,8 +57,10 @@ inner_depth (name n) = 0
 inner_depth (bag k) = 0
 inner_depth (member place safe k) = 0
 inner_depth (neg a) = placed_depth 5 (level a) (inner_depth a)
-inner_depth (binary op a b) = max (placed_depth (op_level op) (level a) (inner_depth a)) (placed_depth (suc (op_level op)) (level b) (inner_depth b))
-inner_depth (choose c a b) = max (placed_depth 1 (level c) (inner_depth c)) (max (suc (inner_depth a)) (suc (inner_depth b)))
+inner_depth (binary op a b) = max (placed_depth (op_level op) (level a) (inner_depth a))
+    (placed_depth (suc (op_level op)) (level b) (inner_depth b))
+inner_depth (choose c a b) =
+    max (placed_depth 1 (level c) (inner_depth c)) (max (suc (inner_depth a)) (suc (inner_depth b)))
 
 -- a name that is none of the reserved words
 abbrev pub fits_name : List ℕ → Bool
@@ -104,12 +110,22 @@ else_tokens (one_stmt s r) body = token.name (codes "else") ∷ (token.punct 0 �
 -- statements
 abbrev mutual
   pub stmt_tokens : List (List ℕ) → StmtTree → List Token
-  stmt_tokens ps (log es) = token.name (codes "console") ∷ (token.punct 8 ∷ (token.name (codes "log") ∷ (token.punct 2 ∷ (exprs_tokens ps es ++ (token.punct 3 ∷ (token.punct 7 ∷ []))))))
+  stmt_tokens ps (log es) =
+      token.name (codes "console") ∷ (token.punct 8 ∷ (token.name (codes "log")
+      ∷ (token.punct 2 ∷ (exprs_tokens ps es ++ (token.punct 3 ∷ (token.punct 7 ∷ []))))))
   stmt_tokens ps (assign n e) = token.name n ∷ (token.punct 9 ∷ (expr_tokens ps e ++ (token.punct 7 ∷ [])))
-  stmt_tokens ps (bag_set k e) = token.name (codes "import") ∷ hot_tokens (token.name (codes "data") ∷ (token.punct 8 ∷ (token.name k ∷ (token.punct 9 ∷ (expr_tokens ps e ++ (token.punct 7 ∷ []))))))
-  stmt_tokens ps (throw e) = token.name (codes "throw") ∷ (token.name (codes "new") ∷ (token.name (codes "Error") ∷ (token.punct 2 ∷ (expr_tokens ps e ++ (token.punct 3 ∷ (token.punct 7 ∷ []))))))
-  stmt_tokens ps (invalidate e) = token.name (codes "import") ∷ hot_tokens (token.name (codes "invalidate") ∷ (token.punct 2 ∷ (told_tokens ps e ++ (token.punct 3 ∷ (token.punct 7 ∷ [])))))
-  stmt_tokens ps (branch c a b) = token.name (codes "if") ∷ (token.punct 2 ∷ (cond_tokens ps c ++ (token.punct 3 ∷ (token.punct 0 ∷ (stmts_tokens ps a ++ (token.punct 1 ∷ else_tokens b (stmts_tokens ps b)))))))
+  stmt_tokens ps (bag_set k e) =
+      token.name (codes "import") ∷ hot_tokens (token.name (codes "data")
+      ∷ (token.punct 8 ∷ (token.name k ∷ (token.punct 9 ∷ (expr_tokens ps e ++ (token.punct 7 ∷ []))))))
+  stmt_tokens ps (throw e) =
+      token.name (codes "throw") ∷ (token.name (codes "new") ∷ (token.name (codes "Error")
+      ∷ (token.punct 2 ∷ (expr_tokens ps e ++ (token.punct 3 ∷ (token.punct 7 ∷ []))))))
+  stmt_tokens ps (invalidate e) =
+      token.name (codes "import") ∷ hot_tokens (token.name (codes "invalidate")
+      ∷ (token.punct 2 ∷ (told_tokens ps e ++ (token.punct 3 ∷ (token.punct 7 ∷ [])))))
+  stmt_tokens ps (branch c a b) =
+      token.name (codes "if") ∷ (token.punct 2 ∷ (cond_tokens ps c ++ (token.punct 3
+      ∷ (token.punct 0 ∷ (stmts_tokens ps a ++ (token.punct 1 ∷ else_tokens b (stmts_tokens ps b)))))))
 
   pub stmts_tokens : List (List ℕ) → StmtTrees → List Token
   stmts_tokens ps no_stmts = []

@@ -55,7 +55,8 @@ with_module exports = record { vars = []; mods = params.Mod exports ∷ []; bag 
 
 -- a line, a key and a message
 abbrev pub before : StmtTree
-before = tree.branch (tree.value (tree.num 1)) (stmts (tree.log (tree.text (codes "before") ∷ []) ∷ tree.bag_set (codes "k") (tree.num 2) ∷ tree.invalidate None ∷ [])) tree.no_stmts
+before = tree.branch (tree.value (tree.num 1)) (stmts (tree.log (tree.text (codes "before") ∷ [])
+    ∷ tree.bag_set (codes "k") (tree.num 2) ∷ tree.invalidate None ∷ [])) tree.no_stmts
 
 -- a line that a fault before it leaves out
 abbrev pub after : StmtTree
@@ -63,7 +64,13 @@ after = tree.log (tree.text (codes "after") ∷ [])
 
 -- what `before` leaves, ended by a fault
 abbrev pub stopped : EvalFault → Ran
-stopped fault = record { fault = Some fault; lines = codes "before" ∷ []; changes = []; invalidations = [] ∷ []; bag = (codes "k", Num (pos 2)) ∷ [] }
+stopped fault = record {
+  fault = Some fault;
+  lines = codes "before" ∷ [];
+  changes = [];
+  invalidations = [] ∷ [];
+  bag = (codes "k", Num (pos 2)) ∷ [];
+}
 
 -- what `let a = 1`, `before` and a registration leave, ended by a fault
 abbrev pub module_stopped : EvalFault → Evaluated
@@ -75,7 +82,8 @@ module_stopped fault = record {
   bag = (codes "k", Num (pos 2)) ∷ [];
 }
 
--- a module that such a fault ends: `let a = 1`, `before`, a registration, the item, `let b = 2`, a registration
+-- a module that such a fault ends: `let a = 1`, `before`, a registration, the item, `let b = 2`, a
+-- registration
 abbrev pub module_with : ItemTree → ModuleTree
 module_with i =
     export_let (codes "a") (tree.num 1) ∷ tree.act before ∷ tree.dispose (tree.code nothing) ∷ i

@@ -1,5 +1,5 @@
--- Which modules have a canonical text that reads back: its tokens can be written, the rules on names hold, and it isn't too
--- deep.
+-- Which modules have a canonical text that reads back: its tokens can be written, the rules on names hold,
+-- and it isn't too deep.
 use Rattle.std.specs.Prelude.{ℕ, List, [], ◌∷◌, Bool, true, false, ◌&&◌, not, nat_le, Option, Some, None, map}
 use Rattle.std.specs.List.{list_all}
 use Rattle.std.specs.Str.{is_utf8}
@@ -44,10 +44,11 @@ abbrev pub at_most_one : {A : Type 0} → List A → Bool
 at_most_one [] = true
 at_most_one (x ∷ xs) = none_of xs
 
--- an accept callback: its parameters are names that may be declared, all different, and its statements may stand there; lets
--- are the names that `let` declares in the module
+-- an accept callback: its parameters are names that may be declared, all different, and its statements may
+-- stand there; lets are the names that `let` declares in the module
 abbrev pub fits_handler : List (List ℕ) → HandlerTree → Bool
-fits_handler lets h = list_all fits_name h.params && distinct [] h.params && fits_stmts lets (in_accept h.params) h.params h.body
+fits_handler lets h = list_all fits_name h.params && distinct [] h.params
+    && fits_stmts lets (in_accept h.params) h.params h.body
 
 -- one of the module itself, or of one dependency
 abbrev pub fits_one_handler : List (List ℕ) → HandlerTree → Bool
@@ -135,7 +136,8 @@ let_names decline = []
 abbrev pub module_lets : ModuleTree → List (List ℕ)
 module_lets m = flat (map let_names m)
 
--- each item may stand in the module, no name is bound twice, the nesting has at most the depth, and each token of the
--- canonical text can be written
+-- each item may stand in the module, no name is bound twice, the nesting has at most the depth, and each
+-- token of the canonical text can be written
 unfoldable pub fits : ModuleTree → Bool
-fits m = list_all (fits_item (module_lets m)) m && distinct [] (flat (map bound_names m)) && nat_le (module_deep m) DEPTH && list_all writable (canon_tokens m)
+fits m = list_all (fits_item (module_lets m)) m && distinct [] (flat (map bound_names m))
+    && nat_le (module_deep m) DEPTH && list_all writable (canon_tokens m)

@@ -1,5 +1,5 @@
--- The grammar of a module text: derivations, with one constructor for each production. A derivation is spelled by tokens,
--- says something of the module, and has a depth.
+-- The grammar of a module text: derivations, with one constructor for each production. A derivation is
+-- spelled by tokens, says something of the module, and has a depth.
 pub use Rattle.module_semantics.specs.ExprGrammar.{ExprD, NullD, NullRestD, SumD, SumRestD, ProdD, ProdRestD, UnaryD, PrimD, plain, choice, null, no_null, nullish, sum, no_sum, plus, minus, prod, no_prod, times, positive, negative, number, text, undefined, name, member, safe_member, bag, brackets, hot_spelt, nothing, not_error, expr_spelt, null_spelt, null_rest_spelt, sum_spelt, sum_rest_spelt, prod_spelt, prod_rest_spelt, unary_spelt, prim_spelt, expr_raw, null_raw, null_rest_raw, sum_raw, sum_rest_raw, prod_raw, prod_rest_raw, unary_raw, prim_raw, expr_depth, null_depth, null_rest_depth, sum_depth, sum_rest_depth, prod_depth, prod_rest_depth, unary_depth, prim_depth}
 use Rattle.std.specs.Prelude.{ℕ, suc, max, List, [], ◌∷◌, Bool, true, false, Option, Some, None, map}
 use Rattle.std.specs.Option.{option_map}
@@ -73,7 +73,8 @@ pub data InvalD : Type 0 where
 
 -- its tokens
 abbrev pub inval_spelt : InvalD → Spell
-inval_spelt (invalidate at e) = mark_at IMPORT at ▸ hot_spelt (mark INVALIDATE ▸ mark OPEN ▸ maybe expr_spelt e ▸ mark CLOSE)
+inval_spelt (invalidate at e) =
+    mark_at IMPORT at ▸ hot_spelt (mark INVALIDATE ▸ mark OPEN ▸ maybe expr_spelt e ▸ mark CLOSE)
 
 -- what it says
 abbrev pub inval_raw : InvalD → RawStmt
@@ -240,7 +241,8 @@ names_spelt ns = mark OPEN_BRACKET ▸ separated free_name ns ▸ mark CLOSE_BRA
 
 -- its tokens
 abbrev pub list_callback_spelt : ListCallbackD → Spell
-list_callback_spelt (list_callback ns b) = mark OPEN ▸ maybe names_spelt ns ▸ mark CLOSE ▸ mark ARROW ▸ body_spelt b
+list_callback_spelt (list_callback ns b) =
+    mark OPEN ▸ maybe names_spelt ns ▸ mark CLOSE ▸ mark ARROW ▸ body_spelt b
 
 -- what it says
 abbrev pub list_callback_raw : ListCallbackD → RawHandler
@@ -286,7 +288,8 @@ abbrev pub accept_spelt : AcceptD → Spell
 accept_spelt accept_all = nothing
 accept_spelt (own o) = own_spelt o
 accept_spelt (dep s c) = text_token s ▸ maybe (after_comma callback_spelt) c
-accept_spelt (deps ss c) = mark OPEN_BRACKET ▸ listed text_token ss ▸ mark CLOSE_BRACKET ▸ maybe (after_comma list_callback_spelt) c
+accept_spelt (deps ss c) =
+    mark OPEN_BRACKET ▸ listed text_token ss ▸ mark CLOSE_BRACKET ▸ maybe (after_comma list_callback_spelt) c
 
 -- what it says
 abbrev pub accept_raw : AcceptD → RawItem
@@ -401,12 +404,14 @@ pub data ItemD : Type 0 where
 -- its tokens
 abbrev pub guard_spelt : List TopD → Spell
 guard_spelt ds =
-    mark IF ▸ mark OPEN ▸ mark IMPORT ▸ mark DOT ▸ mark META ▸ mark DOT ▸ mark HOT ▸ mark CLOSE ▸ mark OPEN_BRACE ▸ many top_spelt ds ▸ mark CLOSE_BRACE
+    mark IF ▸ mark OPEN ▸ mark IMPORT ▸ mark DOT ▸ mark META ▸ mark DOT ▸ mark HOT ▸ mark CLOSE
+    ▸ mark OPEN_BRACE ▸ many top_spelt ds ▸ mark CLOSE_BRACE
 
 -- its tokens
 abbrev pub item_spelt : ItemD → Spell
 item_spelt (import_text s) = mark IMPORT ▸ text_token s ▸ end
-item_spelt (import_names ns s) = mark IMPORT ▸ mark OPEN_BRACE ▸ listed spec_spelt ns ▸ mark CLOSE_BRACE ▸ mark FROM ▸ text_token s ▸ end
+item_spelt (import_names ns s) =
+    mark IMPORT ▸ mark OPEN_BRACE ▸ listed spec_spelt ns ▸ mark CLOSE_BRACE ▸ mark FROM ▸ text_token s ▸ end
 item_spelt (exported d) = mark EXPORT ▸ decl_spelt d
 item_spelt (declared d) = decl_spelt d
 item_spelt (top d) = top_spelt d

@@ -1,5 +1,6 @@
--- The kinds of tokens that the grammar tells apart. A kind is a number: 0 for a name that is none of the grammar's own words,
--- then the words, first those that are never names, and then numbers, texts, and each punctuation.
+-- The kinds of tokens that the grammar tells apart. A kind is a number: 0 for a name that is none of the
+-- grammar's own words, then the words, first those that are never names, and then numbers, texts, and each
+-- punctuation.
 use Rattle.std.specs.Prelude.{ℕ, ◌+◌, List, [], ◌∷◌, Bool, false, ◌||◌, ◌==◌, ◌&&◌, if◌then◌else◌, codes}
 use Rattle.std.specs.Str.{bytes_eq}
 use Rattle.module_semantics.specs.Token.{Token, name, number, text, punct, LineToken}
@@ -148,7 +149,13 @@ NULLISH = 67
 -- each word of the grammar's own, with its kind
 abbrev pub words : List (List ℕ × ℕ)
 words =
-    (codes "import", IMPORT) ∷ (codes "export", EXPORT) ∷ (codes "const", CONST) ∷ (codes "let", LET) ∷ (codes "if", IF) ∷ (codes "else", ELSE) ∷ (codes "throw", THROW) ∷ (codes "undefined", UNDEFINED) ∷ (codes "null", NULL) ∷ (codes "true", TRUE) ∷ (codes "false", FALSE) ∷ (codes "console", CONSOLE) ∷ (codes "log", LOG) ∷ (codes "host", HOST) ∷ (codes "new", NEW) ∷ (codes "Error", ERROR) ∷ (codes "from", FROM) ∷ (codes "as", AS) ∷ (codes "meta", META) ∷ (codes "hot", HOT) ∷ (codes "data", DATA) ∷ (codes "accept", ACCEPT) ∷ (codes "dispose", DISPOSE) ∷ (codes "prune", PRUNE) ∷ (codes "decline", DECLINE) ∷ (codes "invalidate", INVALIDATE) ∷ []
+    (codes "import", IMPORT) ∷ (codes "export", EXPORT) ∷ (codes "const", CONST) ∷ (codes "let", LET)
+    ∷ (codes "if", IF) ∷ (codes "else", ELSE) ∷ (codes "throw", THROW) ∷ (codes "undefined", UNDEFINED)
+    ∷ (codes "null", NULL) ∷ (codes "true", TRUE) ∷ (codes "false", FALSE) ∷ (codes "console", CONSOLE)
+    ∷ (codes "log", LOG) ∷ (codes "host", HOST) ∷ (codes "new", NEW) ∷ (codes "Error", ERROR)
+    ∷ (codes "from", FROM) ∷ (codes "as", AS) ∷ (codes "meta", META) ∷ (codes "hot", HOT)
+    ∷ (codes "data", DATA) ∷ (codes "accept", ACCEPT) ∷ (codes "dispose", DISPOSE) ∷ (codes "prune", PRUNE)
+    ∷ (codes "decline", DECLINE) ∷ (codes "invalidate", INVALIDATE) ∷ []
 
 -- the kind of a name by a table
 unfoldable pub found_word : List ℕ → List (List ℕ × ℕ) → ℕ
@@ -177,11 +184,16 @@ reserved = IMPORT ∷ EXPORT ∷ CONST ∷ LET ∷ IF ∷ ELSE ∷ THROW ∷ UND
 
 -- all other names
 abbrev pub free_names : List ℕ
-free_names = OTHER ∷ CONSOLE ∷ LOG ∷ HOST ∷ NEW ∷ ERROR ∷ FROM ∷ AS ∷ META ∷ HOT ∷ DATA ∷ ACCEPT ∷ DISPOSE ∷ PRUNE ∷ DECLINE ∷ INVALIDATE ∷ []
+free_names =
+    OTHER ∷ CONSOLE ∷ LOG ∷ HOST ∷ NEW ∷ ERROR ∷ FROM ∷ AS ∷ META ∷ HOT ∷ DATA ∷ ACCEPT ∷ DISPOSE ∷ PRUNE
+    ∷ DECLINE ∷ INVALIDATE ∷ []
 
 -- names after a dot, which may be any
 abbrev pub all_names : List ℕ
-all_names = OTHER ∷ CONSOLE ∷ LOG ∷ HOST ∷ NEW ∷ ERROR ∷ FROM ∷ AS ∷ META ∷ HOT ∷ DATA ∷ ACCEPT ∷ DISPOSE ∷ PRUNE ∷ DECLINE ∷ INVALIDATE ∷ IMPORT ∷ EXPORT ∷ CONST ∷ LET ∷ IF ∷ ELSE ∷ THROW ∷ UNDEFINED ∷ NULL ∷ TRUE ∷ FALSE ∷ []
+all_names =
+    OTHER ∷ CONSOLE ∷ LOG ∷ HOST ∷ NEW ∷ ERROR ∷ FROM ∷ AS ∷ META ∷ HOT ∷ DATA ∷ ACCEPT
+    ∷ DISPOSE ∷ PRUNE ∷ DECLINE ∷ INVALIDATE ∷ IMPORT ∷ EXPORT ∷ CONST ∷ LET ∷ IF ∷ ELSE ∷ THROW ∷ UNDEFINED
+    ∷ NULL ∷ TRUE ∷ FALSE ∷ []
 
 -- the bytes of a name or a text
 abbrev pub bytes_of : Token → List ℕ

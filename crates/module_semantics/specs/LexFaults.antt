@@ -23,20 +23,28 @@ pub record BeginsNothing (b : ℕ) (bs : List ℕ) : Type 0 where
 -- what is wrong with the piece that begins with b, at a place, and where
 abbrev pub WrongPiece : ℕ → ℕ → List ℕ → LexKind → ℕ → Type 0
 WrongPiece at b bs BadByte place = (place ≡ at) × BeginsNothing b bs
-WrongPiece at b bs OpenString place = (ps : List Part) × (k : List ℕ) × (place ≡ at) × (is_quote b ≡ true) × (bs ≡ spelled_parts ps k) × (are_inside b ps ≡ true) × (opens not_line_end k ≡ false)
-WrongPiece at b bs BadEscape place = (ps : List Part) × (k : List ℕ) × (place ≡ at + suc (parts_size ps)) × (is_quote b ≡ true) × (bs ≡ spelled_parts ps (92 ∷ k)) × (are_inside b ps ≡ true) × (opens is_escape k ≡ false)
-WrongPiece at b bs OpenComment place = (k : List ℕ) × (place ≡ at) × (b ≡ 47) × (bs ≡ 42 ∷ k) × (unclosed k ≡ true)
-WrongPiece at b bs NumberTooLarge place = (ds : List ℕ) × (k : List ℕ) × (place ≡ at) × (is_digit b ≡ true) × ((b == 48) ≡ false) × (bs ≡ ds ++ k) × (all is_digit ds ≡ true) × (opens is_digit k ≡ false) × (LARGEST_NUMBER < value (b - 48) ds)
+WrongPiece at b bs OpenString place = (ps : List Part) × (k : List ℕ) × (place ≡ at) × (is_quote b ≡ true)
+    × (bs ≡ spelled_parts ps k) × (are_inside b ps ≡ true) × (opens not_line_end k ≡ false)
+WrongPiece at b bs BadEscape place =
+    (ps : List Part) × (k : List ℕ) × (place ≡ at + suc (parts_size ps)) × (is_quote b ≡ true)
+    × (bs ≡ spelled_parts ps (92 ∷ k)) × (are_inside b ps ≡ true) × (opens is_escape k ≡ false)
+WrongPiece at b bs OpenComment place =
+    (k : List ℕ) × (place ≡ at) × (b ≡ 47) × (bs ≡ 42 ∷ k) × (unclosed k ≡ true)
+WrongPiece at b bs NumberTooLarge place =
+    (ds : List ℕ) × (k : List ℕ) × (place ≡ at) × (is_digit b ≡ true) × ((b == 48) ≡ false) × (bs ≡ ds ++ k)
+    × (all is_digit ds ≡ true) × (opens is_digit k ≡ false) × (LARGEST_NUMBER < value (b - 48) ds)
 WrongPiece at b bs TooManyTokens place = ⊥
 WrongPiece at b bs NoMemory place = ⊥
 
--- what is wrong at a place, after a token and after some number of tokens: a byte that the token before bars, a piece that
--- begins so and isn't by the rules, or one token too many
+-- what is wrong at a place, after a token and after some number of tokens: a byte that the token before bars,
+-- a piece that begins so and isn't by the rules, or one token too many
 abbrev pub Wrong : After → ℕ → ℕ → ℕ → List ℕ → LexFault → Type 0
 Wrong last count at b bs f =
     ((f.kind ≡ BadByte) × (f.at ≡ at) × (barred last b ≡ true))
     ⊎ ((barred last b ≡ false) × WrongPiece at b bs f.kind f.at)
-    ⊎ ((f.kind ≡ TooManyTokens) × (f.at ≡ at) × (barred last b ≡ false) × (TOKENS ≤ count) × (p : Piece) × (k : List ℕ) × (t : Token) × (first p ≡ b) × (bs ≡ more p k) × (token_of p ≡ Some t) × IsPiece p × IsLongest p k)
+    ⊎ ((f.kind ≡ TooManyTokens) × (f.at ≡ at) × (barred last b ≡ false) × (TOKENS ≤ count)
+    × (p : Piece) × (k : List ℕ) × (t : Token) × (first p ≡ b) × (bs ≡ more p k) × (token_of p ≡ Some t)
+    × IsPiece p × IsLongest p k)
 
 -- pieces by the rules stand before the place, and there something is wrong
 pub record IsFirstLexFault (bytes : List ℕ) (f : LexFault) : Type 0 where

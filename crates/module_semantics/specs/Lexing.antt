@@ -1,5 +1,5 @@
--- What lexing gives: the tokens of a text, or its first fault. `Pieces` and `LexFaults` say the same by rules on whole
--- texts.
+-- What lexing gives: the tokens of a text, or its first fault. `Pieces` and `LexFaults` say the same by rules
+-- on whole texts.
 use Rattle.std.specs.Prelude.{◌≡◌, ℕ, zero, suc, ◌+◌, ◌*◌, ◌-◌, List, [], ◌∷◌, ◌++◌, length, take, drop, Bool, true, false, ◌&&◌, ◌==◌, nat_lt, if◌then◌else◌, Option, Some, None, Result, Ok, Err}
 use Rattle.hmr_types.specs.declared.limits.TheConstants.{TOKENS, LARGEST_NUMBER}
 use Rattle.module_semantics.specs.Steps.{◌>>=◌}
@@ -19,16 +19,24 @@ lex_fault kind at = record { at = at; kind = kind }
 unfoldable pub number_from : ℕ → ℕ → ℕ → List ℕ → Result (ℕ × ℕ) LexFault
 number_from at v n [] = Ok (v, n)
 number_from at v n (b ∷ bs) =
-    if is_digit b then (if nat_lt LARGEST_NUMBER (10 * v + (b - 48)) then Err (lex_fault NumberTooLarge at) else number_from at (10 * v + (b - 48)) (suc n) bs) else Ok (v, n)
+    if is_digit b
+    then (if nat_lt LARGEST_NUMBER (10 * v + (b - 48)) then Err (lex_fault NumberTooLarge at)
+    else number_from at (10 * v + (b - 48)) (suc n) bs)
+    else Ok (v, n)
 
--- the text and its length, after n bytes behind its quote that stand for out, the last of them a backslash of its own
--- where `pending`
+-- the text and its length, after n bytes behind its quote that stand for out, the last of them a backslash of
+-- its own where `pending`
 unfoldable pub text_from : ℕ → ℕ → List ℕ → ℕ → Bool → List ℕ → Result (List ℕ × ℕ) LexFault
 text_from at q out n true [] = Err (lex_fault BadEscape (at + n))
 text_from at q out n false [] = Err (lex_fault OpenString at)
-text_from at q out n true (b ∷ bs) = if is_escape b then text_from at q (out ++ (unescape b ∷ [])) (suc n) false bs else Err (lex_fault BadEscape (at + n))
+text_from at q out n true (b ∷ bs) =
+    if is_escape b then text_from at q (out ++ (unescape b ∷ [])) (suc n) false bs
+    else Err (lex_fault BadEscape (at + n))
 text_from at q out n false (b ∷ bs) =
-    if b == q then Ok (out, suc (suc n)) else if is_line_end b then Err (lex_fault OpenString at) else if b == 92 then text_from at q out (suc n) true bs else text_from at q (out ++ (b ∷ [])) (suc n) false bs
+    if b == q then Ok (out, suc (suc n))
+    else if is_line_end b then Err (lex_fault OpenString at)
+    else if b == 92 then text_from at q out (suc n) true bs
+    else text_from at q (out ++ (b ∷ [])) (suc n) false bs
 
 -- the list has this byte first
 unfoldable pub begins : ℕ → List ℕ → Bool
@@ -70,7 +78,9 @@ marked b (m ∷ ms) = if b == m.0 then Some m.1 else marked b ms
 
 -- `{ } ( ) [ ] , ; . = + - * ? :`, each with its number
 abbrev pub marks : List (ℕ × ℕ)
-marks = (123, 0) ∷ (125, 1) ∷ (40, 2) ∷ (41, 3) ∷ (91, 4) ∷ (93, 5) ∷ (44, 6) ∷ (59, 7) ∷ (46, 8) ∷ (61, 9) ∷ (43, 10) ∷ (45, 11) ∷ (42, 12) ∷ (63, 13) ∷ (58, 14) ∷ []
+marks =
+    (123, 0) ∷ (125, 1) ∷ (40, 2) ∷ (41, 3) ∷ (91, 4) ∷ (93, 5) ∷ (44, 6) ∷ (59, 7) ∷ (46, 8) ∷ (61, 9)
+    ∷ (43, 10) ∷ (45, 11) ∷ (42, 12) ∷ (63, 13) ∷ (58, 14) ∷ []
 
 -- the number of a punctuation of one byte
 unfoldable pub single : ℕ → Option ℕ
@@ -78,7 +88,11 @@ single b = marked b marks
 
 -- of two bytes: `=>`, `?.` and `??`
 unfoldable pub double : ℕ → ℕ → Option ℕ
-double b c = if b == 61 && c == 62 then Some 15 else if b == 63 && c == 46 then Some 16 else if b == 63 && c == 63 then Some 17 else None
+double b c =
+    if b == 61 && c == 62 then Some 15
+    else if b == 63 && c == 46 then Some 16
+    else if b == 63 && c == 63 then Some 17
+    else None
 
 -- a punctuation of one byte, or none
 abbrev pub single_at : ℕ → Option ℕ → Front
@@ -98,8 +112,13 @@ punct_at at b (c ∷ bs) = double_at (double b c) (single_at at (single b))
 -- the piece that begins with b at a place
 unfoldable pub front : ℕ → ℕ → List ℕ → Front
 front at b bs =
-    if is_blank b then Ok (None, 1) else if is_name_start b then Ok (Some (name (b ∷ take (span is_name_byte bs) bs)), suc (span is_name_byte bs))
-    else if is_digit b then number_at at b bs else if is_quote b then text_at at b bs else if b == 47 then comment_at at bs else punct_at at b bs
+    if is_blank b then Ok (None, 1)
+    else if is_name_start b
+    then Ok (Some (name (b ∷ take (span is_name_byte bs) bs)), suc (span is_name_byte bs))
+    else if is_digit b then number_at at b bs
+    else if is_quote b then text_at at b bs
+    else if b == 47 then comment_at at bs
+    else punct_at at b bs
 
 -- what a piece is to the byte directly after it
 unfoldable pub after_token : Option Token → After
@@ -119,7 +138,9 @@ barred after.Minus b = b == 45
 -- the tokens so far, with the one of the next piece
 unfoldable pub added : ℕ → List Lexeme → Option Token × ℕ → Result (List Lexeme) LexFault
 added at done (None, n) = Ok done
-added at done (Some t, n) = if nat_lt (length done) TOKENS then Ok (done ++ (record { token = t; at = at; len = n } ∷ [])) else Err (lex_fault TooManyTokens at)
+added at done (Some t, n) =
+    if nat_lt (length done) TOKENS then Ok (done ++ (record { token = t; at = at; len = n } ∷ []))
+    else Err (lex_fault TooManyTokens at)
 
 -- one piece, that begins with b: its length, what it is to the byte after it, and the tokens up to its end
 unfoldable pub step : ℕ → After → List Lexeme → ℕ → List ℕ → Result (ℕ × (After × List Lexeme)) LexFault

@@ -23,9 +23,11 @@ column_of text place = suc (since_line_feed 0 (take place text))
 -- the tokens of a text after a place at which the token before them ends
 unfoldable pub line_tokens_from : List ℕ → ℕ → List Lexeme → List LineToken
 line_tokens_from text end [] = []
-line_tokens_from text end (t ∷ ts) = record { token = t.token; at = t.at; later = nat_lt (line_of text end) (line_of text t.at) } ∷ line_tokens_from text (t.at + t.len) ts
+line_tokens_from text end (t ∷ ts) =
+    record { token = t.token; at = t.at; later = nat_lt (line_of text end) (line_of text t.at) }
+    ∷ line_tokens_from text (t.at + t.len) ts
 
--- the tokens of a text, each with whether it begins a line; for the first, which follows none, the text's begin is taken
--- as the end of one
+-- the tokens of a text, each with whether it begins a line; for the first, which follows none, the text's
+-- begin is taken as the end of one
 unfoldable pub line_tokens : List ℕ → List Lexeme → List LineToken
 line_tokens text ts = line_tokens_from text 0 ts

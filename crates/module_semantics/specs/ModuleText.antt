@@ -21,8 +21,8 @@ use Rattle.module_semantics.specs.declared.tokens.LexFault.{LexFault}
 use Rattle.module_semantics.specs.declared.tokens.LexKind.{LexKind}
 use Rattle.module_semantics.specs.declared.tokens.LexKind.TheVariants as kinds
 
--- the text is UTF-8, it is blanks, comments and longest tokens, its tokens have the grammar at no more than the depth, the
--- rules on names hold, and this is its tree
+-- the text is UTF-8, it is blanks, comments and longest tokens, its tokens have the grammar at no more than
+-- the depth, the rules on names hold, and this is its tree
 pub record ReadsAs (text : List ℕ) (m : ModuleTree) : Type 0 where
   pub utf8 : IsUtf8 text
   pub tokens : List Lexeme
@@ -66,7 +66,8 @@ named text items None = Ok (module_tree items)
 named text items (Some b) = Err (fault_at text b.at b.word)
 
 -- the tree, where the tokens have the grammar
-abbrev pub read_items : List ℕ → List LineToken → Result (List RawItem) GrammarFault → Result ModuleTree TextFault
+abbrev pub read_items : List ℕ → List LineToken → Result (List RawItem) GrammarFault →
+    Result ModuleTree TextFault
 read_items text ts (Ok items) = named text items (first_broken items)
 read_items text ts (Err f) = Err (grammar_fault text ts f)
 
@@ -77,7 +78,9 @@ read_tokens text (Err f) = Err (fault_at text f.at (lex_word f.kind))
 
 -- the module that a text reads as, or its first fault: of its bytes, its tokens, its grammar, or its names
 unfoldable pub parsing : List ℕ → Result ModuleTree TextFault
-parsing text = if is_utf8 text then read_tokens text (lexing text) else Err (fault_at text (utf8_valid_len text) words.NotUtf8)
+parsing text =
+    if is_utf8 text then read_tokens text (lexing text)
+    else Err (fault_at text (utf8_valid_len text) words.NotUtf8)
 
 -- the fault, where there is one
 abbrev pub fault_of : Result ModuleTree TextFault → Option TextFault

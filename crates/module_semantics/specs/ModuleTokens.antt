@@ -35,7 +35,8 @@ pub record FirstUnexpected (ts : List LineToken) (n : ℕ) : Type 0 where
   pub begins : Continues before
   pub stops : Stops before after
 
--- n tokens are left at a token up to which the tokens begin a module, but each module that begins so is deeper than this
+-- n tokens are left at a token up to which the tokens begin a module, but each module that begins so is
+-- deeper than this
 pub record TooDeepAt (most : ℕ) (ts : List LineToken) (n : ℕ) : Type 0 where
   pub before : List LineToken
   pub at : LineToken
@@ -43,4 +44,5 @@ pub record TooDeepAt (most : ℕ) (ts : List LineToken) (n : ℕ) : Type 0 where
   pub split : ts ≡ before ++ (at ∷ after)
   pub left : suc (length after) ≡ n
   pub begins : Continues (before ++ (at ∷ []))
-  pub deep : (d : ModuleD) (more : List LineToken) → module_spelt d (before ++ (at ∷ more)) ≡ Some [] → most < module_depth d
+  pub deep : (d : ModuleD) (more : List LineToken) →
+      module_spelt d (before ++ (at ∷ more)) ≡ Some [] → most < module_depth d

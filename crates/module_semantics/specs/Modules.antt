@@ -18,7 +18,10 @@ declare n s v = (record s { vars = with_entry n (Val v) s.vars }, None)
 
 -- one more registered handler
 abbrev pub register : HandlerKind → List (List ℕ) → OnceTree → State → Progress
-register kind deps what s = (record s { registered = s.registered ++ record { kind = kind; deps = deps; what = what } ∷ [] }, None)
+register kind deps what s = (
+  record s { registered = s.registered ++ record { kind = kind; deps = deps; what = what } ∷ [] },
+  None,
+)
 
 -- `accept()` registers nothing
 abbrev pub register_own : Option OnceTree → State → Progress
@@ -76,8 +79,15 @@ pub record Evaluated : Type 0 where
 
 -- what stands after a module's evaluation
 abbrev pub evaluated_of : Progress → Evaluated
-evaluated_of (s, fault) = record { fault = fault; vars = s.vars; lines = s.lines; registered = s.registered; bag = s.bag }
+evaluated_of (s, fault) = record {
+  fault = fault;
+  vars = s.vars;
+  lines = s.lines;
+  registered = s.registered;
+  bag = s.bag;
+}
 
 -- a module, where the locals of its imports hold this, with this bag
 abbrev pub module_run : ModuleTree → List (List ℕ × Slot) → List (List ℕ × Value) → Evaluated
-module_run m imports bag = evaluated_of (items_run (record { imports = imports; mods = [] }) m (opening (unset (declared_names m)) bag))
+module_run m imports bag = evaluated_of
+    (items_run (record { imports = imports; mods = [] }) m (opening (unset (declared_names m)) bag))

@@ -1,5 +1,5 @@
--- The rules on names, which are asked of a text that has the grammar. Each rule gives the places that break it; the fault is
--- the one at the least place.
+-- The rules on names, which are asked of a text that has the grammar. Each rule gives the places that break
+-- it; the fault is the one at the least place.
 use Rattle.std.specs.Prelude.{ℕ, List, [], ◌∷◌, ◌++◌, Bool, true, false, not, ◌||◌, nat_le, if◌then◌else◌, Option, Some, None, map}
 use Rattle.std.specs.Str.{bytes_eq}
 use Rattle.hmr_types.specs.declared.analysis.FaultWord.{FaultWord}
@@ -14,7 +14,8 @@ pub record Broken : Type 0 where
   pub at : ℕ
   pub word : FaultWord
 
--- where a statement stands: in no callback, in one of `dispose` or `prune`, or in one of `accept`, with these parameters
+-- where a statement stands: in no callback, in one of `dispose` or `prune`, or in one of `accept`, with these
+-- parameters
 pub data Within : Type 0 where
   outside : Within
   in_once : List (List ℕ) → Within
@@ -70,7 +71,8 @@ invalidate_rule w at = broken_if (not (accepts w)) Unexpected at
 -- names are all different: those that repeat an earlier one
 unfoldable pub repeated : List (List ℕ) → List NameAt → List Broken
 repeated before [] = []
-repeated before (n ∷ ns) = broken_if (has_name n.name before) DuplicateName n.at ++ repeated (n.name ∷ before) ns
+repeated before (n ∷ ns) =
+    broken_if (has_name n.name before) DuplicateName n.at ++ repeated (n.name ∷ before) ns
 
 -- what is broken in an expression
 unfoldable pub expr_broken : Within → RawExpr → List Broken

@@ -12,8 +12,8 @@ pub data Part : Type 0 where
   plain : ℕ → Part
   escaped : ℕ → Part
 
--- line and block: the bytes of a comment. word, digits: the first byte and the others. quoted: the quote and what is inside.
--- mark, pair: the bytes of a punctuation, and its number
+-- line and block: the bytes of a comment. word, digits: the first byte and the others. quoted: the quote and
+-- what is inside. mark, pair: the bytes of a punctuation, and its number
 pub data Piece : Type 0 where
   blank : ℕ → Piece
   line : List ℕ → Piece
@@ -128,7 +128,8 @@ IsPiece (line cs) = all not_line_feed cs ≡ true
 IsPiece (block cs) = unclosed cs ≡ true
 IsPiece (word b cs) = (is_name_start b ≡ true) × (all is_name_byte cs ≡ true)
 IsPiece nought = Unit {0}
-IsPiece (digits b ds) = (is_digit b ≡ true) × ((b == 48) ≡ false) × (all is_digit ds ≡ true) × (value (b - 48) ds ≤ LARGEST_NUMBER)
+IsPiece (digits b ds) = (is_digit b ≡ true) × ((b == 48) ≡ false) × (all is_digit ds ≡ true)
+    × (value (b - 48) ds ≤ LARGEST_NUMBER)
 IsPiece (quoted q ps) = (is_quote q ≡ true) × (are_inside q ps ≡ true)
 IsPiece (mark b p) = single b ≡ Some p
 IsPiece (pair b c p) = double b c ≡ Some p
@@ -153,7 +154,8 @@ spelled_all (p ∷ ps) k = spelled p (spelled_all ps k)
 -- each piece by the rules, longest, and not barred by the token directly before it
 abbrev pub Fit : After → List Piece → List ℕ → Type 0
 Fit last [] k = Unit {0}
-Fit last (p ∷ ps) k = IsPiece p × IsLongest p (spelled_all ps k) × (barred last (first p) ≡ false) × Fit (after_token (token_of p)) ps k
+Fit last (p ∷ ps) k = IsPiece p × IsLongest p (spelled_all ps k) × (barred last (first p) ≡ false)
+    × Fit (after_token (token_of p)) ps k
 
 -- what the last of the pieces is to the byte after it
 abbrev pub last_of : After → List Piece → After

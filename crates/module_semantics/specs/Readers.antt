@@ -61,7 +61,8 @@ choice ks f g ts = if next_in ks ts then f ts else g ts
 -- as many as stand there, at most n
 unfoldable pub many_from : {A : Type 0} → List ℕ → Reader A → ℕ → Reader (List A)
 many_from ks f zero ts = Ok ([], ts)
-many_from ks f (suc n) ts = if next_in ks ts then (f ts >>= λ x. many_from ks f n x.1 >>= λ y. Ok (x.0 ∷ y.0, y.1)) else Ok ([], ts)
+many_from ks f (suc n) ts =
+    if next_in ks ts then (f ts >>= λ x. many_from ks f n x.1 >>= λ y. Ok (x.0 ∷ y.0, y.1)) else Ok ([], ts)
 
 -- as many as stand there
 abbrev pub many : {A : Type 0} → List ℕ → Reader A → Reader (List A)
@@ -71,7 +72,11 @@ many ks f ts = many_from ks f (length ts) ts
 unfoldable pub listed_from : {A : Type 0} → List ℕ → Reader A → ℕ → Reader (List A)
 listed_from ks f zero ts = Ok ([], ts)
 listed_from ks f (suc n) ts =
-    if next_in ks ts then (f ts >>= λ x. if next_in (COMMA ∷ []) x.1 then (mark COMMA x.1 >>= λ c. listed_from ks f n c.1 >>= λ y. Ok (x.0 ∷ y.0, y.1)) else Ok (x.0 ∷ [], x.1)) else Ok ([], ts)
+    if next_in ks ts
+    then (f ts >>= λ x. if next_in (COMMA ∷ []) x.1
+    then (mark COMMA x.1 >>= λ c. listed_from ks f n c.1 >>= λ y. Ok (x.0 ∷ y.0, y.1))
+    else Ok (x.0 ∷ [], x.1))
+    else Ok ([], ts)
 
 -- as many as stand there, with commas
 abbrev pub listed : {A : Type 0} → List ℕ → Reader A → Reader (List A)
@@ -84,11 +89,13 @@ separated ks f = choice ks (mapped (λ v. v.0 ∷ v.1) (f & many (COMMA ∷ []) 
 -- a statement may end before these tokens with nothing: they are none, or begin with `}`, or begin a line
 unfoldable pub ends : List LineToken → Bool
 ends [] = true
-ends (t ∷ ts) = not (within (SEMICOLON ∷ []) (kind t.token)) && (if within (CLOSE_BRACE ∷ []) (kind t.token) then true else t.later)
+ends (t ∷ ts) = not (within (SEMICOLON ∷ []) (kind t.token))
+    && (if within (CLOSE_BRACE ∷ []) (kind t.token) then true else t.later)
 
 -- the end of a statement: a semicolon, which is taken where it stands, or nothing
 unfoldable pub end : Reader (Unit {0})
-end ts = if next_in (SEMICOLON ∷ []) ts then mark SEMICOLON ts else (if ends ts then Ok (tt, ts) else failed ts)
+end ts = if next_in (SEMICOLON ∷ []) ts then mark SEMICOLON ts
+    else (if ends ts then Ok (tt, ts) else failed ts)
 
 -- where no deeper part may stand: one that begins there is too deep
 unfoldable pub deep : {A : Type 0} → List ℕ → Reader A

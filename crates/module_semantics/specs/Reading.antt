@@ -1,5 +1,5 @@
--- Reading a module text: what the tokens of a text are by the grammar, or where they leave it. Each reader looks one token
--- ahead; `throw new` alone looks two. `Grammar` says the same by derivations.
+-- Reading a module text: what the tokens of a text are by the grammar, or where they leave it. Each reader
+-- looks one token ahead; `throw new` alone looks two. `Grammar` says the same by derivations.
 use Rattle.std.specs.Prelude.{ℕ, zero, suc, List, [], ◌∷◌, ◌++◌, length, Bool, true, false, if◌then◌else◌, Option, Some, None, Result, Ok, Err}
 use Rattle.module_tree.specs.declared.tree.Op.{Op}
 use Rattle.module_tree.specs.declared.tree.Op.TheVariants as ops
@@ -35,7 +35,8 @@ expr_firsts = NUMBER ∷ TEXT ∷ UNDEFINED ∷ IMPORT ∷ OPEN ∷ MINUS ∷ fr
 
 -- what follows a name that is read
 unfoldable pub access : Reader (Option (Bool × List ℕ))
-access = choice (DOT ∷ []) (mapped (λ k. Some (false, k)) (mark DOT ▷ key)) (choice (SAFE_DOT ∷ []) (mapped (λ k. Some (true, k)) (mark SAFE_DOT ▷ key)) (given None))
+access = choice (DOT ∷ []) (mapped (λ k. Some (false, k)) (mark DOT ▷ key))
+    (choice (SAFE_DOT ∷ []) (mapped (λ k. Some (true, k)) (mark SAFE_DOT ▷ key)) (given None))
 
 -- a name that is read, or a key of it
 abbrev pub accessed : NameAt × Option (Bool × List ℕ) → RawExpr
@@ -71,7 +72,8 @@ prod e = mapped (λ v. grouped v.0 v.1) (unary e & many (TIMES ∷ []) (operatio
 
 -- one or more, with `+` or `-` between
 unfoldable pub sum : Reader RawExpr → Reader RawExpr
-sum e = mapped (λ v. grouped v.0 v.1) (prod e & many (PLUS ∷ MINUS ∷ []) (choice (PLUS ∷ []) (operation PLUS ops.Add (prod e)) (operation MINUS ops.Sub (prod e))))
+sum e = mapped (λ v. grouped v.0 v.1) (prod e & many (PLUS ∷ MINUS ∷ [])
+    (choice (PLUS ∷ []) (operation PLUS ops.Add (prod e)) (operation MINUS ops.Sub (prod e))))
 
 -- one or more, with `??` between
 unfoldable pub null : Reader RawExpr → Reader RawExpr
@@ -84,7 +86,8 @@ chosen (c, Some v) = choose c v.0 v.1
 
 -- an expression, where e reads the expressions inside
 unfoldable pub expr_over : Reader RawExpr → Reader RawExpr
-expr_over e = mapped chosen (null e & choice (QUESTION ∷ []) (mapped Some (mark QUESTION ▷ (e ◁ mark COLON) & e)) (given None))
+expr_over e = mapped chosen
+    (null e & choice (QUESTION ∷ []) (mapped Some (mark QUESTION ▷ (e ◁ mark COLON) & e)) (given None))
 
 -- an expression, with at most this many in one another
 unfoldable pub expr : ℕ → Reader RawExpr
@@ -97,7 +100,9 @@ applied v = v.1 v.0
 
 -- statements that begin with a name
 abbrev pub but_console : List ℕ
-but_console = OTHER ∷ LOG ∷ HOST ∷ NEW ∷ ERROR ∷ FROM ∷ AS ∷ META ∷ HOT ∷ DATA ∷ ACCEPT ∷ DISPOSE ∷ PRUNE ∷ DECLINE ∷ INVALIDATE ∷ []
+but_console =
+    OTHER ∷ LOG ∷ HOST ∷ NEW ∷ ERROR ∷ FROM ∷ AS ∷ META ∷ HOT ∷ DATA ∷ ACCEPT ∷ DISPOSE ∷ PRUNE
+    ∷ DECLINE ∷ INVALIDATE ∷ []
 
 -- after a name: a value for it
 abbrev pub assigned : Reader RawExpr → Reader (NameAt → RawStmt)
@@ -107,11 +112,14 @@ assigned e = mapped (λ x n. assign n x) (mark EQUALS ▷ e)
 unfoldable pub console_act : Reader RawExpr → Reader RawStmt
 console_act e =
     mapped applied
-    (taken (CONSOLE ∷ []) name_at & choice (DOT ∷ []) (mapped (λ es n. log es) (mark DOT ▷ mark LOG ▷ mark OPEN ▷ separated expr_firsts e ◁ mark CLOSE)) (assigned e))
+    (taken (CONSOLE ∷ []) name_at & choice (DOT ∷ [])
+    (mapped (λ es n. log es) (mark DOT ▷ mark LOG ▷ mark OPEN ▷ separated expr_firsts e ◁ mark CLOSE))
+    (assigned e))
 
 -- with another name: an assignment to it or to a key of it
 unfoldable pub other_act : Reader RawExpr → Reader RawStmt
-other_act e = mapped applied (taken but_console name_at & choice (DOT ∷ []) (mapped (λ v n. set n v.0 v.1) (mark DOT ▷ key & mark EQUALS ▷ e)) (assigned e))
+other_act e = mapped applied (taken but_console name_at
+    & choice (DOT ∷ []) (mapped (λ v n. set n v.0 v.1) (mark DOT ▷ key & mark EQUALS ▷ e)) (assigned e))
 
 -- a statement that begins with a name
 unfoldable pub name_act : Reader RawExpr → Reader RawStmt
@@ -123,7 +131,8 @@ bag_act e = mapped (λ v. set_bag v.0 v.1) (mark DATA ▷ mark DOT ▷ key & mar
 
 -- what is thrown: `new` directly before `Error` is always the form with an error
 unfoldable pub thrown : Reader RawExpr → Reader RawExpr
-thrown e = mark THROW ▷ λ ts. if next_two NEW ERROR ts then (mark NEW ▷ mark ERROR ▷ mark OPEN ▷ e ◁ mark CLOSE) ts else e ts
+thrown e = mark THROW ▷ λ ts.
+    if next_two NEW ERROR ts then (mark NEW ▷ mark ERROR ▷ mark OPEN ▷ e ◁ mark CLOSE) ts else e ts
 
 -- after `import.meta.hot.`: what is told
 unfoldable pub told : Reader RawExpr → Reader (Option RawExpr)
@@ -139,7 +148,8 @@ told_stmt e = mapped (λ x at. invalidate at x) (told e)
 
 -- in a callback: a statement that begins with `import`
 unfoldable pub import_stmt : Reader RawExpr → Reader RawStmt
-import_stmt e = mapped applied (taken (IMPORT ∷ []) (λ t. t.at) & hot (choice (DATA ∷ []) (bag_stmt e) (told_stmt e)))
+import_stmt e =
+    mapped applied (taken (IMPORT ∷ []) (λ t. t.at) & hot (choice (DATA ∷ []) (bag_stmt e) (told_stmt e)))
 
 -- the readers of what stands inside: expressions, blocks and ifs after `else`
 pub record Inner : Type 0 where
@@ -153,11 +163,13 @@ only s = one_stmt s no_stmts
 
 -- what follows `else`, where it stands there
 unfoldable pub else_part : Inner → Reader RawStmts
-else_part i = choice (ELSE ∷ []) (mark ELSE ▷ choice (OPEN_BRACE ∷ []) i.block (mapped only i.else_if)) (given no_stmts)
+else_part i =
+    choice (ELSE ∷ []) (mark ELSE ▷ choice (OPEN_BRACE ∷ []) i.block (mapped only i.else_if)) (given no_stmts)
 
 -- an if
 unfoldable pub if_stmt : Inner → Reader RawStmt
-if_stmt i = mapped (λ v. branch v.0 v.1.0 v.1.1) (mark IF ▷ mark OPEN ▷ (i.expr ◁ mark CLOSE) & i.block & else_part i)
+if_stmt i =
+    mapped (λ v. branch v.0 v.1.0 v.1.1) (mark IF ▷ mark OPEN ▷ (i.expr ◁ mark CLOSE) & i.block & else_part i)
 
 -- what a statement of a callback begins with
 abbrev pub stmt_firsts : List ℕ
@@ -179,14 +191,16 @@ braces i = mark OPEN_BRACE ▷ mapped stmts_of (many stmt_firsts (stmt i)) ◁ m
 abbrev pub around : Reader RawExpr → Inner → Inner
 around e i = record { expr = e; block = braces i; else_if = if_stmt i }
 
--- what stands inside, where at most this many expressions, blocks and ifs after `else` may stand in one another
+-- what stands inside, where at most this many expressions, blocks and ifs after `else` may stand in one
+-- another
 unfoldable pub inner : ℕ → Inner
 inner zero = record { expr = expr zero; block = deep (OPEN_BRACE ∷ []); else_if = deep (IF ∷ []) }
 inner (suc n) = around (expr (suc n)) (inner n)
 
 -- callbacks
 unfoldable pub body : Inner → Reader RawStmts
-body i = choice (OPEN_BRACE ∷ []) (braces i) (mapped only (choice (IMPORT ∷ []) (import_stmt i.expr) (name_act i.expr)))
+body i = choice (OPEN_BRACE ∷ []) (braces i)
+    (mapped only (choice (IMPORT ∷ []) (import_stmt i.expr) (name_act i.expr)))
 
 -- a list of one
 abbrev pub alone : {A : Type 0} → A → List A
@@ -204,7 +218,8 @@ all_of (Some xs) = xs
 
 -- perhaps a parameter, in parentheses
 unfoldable pub in_parens : Reader (List NameAt)
-in_parens = mark OPEN ▷ mapped one_or_none (choice free_names (mapped Some free_name) (given None)) ◁ mark CLOSE
+in_parens = mark OPEN
+    ▷ mapped one_or_none (choice free_names (mapped Some free_name) (given None)) ◁ mark CLOSE
 
 -- a callback of its parameters and its body
 abbrev pub handler : List NameAt × RawStmts → RawHandler
@@ -212,7 +227,8 @@ handler v = record { params = v.0; body = v.1 }
 
 -- a callback whose parameter, where it stands alone, is of these kinds
 abbrev pub callback_by : List ℕ → Reader RawStmts → Reader RawHandler
-callback_by ks b = mapped handler (choice (OPEN ∷ []) in_parens (mapped alone (taken ks name_at)) & mark ARROW ▷ b)
+callback_by ks b =
+    mapped handler (choice (OPEN ∷ []) in_parens (mapped alone (taken ks name_at)) & mark ARROW ▷ b)
 
 -- a callback of one dependency or of the module itself
 unfoldable pub callback : Reader RawStmts → Reader RawHandler
@@ -222,11 +238,15 @@ callback b = callback_by free_names b
 unfoldable pub list_callback : Reader RawStmts → Reader RawHandler
 list_callback b =
     mapped handler
-    ((mark OPEN ▷ mapped all_of (choice (OPEN_BRACKET ∷ []) (mapped Some (mark OPEN_BRACKET ▷ separated free_names free_name ◁ mark CLOSE_BRACKET)) (given None)) ◁ mark CLOSE) & mark ARROW ▷ b)
+    ((mark OPEN ▷ mapped all_of (choice (OPEN_BRACKET ∷ [])
+    (mapped Some (mark OPEN_BRACKET ▷ separated free_names free_name ◁ mark CLOSE_BRACKET)) (given None))
+    ◁ mark CLOSE) & mark ARROW ▷ b)
 
 -- names but `host`
 abbrev pub but_host : List ℕ
-but_host = OTHER ∷ CONSOLE ∷ LOG ∷ NEW ∷ ERROR ∷ FROM ∷ AS ∷ META ∷ HOT ∷ DATA ∷ ACCEPT ∷ DISPOSE ∷ PRUNE ∷ DECLINE ∷ INVALIDATE ∷ []
+but_host =
+    OTHER ∷ CONSOLE ∷ LOG ∷ NEW ∷ ERROR ∷ FROM ∷ AS ∷ META ∷ HOT ∷ DATA ∷ ACCEPT ∷ DISPOSE ∷ PRUNE
+    ∷ DECLINE ∷ INVALIDATE ∷ []
 
 -- after `host`: the label of a host closure
 abbrev pub host_label : Reader (NameAt → RawOnce)
@@ -257,7 +277,8 @@ unfoldable pub accepted : Reader RawStmts → Reader RawItem
 accepted b =
     choice (TEXT ∷ []) (mapped (λ v. deps false (alone v.0) v.1) (text_token & after_comma (callback b)))
     (choice (OPEN_BRACKET ∷ [])
-    (mapped (λ v. deps true v.0 v.1) ((mark OPEN_BRACKET ▷ listed (TEXT ∷ []) text_token ◁ mark CLOSE_BRACKET) & after_comma (list_callback b)))
+    (mapped (λ v. deps true v.0 v.1) ((mark OPEN_BRACKET ▷ listed (TEXT ∷ []) text_token ◁ mark CLOSE_BRACKET)
+    & after_comma (list_callback b)))
     (choice own_firsts (mapped (λ o. own (Some o)) (once b)) (given (own None))))
 
 -- a call of `import.meta.hot`
@@ -278,7 +299,8 @@ top_firsts = IMPORT ∷ THROW ∷ free_names
 
 -- a statement at the top that begins with a name or `throw`
 unfoldable pub plain_top : Inner → Reader RawItem
-plain_top i = choice (THROW ∷ []) (mapped (λ x. act (throw x)) (thrown i.expr) ◁ end) (mapped act (name_act i.expr) ◁ end)
+plain_top i = choice (THROW ∷ []) (mapped (λ x. act (throw x)) (thrown i.expr) ◁ end)
+    (mapped act (name_act i.expr) ◁ end)
 
 -- a statement or a call at the top
 unfoldable pub top : Inner → Reader RawItem
@@ -287,12 +309,14 @@ top i = choice (IMPORT ∷ []) (mark IMPORT ▷ hot_top i) (plain_top i)
 -- `if (import.meta.hot)` and the statements that it guards
 unfoldable pub guard : Inner → Reader (List RawItem)
 guard i =
-    mark IF ▷ mark OPEN ▷ mark IMPORT ▷ mark DOT ▷ mark META ▷ mark DOT ▷ mark HOT ▷ mark CLOSE ▷ mark OPEN_BRACE ▷ many top_firsts (top i) ◁ mark CLOSE_BRACE
+    mark IF ▷ mark OPEN ▷ mark IMPORT ▷ mark DOT ▷ mark META ▷ mark DOT ▷ mark HOT ▷ mark CLOSE
+    ▷ mark OPEN_BRACE ▷ many top_firsts (top i) ◁ mark CLOSE_BRACE
 
 -- a declaration, exported or not
 unfoldable pub declaration : Reader RawExpr → Reader (Bool → RawItem)
 declaration e =
-    choice (CONST ∷ []) (mapped (λ v exported. declare exported false v.0 v.1) (mark CONST ▷ free_name & mark EQUALS ▷ e ◁ end))
+    choice (CONST ∷ [])
+    (mapped (λ v exported. declare exported false v.0 v.1) (mark CONST ▷ free_name & mark EQUALS ▷ e ◁ end))
     (mapped (λ v exported. declare exported true v.0 v.1) (mark LET ▷ free_name & mark EQUALS ▷ e ◁ end))
 
 -- a name that is imported under its own name or another
@@ -303,14 +327,17 @@ imported (n, Some l) = record { exported = n.name; local = l }
 -- one name of an import: a reserved word only before `as`
 unfoldable pub import_name : Reader RawImport
 import_name =
-    choice reserved (mapped (λ v. record { exported = v.0; local = v.1 }) (taken reserved (λ t. bytes_of t.token) & mark AS ▷ free_name))
+    choice reserved (mapped (λ v. record { exported = v.0; local = v.1 })
+    (taken reserved (λ t. bytes_of t.token) & mark AS ▷ free_name))
     (mapped imported (free_name & choice (AS ∷ []) (mapped Some (mark AS ▷ free_name)) (given None)))
 
 -- after `import`
 unfoldable pub import_item : Inner → Reader RawItem
 import_item i =
     choice (TEXT ∷ []) (mapped (λ s. import s []) (text_token ◁ end))
-    (choice (OPEN_BRACE ∷ []) (mapped (λ v. import v.1 v.0) ((mark OPEN_BRACE ▷ listed all_names import_name ◁ mark CLOSE_BRACE) & mark FROM ▷ text_token ◁ end))
+    (choice (OPEN_BRACE ∷ [])
+    (mapped (λ v. import v.1 v.0)
+    ((mark OPEN_BRACE ▷ listed all_names import_name ◁ mark CLOSE_BRACE) & mark FROM ▷ text_token ◁ end))
     (hot_top i))
 
 -- what an item begins with

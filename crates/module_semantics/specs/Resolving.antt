@@ -1,6 +1,6 @@
--- The tree of a module, of what its text says by the grammar. What a name means hangs on where it stands: in a `dispose` or
--- `prune` callback the keys of the parameter are those of the bag, and the parameter is forgotten; in an accept callback a
--- parameter is told by its place.
+-- The tree of a module, of what its text says by the grammar. What a name means hangs on where it stands: in
+-- a `dispose` or `prune` callback the keys of the parameter are those of the bag, and the parameter is
+-- forgotten; in an accept callback a parameter is told by its place.
 use Rattle.std.specs.Prelude.{ℕ, suc, List, [], ◌∷◌, Bool, if◌then◌else◌, map}
 use Rattle.std.specs.Option.{option_map}
 use Rattle.std.specs.Str.{bytes_eq}
@@ -69,7 +69,10 @@ abbrev mutual
 
 -- an accept callback keeps its parameters
 abbrev pub handler_tree : RawHandler → HandlerTree
-handler_tree h = record { params = names_of h.params; body = stmts_tree (in_accept (names_of h.params)) h.body }
+handler_tree h = record {
+  params = names_of h.params;
+  body = stmts_tree (in_accept (names_of h.params)) h.body;
+}
 
 -- a `dispose` or `prune` callback forgets its parameter
 abbrev pub once_handler_tree : RawHandler → HandlerTree

@@ -1,5 +1,5 @@
--- What the first fault of a text is, by what is wrong with it: its bytes, then its tokens, then its grammar or its depth, then
--- its names.
+-- What the first fault of a text is, by what is wrong with it: its bytes, then its tokens, then its grammar
+-- or its depth, then its names.
 use Rattle.std.specs.Prelude.{◌≡◌, ℕ, List, ◌⊎◌, Some, IsUtf8}
 use Rattle.std.specs.Str.Lossy.{utf8_valid_len}
 use Rattle.hmr_types.specs.declared.limits.TheConstants.{DEPTH}
@@ -58,4 +58,5 @@ pub record BreaksNames (text : List ℕ) (f : TextFault) : Type 0 where
 
 -- the first fault of a text
 abbrev pub IsFault : List ℕ → TextFault → Type 0
-IsFault text f = IsNoText text f ⊎ HasNoTokens text f ⊎ LeavesGrammar text f ⊎ GoesTooDeep text f ⊎ BreaksNames text f
+IsFault text f =
+    IsNoText text f ⊎ HasNoTokens text f ⊎ LeavesGrammar text f ⊎ GoesTooDeep text f ⊎ BreaksNames text f

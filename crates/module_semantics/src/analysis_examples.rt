@@ -28,7 +28,8 @@ pub fn names_come_once_in_order()
 /// The first specifier in the text that means no module, of imports and accepts, is the fault.
 #[tactic(auto, unfolding(hmr_types::specs::ModName::is_segment_byte))]
 pub fn first_specifier_is_the_fault()
-    ensures accept_first { analysed (codes "/m.js") (import (codes "/a.js") ∷ accept (codes "../b.js") ∷ import (codes "react") ∷ [])
+    ensures accept_first { analysed (codes "/m.js")
+        (import (codes "/a.js") ∷ accept (codes "../b.js") ∷ import (codes "react") ∷ [])
         ≡ Err (ScanFault.Spec SpecFault.Climbs) }
     ensures import_first { analysed (codes "/m.js") (import (codes "react") ∷ accept (codes "../b.js") ∷ [])
         ≡ Err (ScanFault.Spec SpecFault.Bare) }

@@ -16,6 +16,7 @@ pub fn analyses_are_well_made()
 /// Want of memory is no answer of the definitions.
 pub fn memory_is_never_meant()
     ensures specifiers { (base spec : List ℕ) → resolve base spec ≢ Err SpecFault.NoMemory }
-    ensures specifier_faults { (base : List ℕ) (m : ModuleTree) → analysed base m ≢ Err (ScanFault.Spec SpecFault.NoMemory) }
+    ensures specifier_faults { (base : List ℕ) (m : ModuleTree) →
+        analysed base m ≢ Err (ScanFault.Spec SpecFault.NoMemory) }
     ensures scan_faults { (base : List ℕ) (m : ModuleTree) → analysed base m ≢ Err ScanFault.NoMemory }
 {}

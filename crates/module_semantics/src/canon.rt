@@ -15,13 +15,17 @@ ghost use Rattle.std.specs.Prelude.{◌↔◌, ◌≡◌, ◌≤◌, ℕ, List, 
 /// has no more tokens than a text may have; so different modules of this kind have different
 /// canonical texts.
 pub fn canon_reads_back()
-    ensures exactly { (m : ModuleTree) → ((fits m ≡ true) × (length (canon_tokens m) ≤ TOKENS)) ↔ ReadsAs (canon m) m }
-    ensures apart { (m n : ModuleTree) → (fits m ≡ true) → (fits n ≡ true) → (length (canon_tokens m) ≤ TOKENS) → (length (canon_tokens n) ≤ TOKENS) → (canon m ≡ canon n) → m ≡ n }
+    ensures exactly { (m : ModuleTree) →
+        ((fits m ≡ true) × (length (canon_tokens m) ≤ TOKENS)) ↔ ReadsAs (canon m) m }
+    ensures apart { (m n : ModuleTree) → (fits m ≡ true) →
+        (fits n ≡ true) → (length (canon_tokens m) ≤ TOKENS) → (length (canon_tokens n) ≤ TOKENS) →
+        (canon m ≡ canon n) → m ≡ n }
 {}
 
 /// Only modules that fit are read; so a module that some text reads as is read again from its
 /// canonical text, where that has no more tokens than a text may have.
 pub fn only_what_fits_is_read()
     ensures fits { (text : List ℕ) (m : ModuleTree) → ReadsAs text m → fits m ≡ true }
-    ensures again { (text : List ℕ) (m : ModuleTree) → ReadsAs text m → (length (canon_tokens m) ≤ TOKENS) → ReadsAs (canon m) m }
+    ensures again { (text : List ℕ) (m : ModuleTree) → ReadsAs text m →
+        (length (canon_tokens m) ≤ TOKENS) → ReadsAs (canon m) m }
 {}

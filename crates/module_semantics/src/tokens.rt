@@ -58,11 +58,14 @@ pub fn lexing_is_the_pieces()
 /// call what stands there wrong; so a text has one first fault, or tokens.
 pub fn faults_are_the_rules()
     ensures same { (bytes : List ℕ) (f : LexFault) → (lexing bytes ≡ Err f) ↔ IsFirstLexFault bytes f }
-    ensures one { (bytes : List ℕ) (f g : LexFault) → IsFirstLexFault bytes f → IsFirstLexFault bytes g → f ≡ g }
-    ensures apart { (bytes : List ℕ) (ts : List Lexeme) (f : LexFault) → IsLexing bytes ts → IsFirstLexFault bytes f → ⊥ }
+    ensures one { (bytes : List ℕ) (f g : LexFault) → IsFirstLexFault bytes f →
+        IsFirstLexFault bytes g → f ≡ g }
+    ensures apart { (bytes : List ℕ) (ts : List Lexeme) (f : LexFault) → IsLexing bytes ts →
+        IsFirstLexFault bytes f → ⊥ }
 {}
 
 /// No piece by the rules that begins as a longest piece does is longer than it.
 pub fn none_is_longer()
-    ensures longest { (p q : Piece) (k j : List ℕ) → IsPiece p → IsLongest p k → IsPiece q → spelled q j ≡ spelled p k → size q ≤ size p }
+    ensures longest { (p q : Piece) (k j : List ℕ) → IsPiece p → IsLongest p k → IsPiece q →
+        spelled q j ≡ spelled p k → size q ≤ size p }
 {}

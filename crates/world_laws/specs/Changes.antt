@@ -29,4 +29,5 @@ change_too language w (fires i n value) past = past
 -- the edits and results of the steps so far, the newest first
 abbrev pub changes_in : Language → List Name → List (List (Text × ℕ)) → List Step → List Change
 changes_in language roots shelves [] = []
-changes_in language roots shelves (s ∷ past) = change_too language (world_after language roots shelves past) s (changes_in language roots shelves past)
+changes_in language roots shelves (s ∷ past) =
+    change_too language (world_after language roots shelves past) s (changes_in language roots shelves past)

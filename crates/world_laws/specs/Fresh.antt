@@ -35,14 +35,15 @@ AreFresh w = (i : ℕ) → IsFreshAt w (client_at w.core.clients i) (client_at w
 abbrev pub HasInstancesAt : World → Option Client → Option Runtime → Type 0
 HasInstancesAt w c None = ⊤
 HasInstancesAt w None (Some r) = ⊤
-HasInstancesAt w (Some c) (Some r) = IsCaughtUp w.core.sources c r → (n : Name) (v : ℕ) → Contains (fresh_table w.core.sources.served r.roots) (n, v) ↔ IsLiveAs r.instances n v
+HasInstancesAt w (Some c) (Some r) = IsCaughtUp w.core.sources c r → (n : Name) (v : ℕ) →
+    Contains (fresh_table w.core.sources.served r.roots) (n, v) ↔ IsLiveAs r.instances n v
 
 -- the same of each client
 abbrev pub HaveFreshInstances : World → Type 0
 HaveFreshInstances w = (i : ℕ) → HasInstancesAt w (client_at w.core.clients i) (client_at w.clients i)
 
--- the lines are those of the modules of a fresh load of these roots, and behind them stale edges alone; and the fresh
--- load misses nothing
+-- the lines are those of the modules of a fresh load of these roots, and behind them stale edges alone; and
+-- the fresh load misses nothing
 pub record ShowFreshLoad (roots : List Name) (served : Served) (lines : List OutLine) : Type 0 where
   pub stale : List (Name × Name)
   pub lines_are : lines ≡ map module_line (fresh_table served roots) ++ map stale_line stale
@@ -58,8 +59,10 @@ ShowsFresh served lines (Some r) = ShowFreshLoad r.roots served lines
 abbrev pub IsUnlinkedStale : Language → World → Option Client → Option Runtime → Type 0
 IsUnlinkedStale language w c None = ⊤
 IsUnlinkedStale language w None (Some r) = ⊤
-IsUnlinkedStale language w (Some c) (Some r) = IsCaughtUp w.core.sources c r → (n m x : Name) → Contains (unlinked_of (links_of language) w.core.sources.served r.roots) (n, m, x) → IsStale r n m
+IsUnlinkedStale language w (Some c) (Some r) = IsCaughtUp w.core.sources c r → (n m x : Name) →
+    Contains (unlinked_of (links_of language) w.core.sources.served r.roots) (n, m, x) → IsStale r n m
 
 -- the same of each client
 abbrev pub AreUnlinkedStale : Language → World → Type 0
-AreUnlinkedStale language w = (i : ℕ) → IsUnlinkedStale language w (client_at w.core.clients i) (client_at w.clients i)
+AreUnlinkedStale language w =
+    (i : ℕ) → IsUnlinkedStale language w (client_at w.core.clients i) (client_at w.clients i)

@@ -20,13 +20,19 @@ hidden_text = codes "const count = 1\n"
 
 -- the page of these
 abbrev pub hiding : Stage
-hiding = page_of (
-    (main_text, module_of (accepting (c ∷ []) (importing (c ∷ []))) (binding c count count ∷ []) (deps false (c ∷ []) None ∷ [])) ∷
-    (shown_text, module_of (exporting (count ∷ []) (importing [])) [] (declare true false count (num 1) ∷ [])) ∷
+hiding = page_of ((
+  main_text,
+  module_of (accepting (c ∷ []) (importing (c ∷ []))) (binding c count count ∷ [])
+      (deps false (c ∷ []) None ∷ []),
+) ∷ (
+  shown_text,
+  module_of (exporting (count ∷ []) (importing [])) [] (declare true false count (num 1) ∷ []),
+) ∷
     (hidden_text, module_of (importing []) [] (declare false false count (num 1) ∷ [])) ∷ [])
 
 -- it loads the page, the counter hides its count, and it updates the counter
 abbrev pub hidden : List Step
 hidden =
     turn 1 ∷ turn 1 ∷ turn 1 ∷ settles c 3 ∷ edits c (Some hidden_text) ∷
-    turn 1 ∷ turn 1 ∷ turn 1 ∷ opens 1 [] ∷ settles c 2 ∷ settles m 1 ∷ edits c (Some shown_text) ∷ edits m (Some main_text) ∷ []
+    turn 1 ∷ turn 1 ∷ turn 1 ∷ opens 1 [] ∷ settles c 2 ∷ settles m 1 ∷ edits c (Some shown_text) ∷
+    edits m (Some main_text) ∷ []

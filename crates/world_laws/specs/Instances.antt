@@ -22,7 +22,8 @@ pub record IsMadeOf (instances : List Instance) (x : Name) (k : ℕ) : Type 0 wh
 
 -- each link of each instance is to one that was made of the import's name
 abbrev pub AreLinked : List Instance → Type 0
-AreLinked instances = (i : Instance) → Contains instances i → (x : Name) (k : ℕ) → Contains i.links (x, k) → IsMadeOf instances x k
+AreLinked instances = (i : Instance) → Contains instances i → (x : Name) (k : ℕ) →
+    Contains i.links (x, k) → IsMadeOf instances x k
 
 -- the instance of this number exports the name
 pub record IsExporting (instances : List Instance) (k : ℕ) (x : Name) : Type 0 where
@@ -33,16 +34,20 @@ pub record IsExporting (instances : List Instance) (k : ℕ) (x : Name) : Type 0
 
 -- each name that an instance's text imports from what it is linked to is exported there
 abbrev pub AreExported : Language → List Instance → Type 0
-AreExported language instances = (i : Instance) → Contains instances i → (b : Binding) → Contains (language.bindings i.name i.text) b → (k : ℕ) → Contains i.links (b.dependency, k) → IsExporting instances k b.exported
+AreExported language instances = (i : Instance) → Contains instances i → (b : Binding) →
+    Contains (language.bindings i.name i.text) b → (k : ℕ) → Contains i.links (b.dependency, k) →
+    IsExporting instances k b.exported
 
 -- the numbers of all instances and links are counted
 pub record AreCounted (instances : List Instance) : Type 0 where
   pub numbers : (i : Instance) → Contains instances i → (1 ≤ i.number) × (i.number ≤ length instances)
-  pub links : (i : Instance) → Contains instances i → (x : Name) (k : ℕ) → Contains i.links (x, k) → (1 ≤ k) × (k ≤ length instances)
+  pub links : (i : Instance) → Contains instances i → (x : Name) (k : ℕ) → Contains i.links (x, k) →
+      (1 ≤ k) × (k ≤ length instances)
 
 -- where the instance's text has a good analysis, its links are of exactly the imports
 abbrev pub IsLinkedWhole : Language → Instance → Type 0
-IsLinkedWhole language i = (a : Analysis) → language.transformed i.name i.text ≡ Good a → (x : Name) → is_some (at i.links x) ≡ has a.imports x
+IsLinkedWhole language i = (a : Analysis) → language.transformed i.name i.text ≡ Good a → (x : Name) →
+    is_some (at i.links x) ≡ has a.imports x
 
 -- each does
 abbrev pub AreLinkedWhole : Language → List Instance → Type 0

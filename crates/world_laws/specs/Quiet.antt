@@ -66,7 +66,8 @@ EndsAt language s (Some c) (Some r) = IsIdleOrBusy c.page.plan language s c r
 
 -- of every client
 abbrev pub Ends : Language → World → Type 0
-Ends language w = (i : ℕ) → EndsAt language w.core.sources (client_at w.core.clients i) (client_at w.clients i)
+Ends language w =
+    (i : ℕ) → EndsAt language w.core.sources (client_at w.core.clients i) (client_at w.clients i)
 
 -- client i is connected and open, with this record and this runtime
 pub record IsOpen (w : World) (i : ℕ) (c : Client) (r : Runtime) : Type 0 where
@@ -75,7 +76,10 @@ pub record IsOpen (w : World) (i : ℕ) (c : Client) (r : Runtime) : Type 0 wher
 
 -- after every list of steps it holds of each connected and open client, and of the sources
 abbrev pub EachClient : Language → List Name → (Sources → Client → Runtime → Type 0) → Type 0
-EachClient language roots Holds = (shelves : List (List (Text × ℕ))) (past : List Step) (i : ℕ) (c : Client) (r : Runtime) → WentOn language roots shelves past → IsOpen (world_after language roots shelves past) i c r → Holds (world_after language roots shelves past).core.sources c r
+EachClient language roots Holds =
+    (shelves : List (List (Text × ℕ))) (past : List Step) (i : ℕ) (c : Client) (r : Runtime) →
+    WentOn language roots shelves past → IsOpen (world_after language roots shelves past) i c r →
+    Holds (world_after language roots shelves past).core.sources c r
 
 -- Quiet turns.
 
@@ -117,12 +121,15 @@ turns i (suc k) past = turns i k (turn i ∷ past)
 abbrev pub AreQuiet : Language → List Name → List (List (Text × ℕ)) → ℕ → ℕ → List Step → Type 0
 AreQuiet language roots shelves i zero past = ⊤
 AreQuiet language roots shelves i (suc k) past =
-    (is_some (world_step language roots shelves (world_after language roots shelves past) (turn i)).lines ≡ true)
-    × (unsent_of (client_at (world_after language roots shelves (turn i ∷ past)).clients i) ≤ unsent_of (client_at (world_after language roots shelves past).clients i))
+    (is_some (world_step language roots shelves (world_after language roots shelves past) (turn i)).lines
+    ≡ true)
+    × (unsent_of (client_at (world_after language roots shelves (turn i ∷ past)).clients i)
+    ≤ unsent_of (client_at (world_after language roots shelves past).clients i))
     × AreQuiet language roots shelves i k (turn i ∷ past)
 
 -- client i is caught up after at most k turns more
-pub record IsUpWithin (language : Language) (roots : List Name) (shelves : List (List (Text × ℕ))) (i k : ℕ) (past : List Step) : Type 0 where
+pub record IsUpWithin (language : Language) (roots : List Name) (shelves : List (List (Text × ℕ))) (i k : ℕ)
+    (past : List Step) : Type 0 where
   pub taken : ℕ
   pub few : taken ≤ k
   pub up : IsUp (world_after language roots shelves (turns i taken past)) i
@@ -139,7 +146,8 @@ debt_in w i = debt_at w.core.sources (client_at w.core.clients i) (client_at w.c
 -- the debts of client i now and after each of so many turns more
 abbrev pub debts : Language → List Name → List (List (Text × ℕ)) → ℕ → ℕ → List Step → List ℕ
 debts language roots shelves i zero past = debt_in (world_after language roots shelves past) i ∷ []
-debts language roots shelves i (suc k) past = debt_in (world_after language roots shelves past) i ∷ debts language roots shelves i k (turn i ∷ past)
+debts language roots shelves i (suc k) past =
+    debt_in (world_after language roots shelves past) i ∷ debts language roots shelves i k (turn i ∷ past)
 
 -- Steps that only look.
 
@@ -180,7 +188,9 @@ abbrev pub turns_in : ℕ → List Step → ℕ
 turns_in i steps = length (filter (is_turn i) steps)
 
 -- client i is caught up after so many turns more, at most k, whatever looks come between them
-pub record IsUpAmongLooks (language : Language) (roots : List Name) (shelves : List (List (Text × ℕ))) (i k : ℕ) (past : List Step) : Type 0 where
+pub record IsUpAmongLooks (language : Language) (roots : List Name) (shelves : List (List (Text × ℕ)))
+    (i k : ℕ) (past : List Step) : Type 0 where
   pub taken : ℕ
   pub few : taken ≤ k
-  pub up : (steps : List Step) → are_turns_and_looks i steps ≡ true → turns_in i steps ≡ taken → IsUp (world_after language roots shelves (steps ++ past)) i
+  pub up : (steps : List Step) → are_turns_and_looks i steps ≡ true → turns_in i steps ≡ taken →
+      IsUp (world_after language roots shelves (steps ++ past)) i

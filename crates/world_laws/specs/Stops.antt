@@ -17,16 +17,22 @@ pub record IsStopped (language : Language) (opening : Opening) (past : Past) (b 
 
 -- where the update's walk met b, b accepted x, or x accepted itself and wasn't forced
 abbrev pub IsAccepted : Runtime → Name → Name → Type 0
-IsAccepted r b x = (p : Plan) → r.page.plan ≡ Some p → has (met_of r.roots p r.page.view) b ≡ true → (accepts r.page.view b x ≡ true) ⊎ ((self_accepts r.page.view x ≡ true) × (has r.page.forced x ≡ false))
+IsAccepted r b x = (p : Plan) → r.page.plan ≡ Some p → has (met_of r.roots p r.page.view) b ≡ true →
+    (accepts r.page.view b x ≡ true) ⊎ ((self_accepts r.page.view x ≡ true) × (has r.page.forced x ≡ false))
 
 -- where the walk didn't meet b, no root reaches b any more once the update is applied
 abbrev pub IsLeftBehind : Runtime → Runtime → Name → Type 0
-IsLeftBehind r after b = (p : Plan) → r.page.plan ≡ Some p → has (met_of r.roots p r.page.view) b ≡ false → IsDropped after.page.view r.roots b
+IsLeftBehind r after b = (p : Plan) → r.page.plan ≡ Some p → has (met_of r.roots p r.page.view) b ≡ false →
+    IsDropped after.page.view r.roots b
 
 -- both hold at each stop of each update that was applied
 abbrev pub AreAccepted : Language → Opening → Past → Type 0
 AreAccepted language opening [] = ⊤
-AreAccepted language opening (came ∷ past) = ((k : ℕ) (b x : Name) → StopsAt (runtime_after language opening past) (runtime_after language opening (came ∷ past)) k b x → IsAccepted (runtime_after language opening past) b x × IsLeftBehind (runtime_after language opening past) (runtime_after language opening (came ∷ past)) b) × AreAccepted language opening past
+AreAccepted language opening (came ∷ past) = ((k : ℕ) (b x : Name) →
+    StopsAt (runtime_after language opening past) (runtime_after language opening (came ∷ past)) k b x →
+    IsAccepted (runtime_after language opening past) b x
+    × IsLeftBehind (runtime_after language opening past) (runtime_after language opening (came ∷ past)) b)
+    × AreAccepted language opening past
 
 -- an open client is what came to it makes
 abbrev pub IsMadeBy : Language → Opening → Past → Option Runtime → Type 0
@@ -41,7 +47,8 @@ AreStops language opening past (Some r) = (b x : Name) → IsStale r b x ↔ IsS
 -- and those are the edges that it lists as stale
 abbrev pub AreListedStops : Language → Opening → Past → Option Runtime → Type 0
 AreListedStops language opening past None = ⊤
-AreListedStops language opening past (Some r) = (b x : Name) → Contains (stale_of r) (b, x) ↔ IsStopped language opening past b x
+AreListedStops language opening past (Some r) =
+    (b x : Name) → Contains (stale_of r) (b, x) ↔ IsStopped language opening past b x
 
 -- each stop of an open client was at an edge that accepted
 abbrev pub AreStopsAccepted : Language → Opening → Past → Option Runtime → Type 0

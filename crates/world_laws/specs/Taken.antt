@@ -27,12 +27,15 @@ message_too (Some m) past = message m ∷ past
 -- in a turn of client j the core's answer comes to it
 abbrev pub in_turn : Language → List Name → World → ℕ → Option Runtime → ℕ → Life → Life
 in_turn language roots w j None i life = life
-in_turn language roots w j (Some r) i life = if j == i then record life { past = message_too (message_for r.format (step roots w.core (event_of j (request language r))).1) life.past } else life
+in_turn language roots w j (Some r) i life = if j == i then record life {
+  past = message_too (message_for r.format (step roots w.core (event_of j (request language r))).1) life.past;
+} else life
 
 -- a client that is opened begins, and the answer to its hello comes
 abbrev pub in_open : List (List (Text × ℕ)) → ℕ → List Name → Option ServerMsg → Option ℕ → ℕ → Life → Life
 in_open shelves format names m None i life = life
-in_open shelves format names m (Some j) i life = if j == i then record { opening = opening_of shelves format names j; past = message_too m [] } else life
+in_open shelves format names m (Some j) i life =
+    if j == i then record { opening = opening_of shelves format names j; past = message_too m [] } else life
 
 -- an event comes to the client at whose page it is fired
 abbrev pub in_fire : ℕ → Name → Value → Option Runtime → ℕ → Life → Life
@@ -62,4 +65,5 @@ unborn shelves i = record { opening = opening_of shelves 1 [] i; past = [] }
 -- what client i began with, and what came to it in the steps so far
 abbrev pub life_of : Language → List Name → List (List (Text × ℕ)) → List Step → ℕ → Life
 life_of language roots shelves [] i = unborn shelves i
-life_of language roots shelves (s ∷ past) i = lived_in language roots shelves (world_after language roots shelves past) s i (life_of language roots shelves past i)
+life_of language roots shelves (s ∷ past) i = lived_in language roots shelves
+    (world_after language roots shelves past) s i (life_of language roots shelves past i)

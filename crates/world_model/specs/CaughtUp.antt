@@ -29,7 +29,8 @@ is_empty (x ∷ xs) = false
 
 -- the same, as a test
 abbrev pub is_caught_up : Sources → Client → Runtime → Bool
-is_caught_up s c r = c.page.loaded && is_none c.page.plan && is_empty (changed s c) && is_empty c.page.forced && is_empty (dropped c) && is_empty c.notices && is_empty r.unsent
+is_caught_up s c r = c.page.loaded && is_none c.page.plan && is_empty (changed s c) && is_empty c.page.forced
+    && is_empty (dropped c) && is_empty c.notices && is_empty r.unsent
 
 -- a client without a record isn't caught up
 abbrev pub state_of : Sources → Option Client → Runtime → ClientState

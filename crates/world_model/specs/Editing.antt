@@ -58,7 +58,8 @@ jobs_after n t gone jobs = jobs
 
 -- the world after an edit
 abbrev pub edited_by : Name → Option Text → World → Core × Reply → Stepped
-edited_by n t w after = stepped (record w { core = after.0; issued = jobs_after n t after.1 w.issued }) (lines_of_edit n t after.1)
+edited_by n t w after = stepped (record w { core = after.0; issued = jobs_after n t after.1 w.issued })
+    (lines_of_edit n t after.1)
 
 -- whether the job is of this name and version
 abbrev pub is_job : Name → ℕ → Job → Bool
@@ -80,9 +81,12 @@ lines_of_settle n v gone = []
 
 -- the world after a result
 abbrev pub settled_by : Name → ℕ → World → Core × Reply → Stepped
-settled_by n v w after = stepped (record w { core = after.0; issued = filter (λ j. not (is_job n v j)) w.issued }) (lines_of_settle n v after.1)
+settled_by n v w after =
+    stepped (record w { core = after.0; issued = filter (λ j. not (is_job n v j)) w.issued })
+    (lines_of_settle n v after.1)
 
 -- the result of an issued job is the one that transforming its text gives
 abbrev pub settle_job : Language → List Name → Name → ℕ → World → Option Job → Stepped
 settle_job language roots n v w None = stepped w (line.Settle n v settles_as.NotIssued ∷ [])
-settle_job language roots n v w (Some j) = settled_by n v w (step roots w.core (change (result n j.text (language.transformed n j.text) v)))
+settle_job language roots n v w (Some j) =
+    settled_by n v w (step roots w.core (change (result n j.text (language.transformed n j.text) v)))

@@ -23,7 +23,9 @@ late = page_of (
     (two_text, module_of (exporting (n ∷ []) (importing [])) [] (declare true false n (num 2) ∷ [])) ∷ [])
 
 abbrev pub late_script : List Command
-late_script = edited m one_text ∷ edited m two_text ∷ step (settles m 2) ∷ step (settles m 1) ∷ step (settles m 2) ∷ edited m two_text ∷ step fresh ∷ []
+late_script =
+    edited m one_text ∷ edited m two_text ∷ step (settles m 2) ∷ step (settles m 1) ∷ step (settles m 2) ∷
+    edited m two_text ∷ step fresh ∷ []
 
 -- A text that can't be read, then its mend.
 
@@ -58,9 +60,13 @@ export_a k = declare true false (codes "a") (num k)
 
 abbrev pub moving : Stage
 moving = page_of (
-    (moving_m, module_of (importing (a ∷ [])) (binding a (codes "a") (codes "a") ∷ []) []) ∷
-    (moving_1, module_of (self_accepting (exporting (codes "a" ∷ []) (importing []))) [] (export_a 1 ∷ own None ∷ [])) ∷
-    (moving_2, module_of (self_accepting (exporting (codes "a" ∷ []) (importing []))) [] (export_a 2 ∷ own None ∷ [])) ∷
+    (moving_m, module_of (importing (a ∷ [])) (binding a (codes "a") (codes "a") ∷ []) []) ∷ (
+      moving_1,
+      module_of (self_accepting (exporting (codes "a" ∷ []) (importing []))) [] (export_a 1 ∷ own None ∷ []),
+    ) ∷ (
+      moving_2,
+      module_of (self_accepting (exporting (codes "a" ∷ []) (importing []))) [] (export_a 2 ∷ own None ∷ []),
+    ) ∷
     (moving_3, module_of (exporting (codes "a" ∷ []) (importing [])) [] (export_a 3 ∷ [])) ∷
     (moving_4, module_of (exporting (codes "a" ∷ []) (importing [])) [] (export_a 4 ∷ [])) ∷ [])
 
@@ -93,12 +99,24 @@ mixed_x_3 = codes "export const y = 3;"
 
 abbrev pub mixed : Stage
 mixed = page_of (
-    (mixed_m, module_of (accepting (a ∷ []) (importing (a ∷ []))) [] (deps false (a ∷ []) None ∷ [])) ∷
-    (mixed_a, module_of (exporting (codes "a" ∷ []) (importing (x ∷ []))) (binding x (codes "x") (codes "x") ∷ []) (declare true false (codes "a") (name (codes "x")) ∷ [])) ∷
-    (mixed_a_new, module_of (exporting (codes "a" ∷ []) (importing (x ∷ []))) (binding x (codes "y") (codes "y") ∷ []) (declare true false (codes "a") (name (codes "y")) ∷ [])) ∷
-    (mixed_x_1, module_of (exporting (codes "x" ∷ []) (importing [])) [] (declare true false (codes "x") (num 1) ∷ [])) ∷
-    (mixed_x_2, module_of (exporting (codes "x" ∷ []) (importing [])) [] (declare true false (codes "x") (num 2) ∷ [])) ∷
-    (mixed_x_3, module_of (exporting (codes "y" ∷ []) (importing [])) [] (declare true false (codes "y") (num 3) ∷ [])) ∷ [])
+    (mixed_m, module_of (accepting (a ∷ []) (importing (a ∷ []))) [] (deps false (a ∷ []) None ∷ [])) ∷ (
+      mixed_a,
+      module_of (exporting (codes "a" ∷ []) (importing (x ∷ []))) (binding x (codes "x") (codes "x") ∷ [])
+          (declare true false (codes "a") (name (codes "x")) ∷ []),
+    ) ∷ (
+      mixed_a_new,
+      module_of (exporting (codes "a" ∷ []) (importing (x ∷ []))) (binding x (codes "y") (codes "y") ∷ [])
+          (declare true false (codes "a") (name (codes "y")) ∷ []),
+    ) ∷ (
+      mixed_x_1,
+      module_of (exporting (codes "x" ∷ []) (importing [])) [] (declare true false (codes "x") (num 1) ∷ []),
+    ) ∷ (
+      mixed_x_2,
+      module_of (exporting (codes "x" ∷ []) (importing [])) [] (declare true false (codes "x") (num 2) ∷ []),
+    ) ∷ (
+      mixed_x_3,
+      module_of (exporting (codes "y" ∷ []) (importing [])) [] (declare true false (codes "y") (num 3) ∷ []),
+    ) ∷ [])
 
 abbrev pub mixed_script : List Command
 mixed_script =
@@ -121,10 +139,15 @@ abbrev pub needing : Stage
 needing = page_of ((
   needing_m,
   module_of (accepting (x ∷ []) (importing (x ∷ []))) (binding x (codes "x") (codes "x") ∷ []) (
-      deps false (x ∷ []) (Some (callback (codes "n" ∷ []) (log (text (codes "x is") ∷ (member 0 true (codes "x") ∷ []))))) ∷ []),
-) ∷
-    (needed_1, module_of (exporting (codes "x" ∷ []) (importing [])) [] (declare true false (codes "x") (num 1) ∷ [])) ∷
-    (needed_5, module_of (exporting (codes "x" ∷ []) (importing [])) [] (declare true false (codes "x") (num 5) ∷ [])) ∷ [])
+      deps false (x ∷ [])
+      (Some (callback (codes "n" ∷ []) (log (text (codes "x is") ∷ (member 0 true (codes "x") ∷ []))))) ∷ []),
+) ∷ (
+  needed_1,
+  module_of (exporting (codes "x" ∷ []) (importing [])) [] (declare true false (codes "x") (num 1) ∷ []),
+) ∷ (
+  needed_5,
+  module_of (exporting (codes "x" ∷ []) (importing [])) [] (declare true false (codes "x") (num 5) ∷ []),
+) ∷ [])
 
 abbrev pub needing_script : List Command
 needing_script =

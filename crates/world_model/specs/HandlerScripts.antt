@@ -56,10 +56,15 @@ abbrev pub label : Text
 label = codes "H"
 
 abbrev pub hosting : Stage
-hosting = record (page_of (
-    (hosting_1, module_of (self_accepting (importing [])) [] (dispose (host label) ∷ dispose (code (callback [] (log_text (codes "second")))) ∷ prune (host label) ∷ own None ∷ [])) ∷
-    (hosting_2, module_of (self_accepting (importing [])) [] (own None ∷ dispose (host label) ∷ [])) ∷
-    (hosting_3, module_of (self_accepting (importing [])) [] (own None ∷ act (log (bag (codes "host") ∷ [])) ∷ [])) ∷ [])) {
+hosting = record (page_of ((
+  hosting_1,
+  module_of (self_accepting (importing [])) [] (dispose (host label) ∷
+      dispose (code (callback [] (log_text (codes "second")))) ∷ prune (host label) ∷ own None ∷ []),
+) ∷
+    (hosting_2, module_of (self_accepting (importing [])) [] (own None ∷ dispose (host label) ∷ [])) ∷ (
+      hosting_3,
+      module_of (self_accepting (importing [])) [] (own None ∷ act (log (bag (codes "host") ∷ [])) ∷ []),
+    ) ∷ [])) {
       shelves = ((label, 1) ∷ (label, 2) ∷ (label, 3) ∷ []) ∷ [];
     }
 
@@ -81,18 +86,26 @@ abbrev pub valid_a : Text
 valid_a = codes "export const a = 2; import.meta.hot.accept();"
 
 abbrev pub invalidating : Stage
-invalidating = page_of (
-    (invalid_m, module_of (self_accepting (importing (a ∷ []))) (binding a (codes "a") (codes "a") ∷ []) (act (log (text (codes "m") ∷ (name (codes "a") ∷ []))) ∷ own None ∷ [])) ∷ (
-      invalid_a,
-      module_of (self_accepting (exporting (codes "a" ∷ []) (importing []))) [] (
-          declare true false (codes "a") (num 1) ∷
-          own (Some (code (callback (codes "n" ∷ []) (invalidate (Some (binary Add (text (codes "changed ")) (member 0 true (codes "a")))))))) ∷ []),
-    ) ∷
-    (valid_a, module_of (self_accepting (exporting (codes "a" ∷ []) (importing []))) [] (declare true false (codes "a") (num 2) ∷ own None ∷ [])) ∷ [])
+invalidating = page_of ((
+  invalid_m,
+  module_of (self_accepting (importing (a ∷ []))) (binding a (codes "a") (codes "a") ∷ [])
+      (act (log (text (codes "m") ∷ (name (codes "a") ∷ []))) ∷ own None ∷ []),
+) ∷ (
+  invalid_a,
+  module_of (self_accepting (exporting (codes "a" ∷ []) (importing []))) [] (
+      declare true false (codes "a") (num 1) ∷
+      own (Some (code (callback (codes "n" ∷ [])
+      (invalidate (Some (binary Add (text (codes "changed ")) (member 0 true (codes "a")))))))) ∷ []),
+) ∷ (
+  valid_a,
+  module_of (self_accepting (exporting (codes "a" ∷ []) (importing []))) []
+      (declare true false (codes "a") (num 2) ∷ own None ∷ []),
+) ∷ [])
 
 abbrev pub invalidating_script : List Command
 invalidating_script =
-    edited m invalid_m ∷ edited a invalid_a ∷ settle_all ∷ step (opens 1 []) ∷ step (opens 1 []) ∷ turns 1 9 ∷ turns 2 9 ∷
+    edited m invalid_m ∷ edited a invalid_a ∷ settle_all ∷ step (opens 1 []) ∷
+    step (opens 1 []) ∷ turns 1 9 ∷ turns 2 9 ∷
     edited a valid_a ∷ settle_all ∷ turns 1 20 ∷ step (show 1) ∷ step (show 2) ∷ []
 
 -- The same where the second client opens after the edit: it has the version that the first invalidates.
@@ -100,7 +113,8 @@ invalidating_script =
 abbrev pub second_client_script : List Command
 second_client_script =
     edited m invalid_m ∷ edited a invalid_a ∷ settle_all ∷ step (opens 1 []) ∷ turns 1 9 ∷
-    edited a valid_a ∷ settle_all ∷ step (opens 1 []) ∷ turns 2 9 ∷ turns 1 20 ∷ step (show 1) ∷ step (show 2) ∷ []
+    edited a valid_a ∷ settle_all ∷ step (opens 1 []) ∷ turns 2 9 ∷ turns 1 20 ∷
+    step (show 1) ∷ step (show 2) ∷ []
 
 -- A root that invalidates itself.
 
@@ -108,12 +122,16 @@ abbrev pub invalid_root : Text
 invalid_root = codes "import.meta.hot.accept(() => import.meta.hot.invalidate());"
 
 abbrev pub invalid_root_page : Stage
-invalid_root_page = page_of (
-    (invalid_root, module_of (self_accepting (importing [])) [] (own (Some (code (callback [] (invalidate None)))) ∷ [])) ∷
+invalid_root_page = page_of ((
+  invalid_root,
+  module_of (self_accepting (importing [])) [] (own (Some (code (callback [] (invalidate None)))) ∷ []),
+) ∷
     (without_x, module_of (self_accepting (importing [])) [] (own None ∷ [])) ∷ [])
 
 abbrev pub invalid_root_script : List Command
-invalid_root_script = edited m invalid_root ∷ settle_all ∷ step (opens 1 []) ∷ turns 1 9 ∷ edited m without_x ∷ settle_all ∷ turns 1 9 ∷ []
+invalid_root_script =
+    edited m invalid_root ∷ settle_all ∷ step (opens 1 []) ∷ turns 1 9 ∷ edited m without_x ∷
+    settle_all ∷ turns 1 9 ∷ []
 
 -- A dependency that faults: its importer isn't run, and a callback gets undefined for it.
 
@@ -124,7 +142,8 @@ abbrev pub faulting_x : Text
 faulting_x = codes "throw \"bad\"; export const n = 1;"
 
 abbrev pub watching_m : Text
-watching_m = codes "import \"./x.js\"; import.meta.hot.accept(\"./x.js\", (x) => { console.log(\"x has\", x?.n); });"
+watching_m =
+    codes "import \"./x.js\"; import.meta.hot.accept(\"./x.js\", (x) => { console.log(\"x has\", x?.n); });"
 
 abbrev pub sound_x : Text
 sound_x = codes "export const n = 1;"
@@ -133,14 +152,25 @@ abbrev pub export_n : ItemTree
 export_n = declare true false (codes "n") (num 1)
 
 abbrev pub faulting : Stage
-faulting = page_of (
-    (faulting_m, module_of (importing (x ∷ [])) (binding x (codes "n") (codes "n") ∷ []) (act (log_text (codes "no")) ∷ [])) ∷
-    (watching_m, module_of (accepting (x ∷ []) (importing (x ∷ []))) [] (deps false (x ∷ []) (Some (callback (codes "x" ∷ []) (log (text (codes "x has") ∷ (member 0 true (codes "n") ∷ []))))) ∷ [])) ∷
-    (faulting_x, module_of (exporting (codes "n" ∷ []) (importing [])) [] (act (throw (text (codes "bad"))) ∷ export_n ∷ [])) ∷
+faulting = page_of ((
+  faulting_m,
+  module_of (importing (x ∷ [])) (binding x (codes "n") (codes "n") ∷ [])
+      (act (log_text (codes "no")) ∷ []),
+) ∷ (
+  watching_m,
+  module_of (accepting (x ∷ []) (importing (x ∷ []))) [] (deps false (x ∷ []) (Some
+      (callback (codes "x" ∷ []) (log (text (codes "x has") ∷ (member 0 true (codes "n") ∷ []))))) ∷ []),
+) ∷ (
+  faulting_x,
+  module_of (exporting (codes "n" ∷ []) (importing [])) []
+      (act (throw (text (codes "bad"))) ∷ export_n ∷ []),
+) ∷
     (sound_x, module_of (exporting (codes "n" ∷ []) (importing [])) [] (export_n ∷ [])) ∷ [])
 
 abbrev pub faulting_script : List Command
-faulting_script = edited m faulting_m ∷ edited x faulting_x ∷ settle_all ∷ step (opens 1 []) ∷ turns 1 9 ∷ step (show 1) ∷ step (values 1) ∷ []
+faulting_script =
+    edited m faulting_m ∷ edited x faulting_x ∷ settle_all ∷ step (opens 1 []) ∷ turns 1 9 ∷
+    step (show 1) ∷ step (values 1) ∷ []
 
 abbrev pub watching_script : List Command
 watching_script =
@@ -167,19 +197,23 @@ abbrev pub e : Name
 e = codes "e"
 
 abbrev pub hearing_m : Text
-hearing_m = codes "import.meta.hot.on(\"my:ping\", (e) => { console.log(\"got\", e.data); });\nimport.meta.hot.accept();"
+hearing_m = codes
+    "import.meta.hot.on(\"my:ping\", (e) => { console.log(\"got\", e.data); });\nimport.meta.hot.accept();"
 
 abbrev pub hearing : Stage
 hearing = page_of ((
   hearing_m,
   module_of (self_accepting (importing [])) [] (
-      deps false (ping ∷ []) (Some (callback (e ∷ []) (log (text (codes "got") ∷ (member 0 false (codes "data") ∷ []))))) ∷
+      deps false (ping ∷ [])
+      (Some (callback (e ∷ []) (log (text (codes "got") ∷ (member 0 false (codes "data") ∷ []))))) ∷
       own None ∷ []),
 ) ∷ ([], module_of (self_accepting (importing [])) [] (own None ∷ [])) ∷ [])
 
 abbrev pub hearing_script : List Command
 hearing_script =
-    edited m hearing_m ∷ settle_all ∷ step (opens 1 []) ∷ step (fires 1 ping (Str (codes "early"))) ∷ turns 1 9 ∷
-    step (fires 1 ping (Str (codes "one"))) ∷ step (fires 1 x (Str (codes "other"))) ∷ step (fires 2 ping (Str (codes "one"))) ∷
+    edited m hearing_m ∷ settle_all ∷ step (opens 1 []) ∷
+    step (fires 1 ping (Str (codes "early"))) ∷ turns 1 9 ∷
+    step (fires 1 ping (Str (codes "one"))) ∷ step (fires 1 x (Str (codes "other"))) ∷
+    step (fires 2 ping (Str (codes "one"))) ∷
     edited m [] ∷ settle_all ∷ step (turn 1) ∷ step (fires 1 ping (Str (codes "two"))) ∷ turns 1 9 ∷
     step (fires 1 ping (Str (codes "three"))) ∷ []

@@ -48,7 +48,9 @@ joined before s = stepped_on before s.world s.lines
 
 -- a step, where the run isn't over
 abbrev pub play_step : Stage → Played → Step → Played
-play_step stage p s = let next : Played = joined p.lines (world_step stage.language stage.roots stage.shelves p.world s) in if p.over then p else next
+play_step stage p s =
+    let next : Played = joined p.lines (world_step stage.language stage.roots stage.shelves p.world s) in
+    if p.over then p else next
 
 -- the result of a job
 abbrev pub settle_of : Job → Step
@@ -84,7 +86,8 @@ play_command stage p (turns i k) = play_turns_of stage i k (client_at p.world.cl
 
 -- a whole script
 abbrev pub played : Stage → List Command → Played
-played stage commands = fold (play_command stage) (record { world = new_world; lines = []; over = false }) commands
+played stage commands =
+    fold (play_command stage) (record { world = new_world; lines = []; over = false }) commands
 
 -- the lines of the script
 abbrev pub play : Stage → List Command → List OutLine

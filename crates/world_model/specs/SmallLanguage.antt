@@ -67,7 +67,9 @@ member_of (Some (Some exports)) x = value_in (slot_at exports x)
 -- at most so many digits of a number
 abbrev pub digits : ℕ → ℕ → Text
 digits zero n = []
-digits (suc k) n = let before : Text = digits k (n / 10) in if n == 0 then [] else before ++ (48 + n % 10) ∷ []
+digits (suc k) n =
+    let before : Text = digits k (n / 10) in
+    if n == 0 then [] else before ++ (48 + n % 10) ∷ []
 
 -- a number of at most sixteen digits, which isn't 0
 abbrev pub whole_text : ℤ → Text
@@ -116,12 +118,19 @@ space = 32
 
 -- a statement is run
 abbrev pub run_stmt : List (Option Slots) → State → StmtTree → State
-run_stmt mods s (log es) = record s { lines = s.lines ++ join_with_byte space (map (λ e. as_text (value_of s mods e)) es) ∷ [] }
-run_stmt mods s (assign x e) = record s { vars = assigned s.vars (x, value_of s mods e); changes = s.changes ++ (x, value_of s mods e) ∷ [] }
+run_stmt mods s (log es) = record s {
+  lines = s.lines ++ join_with_byte space (map (λ e. as_text (value_of s mods e)) es) ∷ [];
+}
+run_stmt mods s (assign x e) = record s {
+  vars = assigned s.vars (x, value_of s mods e);
+  changes = s.changes ++ (x, value_of s mods e) ∷ [];
+}
 run_stmt mods s (bag_set k e) = record s { bag = with_key k (value_of s mods e) s.bag }
 run_stmt mods s (throw e) = record s { fault = Some (Thrown (as_text (value_of s mods e))) }
 run_stmt mods s (invalidate None) = record s { invalidations = s.invalidations ++ [] ∷ [] }
-run_stmt mods s (invalidate (Some e)) = record s { invalidations = s.invalidations ++ as_text (value_of s mods e) ∷ [] }
+run_stmt mods s (invalidate (Some e)) = record s {
+  invalidations = s.invalidations ++ as_text (value_of s mods e) ∷ [];
+}
 run_stmt mods s (branch c first second) = s
 
 -- a fault ends the evaluation
@@ -135,7 +144,9 @@ run_stmts mods s (one_stmt first rest) = run_stmts mods (go_on s (run_stmt mods 
 
 -- a handler is registered
 abbrev pub register : HandlerKind → List Name → OnceTree → State → State
-register k names what s = record s { registered = s.registered ++ record { kind = k; deps = names; what = what } ∷ [] }
+register k names what s = record s {
+  registered = s.registered ++ record { kind = k; deps = names; what = what } ∷ [];
+}
 
 -- an item of a module is evaluated
 abbrev pub run_item : State → ItemTree → State
@@ -157,7 +168,15 @@ declared_by item = []
 
 -- before the first item or statement
 abbrev pub start : Slots → Bag → State
-start vars before = record { vars = vars; lines = []; changes = []; invalidations = []; registered = []; bag = before; fault = None }
+start vars before = record {
+  vars = vars;
+  lines = [];
+  changes = [];
+  invalidations = [];
+  registered = [];
+  bag = before;
+  fault = None;
+}
 
 -- the variables that a module declares
 abbrev pub own_vars : List ItemTree → Slots
@@ -170,18 +189,37 @@ slot_of vars row = (row.0, slot_at vars row.0)
 -- the evaluation of a module's items
 abbrev pub evaluated_by : List ItemTree → Slots → Bag → Evaluated
 evaluated_by items imports before =
-    let s : State = fold (λ s item. go_on s (run_item s item)) (start (own_vars items ++ imports) before) items in
-    record { fault = s.fault; vars = map (slot_of s.vars) (own_vars items); lines = s.lines; registered = s.registered; bag = s.bag }
+    let s : State = fold (λ s item. go_on s (run_item s item))
+    (start (own_vars items ++ imports) before) items in
+    record {
+      fault = s.fault;
+      vars = map (slot_of s.vars) (own_vars items);
+      lines = s.lines;
+      registered = s.registered;
+      bag = s.bag;
+    }
 
 -- the run of a callback
 abbrev pub ran_by : HandlerTree → Slots → List (Option Slots) → Bag → Ran
 ran_by h vars mods before =
     let s : State = run_stmts mods (start vars before) h.body in
-    record { fault = s.fault; lines = s.lines; changes = s.changes; invalidations = s.invalidations; bag = s.bag }
+    record {
+      fault = s.fault;
+      lines = s.lines;
+      changes = s.changes;
+      invalidations = s.invalidations;
+      bag = s.bag;
+    }
 
 -- a closure of the embedding program gives one line, and keeps its number under the key `host`
 abbrev pub hosted_by : Text → ℕ → Bag → Ran
-hosted_by label number before = record { fault = None; lines = (codes "host " ++ label ++ codes " " ++ whole_text (pos number)) ∷ []; changes = []; invalidations = []; bag = with_key (codes "host") (Num (pos number)) before }
+hosted_by label number before = record {
+  fault = None;
+  lines = (codes "host " ++ label ++ codes " " ++ whole_text (pos number)) ∷ [];
+  changes = [];
+  invalidations = [];
+  bag = with_key (codes "host") (Num (pos number)) before;
+}
 
 -- a text that stands for no module is unexpected at its first place
 abbrev pub outcome_in : Option Module → Outcome

@@ -26,7 +26,13 @@ c = codes "/counter.js"
 
 -- a module that imports these modules
 abbrev pub importing : List Name → Analysis
-importing imports = record { imports = imports; exports = []; self_accepts = false; accepted = []; declined = false }
+importing imports = record {
+  imports = imports;
+  exports = [];
+  self_accepts = false;
+  accepted = [];
+  declined = false;
+}
 
 -- the same with these exports
 abbrev pub exporting : List Name → Analysis → Analysis
@@ -58,7 +64,10 @@ callback params stmt = record { params = params; body = one_stmt stmt no_stmts }
 
 -- a callback of two statements
 abbrev pub callback_of_two : List Name → StmtTree → StmtTree → HandlerTree
-callback_of_two params first second = record { params = params; body = one_stmt first (one_stmt second no_stmts) }
+callback_of_two params first second = record {
+  params = params;
+  body = one_stmt first (one_stmt second no_stmts);
+}
 
 -- a console line of one text
 abbrev pub log_text : Text → StmtTree

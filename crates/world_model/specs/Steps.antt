@@ -18,7 +18,8 @@ unlinked_line edge = line.Unlinked edge.0 edge.1 edge.2
 
 -- the lines of a fresh load below its first
 abbrev pub load_lines : FreshLoad → List OutLine
-load_lines load = (map (λ row. line.Module row.0 row.1) load.table ++ (map line.Missing load.missing ++ map unlinked_line load.unlinked))
+load_lines load = (map (λ row. line.Module row.0 row.1) load.table ++
+    (map line.Missing load.missing ++ map unlinked_line load.unlinked))
 
 -- the lines of the fresh load of the server's roots
 abbrev pub fresh_lines : FreshLoad → List OutLine
@@ -35,18 +36,23 @@ loaded_anew language w roots = fresh_load (links_of language) w.core.sources.ser
 -- what a step makes of the world
 abbrev pub world_step : Language → List Name → List (List (Text × ℕ)) → World → Step → Stepped
 world_step language roots shelves w (edits n t) = edited_by n t w (step roots w.core (change (edit n t)))
-world_step language roots shelves w (settles n v) = settle_job language roots n v w (find (is_job n v) w.issued)
-world_step language roots shelves w (opens format names) = open_by language shelves format names w (step roots w.core (connect names))
+world_step language roots shelves w (settles n v) =
+    settle_job language roots n v w (find (is_job n v) w.issued)
+world_step language roots shelves w (opens format names) =
+    open_by language shelves format names w (step roots w.core (connect names))
 world_step language roots shelves w (turn i) = turn_of language roots i w (client_at w.clients i)
 world_step language roots shelves w (closes i) = close_of roots i w (client_at w.clients i)
-world_step language roots shelves w (show i) = shown i w (λ r. show_lines (state_in w i r) r) (client_at w.clients i)
+world_step language roots shelves w (show i) =
+    shown i w (λ r. show_lines (state_in w i r) r) (client_at w.clients i)
 world_step language roots shelves w (values i) = shown i w value_lines (client_at w.clients i)
 world_step language roots shelves w (fates i) = shown i w fate_lines (client_at w.clients i)
 world_step language roots shelves w fresh = stepped w (fresh_lines (loaded_anew language w roots))
-world_step language roots shelves w (fresh_of i) = shown i w (λ r. fresh_of_lines i (loaded_anew language w r.roots)) (client_at w.clients i)
+world_step language roots shelves w (fresh_of i) =
+    shown i w (λ r. fresh_of_lines i (loaded_anew language w r.roots)) (client_at w.clients i)
 world_step language roots shelves w (fires i n value) = fire_of language i n value w (client_at w.clients i)
 
 -- what the steps so far make, the newest first
 abbrev pub world_after : Language → List Name → List (List (Text × ℕ)) → List Step → World
 world_after language roots shelves [] = new_world
-world_after language roots shelves (s ∷ past) = (world_step language roots shelves (world_after language roots shelves past) s).world
+world_after language roots shelves (s ∷ past) =
+    (world_step language roots shelves (world_after language roots shelves past) s).world

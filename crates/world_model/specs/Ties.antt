@@ -53,7 +53,8 @@ IsUnderstood is_stopped = ⊥
 -- in a turn of the client i the core's answer is understood
 abbrev pub UnderstandsAt : Language → List Name → World → ℕ → Option Runtime → Type 0
 UnderstandsAt language roots w i None = ⊤
-UnderstandsAt language roots w i (Some r) = IsUnderstood (take_some language r (message_for r.format (step roots w.core (event_of i (request language r))).1)).answer
+UnderstandsAt language roots w i (Some r) = IsUnderstood (take_some language r
+    (message_for r.format (step roots w.core (event_of i (request language r))).1)).answer
 
 abbrev pub Understands : Language → List Name → World → Type 0
 Understands language roots w = (i : ℕ) → UnderstandsAt language roots w i (client_at w.clients i)
@@ -61,4 +62,6 @@ Understands language roots w = (i : ℕ) → UnderstandsAt language roots w i (c
 -- no client would have made too many instances so far
 abbrev pub WentOn : Language → List Name → List (List (Text × ℕ)) → List Step → Type 0
 WentOn language roots shelves [] = ⊤
-WentOn language roots shelves (s ∷ past) = (is_some (world_step language roots shelves (world_after language roots shelves past) s).lines ≡ true) × WentOn language roots shelves past
+WentOn language roots shelves (s ∷ past) =
+    (is_some (world_step language roots shelves (world_after language roots shelves past) s).lines ≡ true)
+    × WentOn language roots shelves past

@@ -30,7 +30,10 @@ lines_taken is_stopped = Some []
 
 -- the world after an answer was taken
 abbrev pub turned_by : ℕ → World → Core → Taking → Stepped
-turned_by i w core taking = record { world = record w { core = core; clients = with_client i taking.after w.clients }; lines = lines_taken taking.answer }
+turned_by i w core taking = record {
+  world = record w { core = core; clients = with_client i taking.after w.clients };
+  lines = lines_taken taking.answer;
+}
 
 -- a message is taken; where there is none, nothing happens
 abbrev pub take_some : Language → Runtime → Option ServerMsg → Taking
@@ -44,7 +47,8 @@ answered_by language i r w after = turned_by i w after.0 (take_some language r (
 -- one request, one step of the core, one effect
 abbrev pub turn_of : Language → List Name → ℕ → World → Option Runtime → Stepped
 turn_of language roots i w None = stepped w (line.Unknown i ∷ [])
-turn_of language roots i w (Some r) = answered_by language i r w (step roots w.core (event_of i (request language r)))
+turn_of language roots i w (Some r) =
+    answered_by language i r w (step roots w.core (event_of i (request language r)))
 
 -- the number of a client that was just connected
 abbrev pub connected_as : Option ServerMsg → Option ℕ
@@ -70,8 +74,10 @@ abbrev pub opening_of : List (List (Text × ℕ)) → ℕ → List Name → ℕ 
 opening_of shelves format names i = record { shelf = shelf_of shelves i; roots = names; format = format }
 
 -- a client that was connected is open
-abbrev pub opened_by : Language → List (List (Text × ℕ)) → ℕ → List Name → World → Core × Reply → Option ℕ → Stepped
-opened_by language shelves format names w after None = stepped (record w { core = after.0 }) (refusal_line after.1 ∷ [])
+abbrev pub opened_by : Language → List (List (Text × ℕ)) → ℕ → List Name → World →
+    Core × Reply → Option ℕ → Stepped
+opened_by language shelves format names w after None =
+    stepped (record w { core = after.0 }) (refusal_line after.1 ∷ [])
 opened_by language shelves format names w after (Some i) =
     let opened : Runtime = new_runtime (opening_of shelves format names i) in
     let taking : Taking = take_some language opened (message_for format after.1) in
@@ -79,12 +85,15 @@ opened_by language shelves format names w after (Some i) =
 
 -- a hello and its answer
 abbrev pub open_by : Language → List (List (Text × ℕ)) → ℕ → List Name → World → Core × Reply → Stepped
-open_by language shelves format names w after = opened_by language shelves format names w after (connected_as (message_for format after.1))
+open_by language shelves format names w after =
+    opened_by language shelves format names w after (connected_as (message_for format after.1))
 
 -- a client that closes is no more
 abbrev pub close_of : List Name → ℕ → World → Option Runtime → Stepped
 close_of roots i w None = stepped w (line.Unknown i ∷ [])
-close_of roots i w (Some r) = stepped (record w { core = (step roots w.core (disconnect i)).0; clients = without_client i w.clients }) (line.Close i ∷ [])
+close_of roots i w (Some r) =
+    stepped (record w { core = (step roots w.core (disconnect i)).0; clients = without_client i w.clients })
+    (line.Close i ∷ [])
 
 -- what a client shows; nothing changes
 abbrev pub shown : ℕ → World → (Runtime → List OutLine) → Option Runtime → Stepped
@@ -114,7 +123,8 @@ or_no_lines (Some lines) = lines
 -- the world after an event was fired
 abbrev pub fired_by : ℕ → World → Option (List OutLine) → Option Firing → Stepped
 fired_by i w lines None = stepped w []
-fired_by i w lines (Some f) = stepped (record w { clients = with_client i f.after w.clients }) (or_no_lines lines)
+fired_by i w lines (Some f) =
+    stepped (record w { clients = with_client i f.after w.clients }) (or_no_lines lines)
 
 -- an event is fired at the client's page
 abbrev pub fire_of : Language → ℕ → Name → Value → World → Option Runtime → Stepped

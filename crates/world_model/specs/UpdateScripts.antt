@@ -16,7 +16,8 @@ abbrev pub counter_text : Text
 counter_text = codes "export const count = (import.meta.hot.data.count ?? 0) + 1\nconsole.log(\"counter\", count)\nimport.meta.hot.dispose((data) => {\n  data.count = count\n})\n"
 
 abbrev pub counter_by_ten : Text
-counter_by_ten = codes "export const count = (import.meta.hot.data.count ?? 0) + 10\nconsole.log(\"counter\", count)\n"
+counter_by_ten =
+    codes "export const count = (import.meta.hot.data.count ?? 0) + 10\nconsole.log(\"counter\", count)\n"
 
 abbrev pub count : List ℕ
 count = codes "count"
@@ -27,9 +28,11 @@ kept_count_plus n = binary Add (binary Null (bag count) (num 0)) (num n)
 abbrev pub counter : Stage
 counter = page_of ((
   main_text,
-  module_of (accepting (c ∷ []) (exporting (count ∷ []) (importing (c ∷ [])))) (binding c count (codes "c") ∷ []) (
+  module_of (accepting (c ∷ []) (exporting (count ∷ []) (importing (c ∷ []))))
+      (binding c count (codes "c") ∷ []) (
       declare true true count (name (codes "c")) ∷
-      deps false (c ∷ []) (Some (callback_of_two (codes "newCounter" ∷ []) (assign count (member 0 true count)) (log (text (codes "count is now") ∷ (name count ∷ []))))) ∷ []),
+      deps false (c ∷ []) (Some (callback_of_two (codes "newCounter" ∷ [])
+      (assign count (member 0 true count)) (log (text (codes "count is now") ∷ (name count ∷ []))))) ∷ []),
 ) ∷ (
   counter_text,
   module_of (exporting (count ∷ []) (importing [])) [] (
@@ -65,10 +68,14 @@ chain_b_new = codes "export const n = 1;"
 
 abbrev pub chain : Stage
 chain = page_of (
-    (chain_m, module_of (importing (a ∷ [])) [] []) ∷
-    (chain_a, module_of (importing (b ∷ [])) [] (dispose (code (callback [] (log_text (codes "never")))) ∷ [])) ∷
-    (chain_b, module_of (importing []) [] []) ∷
-    (chain_b_new, module_of (exporting (codes "n" ∷ []) (importing [])) [] (declare true false (codes "n") (num 1) ∷ [])) ∷ [])
+    (chain_m, module_of (importing (a ∷ [])) [] []) ∷ (
+      chain_a,
+      module_of (importing (b ∷ [])) [] (dispose (code (callback [] (log_text (codes "never")))) ∷ []),
+    ) ∷
+    (chain_b, module_of (importing []) [] []) ∷ (
+      chain_b_new,
+      module_of (exporting (codes "n" ∷ []) (importing [])) [] (declare true false (codes "n") (num 1) ∷ []),
+    ) ∷ [])
 
 abbrev pub chain_script : List Command
 chain_script =
@@ -94,13 +101,20 @@ cycle_x_new = codes "console.log(\"x2\");"
 
 abbrev pub cycle : Stage
 cycle = page_of (
-    (cycle_m, module_of (accepting (a ∷ []) (importing (a ∷ []))) [] (deps false (a ∷ []) None ∷ [])) ∷
-    (cycle_a, module_of (importing (b ∷ (x ∷ []))) [] (act (log_text (codes "a")) ∷ dispose (code (callback [] (log_text (codes "bye a")))) ∷ [])) ∷
-    (cycle_b, module_of (self_accepting (importing (a ∷ []))) [] (own None ∷ act (log_text (codes "b")) ∷ dispose (code (callback [] (log_text (codes "bye b")))) ∷ [])) ∷
+    (cycle_m, module_of (accepting (a ∷ []) (importing (a ∷ []))) [] (deps false (a ∷ []) None ∷ [])) ∷ (
+      cycle_a,
+      module_of (importing (b ∷ (x ∷ []))) []
+          (act (log_text (codes "a")) ∷ dispose (code (callback [] (log_text (codes "bye a")))) ∷ []),
+    ) ∷ (
+      cycle_b,
+      module_of (self_accepting (importing (a ∷ []))) [] (own None ∷ act (log_text (codes "b")) ∷
+          dispose (code (callback [] (log_text (codes "bye b")))) ∷ []),
+    ) ∷
     (cycle_x, module_of (importing []) [] (act (log_text (codes "x")) ∷ [])) ∷
     (cycle_x_new, module_of (importing []) [] (act (log_text (codes "x2")) ∷ [])) ∷ [])
 
 abbrev pub cycle_script : List Command
 cycle_script =
-    edited m cycle_m ∷ edited a cycle_a ∷ edited b cycle_b ∷ edited x cycle_x ∷ settle_all ∷ step (opens 1 []) ∷ turns 1 9 ∷
+    edited m cycle_m ∷ edited a cycle_a ∷ edited b cycle_b ∷ edited x cycle_x ∷ settle_all ∷
+    step (opens 1 []) ∷ turns 1 9 ∷
     edited x cycle_x_new ∷ settle_all ∷ turns 1 9 ∷ step (show 1) ∷ []

@@ -9,12 +9,18 @@ ghost use Rattle.world_model.specs.Ties.{AreTied, AreServedRight, Understands, W
 
 /// After every list of steps, each open client has of its page exactly what the core's record of it has.
 pub fn clients_are_tied_to_their_records()
-    ensures tied { (language : Language) (roots : List Name) (shelves : List (List (Text × ℕ))) (past : List Step) → WentOn language roots shelves past → AreTied (world_after language roots shelves past) }
-    ensures served { (language : Language) (roots : List Name) (shelves : List (List (Text × ℕ))) (past : List Step) → WentOn language roots shelves past → AreServedRight language (world_after language roots shelves past).core.sources.served }
+    ensures tied { (language : Language) (roots : List Name)
+        (shelves : List (List (Text × ℕ))) (past : List Step) → WentOn language roots shelves past →
+        AreTied (world_after language roots shelves past) }
+    ensures served { (language : Language) (roots : List Name)
+        (shelves : List (List (Text × ℕ))) (past : List Step) → WentOn language roots shelves past →
+        AreServedRight language (world_after language roots shelves past).core.sources.served }
 {}
 
 /// In every turn the core's answer is one to the request that stands: nothing is out of turn, no fetch
 /// is forgotten, and no table differs.
 pub fn every_answer_is_understood()
-    ensures { (language : Language) (roots : List Name) (shelves : List (List (Text × ℕ))) (past : List Step) → WentOn language roots shelves past → Understands language roots (world_after language roots shelves past) }
+    ensures { (language : Language) (roots : List Name)
+        (shelves : List (List (Text × ℕ))) (past : List Step) → WentOn language roots shelves past →
+        Understands language roots (world_after language roots shelves past) }
 {}
