@@ -17,7 +17,8 @@ use Rattle.core_model.specs.Names.{Name, in_order, with_row}
 use Rattle.core_model.specs.Sources.{Text}
 use Rattle.core_model.specs.Page.{Plan, begun, staged, given_up, forced_too}
 use Rattle.client_model.specs.Language.{Language}
-use Rattle.client_model.specs.Runtime.{Runtime, Invalidation, Cause, missing, broken, unlinked, Did, nothing, and_then, for_each, write}
+use Rattle.client_model.specs.Runtime.{Runtime, Invalidation, Cause, missing, broken, unlinked, Did, nothing}
+use Rattle.client_model.specs.Runtime.{and_then, for_each, write}
 use Rattle.client_model.specs.Requesting.{cause_by}
 use Rattle.client_model.specs.Applying.{apply, prune}
 

@@ -1,6 +1,7 @@
 -- A plan is applied: old instances end, new ones are made, and callbacks are called. Modules that left
 -- the page are pruned.
-use Rattle.std.specs.Prelude.{ℕ, Bool, true, not, ◌&&◌, List, [], ◌∷◌, ◌++◌, filter, Option, Some, None, if◌then◌else◌}
+use Rattle.std.specs.Prelude.{ℕ, Bool, true, not, ◌&&◌, List, [], ◌∷◌, ◌++◌, filter, Option, Some, None}
+use Rattle.std.specs.Prelude.{if◌then◌else◌}
 use Rattle.hmr_types.specs.declared.words.PlanKind.{PlanKind}
 use Rattle.hmr_types.specs.declared.words.PlanKind.TheVariants.{Load, Reload, Update}
 use Rattle.output_lines.specs.declared.words.FaultPlace.TheVariants as place
@@ -12,11 +13,13 @@ use Rattle.core_model.specs.Sources.{Text}
 use Rattle.core_model.specs.View.{Entry}
 use Rattle.core_model.specs.Page.{Plan, entry_at, applied, pruned}
 use Rattle.client_model.specs.Language.{Language, Slots}
-use Rattle.client_model.specs.Instance.{Instance, Handler, is_live, live_at, is_held, disposes, prunes, accepts_own, accepts_dep, is_own}
+use Rattle.client_model.specs.Instance.{Instance, Handler, is_live, live_at, is_held, disposes, prunes}
+use Rattle.client_model.specs.Instance.{accepts_own, accepts_dep, is_own}
 use Rattle.client_model.specs.Journal.{gave_up_all}
 use Rattle.client_model.specs.Runtime.{Runtime, Did, nothing, and_then, for_each, write}
 use Rattle.client_model.specs.Linking.{new_names, number_after, number_in, links_after}
-use Rattle.client_model.specs.Running.{run_each, no_arguments, arguments_of, module_at, drop_each, end_instance, give_up_bag}
+use Rattle.client_model.specs.Running.{run_each, no_arguments, arguments_of, module_at, drop_each}
+use Rattle.client_model.specs.Running.{end_instance, give_up_bag}
 use Rattle.client_model.specs.Making.{Birth, make}
 
 -- the live instances of names that pass the test, in falling number

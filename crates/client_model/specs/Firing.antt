@@ -1,5 +1,6 @@
 -- An event is fired at a page: each dependency callback that lists it runs.
-use Rattle.std.specs.Prelude.{Bool, true, not, ◌||◌, List, [], ◌∷◌, map, reverse, codes, Option, Some, None, is_some, if◌then◌else◌}
+use Rattle.std.specs.Prelude.{Bool, true, not, ◌||◌, List, [], ◌∷◌, map, reverse, codes, Option, Some, None}
+use Rattle.std.specs.Prelude.{is_some, if◌then◌else◌}
 use Rattle.hmr_types.specs.declared.value.Value.{Value}
 use Rattle.hmr_types.specs.declared.value.Slot.TheVariants.{Val}
 use Rattle.output_lines.specs.declared.out_line.OutLine.{OutLine}

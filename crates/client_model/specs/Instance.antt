@@ -1,5 +1,6 @@
 -- Instances of modules, and their handlers.
-use Rattle.std.specs.Prelude.{ℕ, zero, suc, ◌==◌, Bool, true, false, ◌&&◌, List, [], ◌∷◌, map, Option, Some, None, find, if◌then◌else◌}
+use Rattle.std.specs.Prelude.{ℕ, zero, suc, ◌==◌, Bool, true, false, ◌&&◌, List, [], ◌∷◌, map, Option, Some}
+use Rattle.std.specs.Prelude.{None, find, if◌then◌else◌}
 use Rattle.module_tree.specs.Syntax.{HandlerTree}
 use Rattle.hmr_types.specs.declared.words.HandlerKind.{HandlerKind}
 use Rattle.hmr_types.specs.declared.words.HandlerKind.TheVariants as kind

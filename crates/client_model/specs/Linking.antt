@@ -1,5 +1,7 @@
 -- The new instances of a plan: which ones, in which order, with which numbers, and linked to what.
-use Rattle.std.specs.Prelude.{ℕ, zero, suc, ◌+◌, Bool, false, not, List, [], ◌∷◌, length, map, filter, flat_map, filter_map, Option, Some, None, is_some, is_none, option_map, if◌then◌else◌}
+use Rattle.std.specs.Prelude.{ℕ, zero, suc, ◌+◌, Bool, false, not, List, [], ◌∷◌, length, map, filter}
+use Rattle.std.specs.Prelude.{flat_map, filter_map, Option, Some, None, is_some, is_none, option_map}
+use Rattle.std.specs.Prelude.{if◌then◌else◌}
 use Rattle.hmr_types.specs.declared.words.PlanKind.{PlanKind}
 use Rattle.hmr_types.specs.declared.words.PlanKind.TheVariants.{Load, Reload, Update}
 use Rattle.core_model.specs.Names.{Name, same_name, has, at, first_of}

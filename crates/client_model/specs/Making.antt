@@ -1,5 +1,6 @@
 -- A new instance is made and evaluated.
-use Rattle.std.specs.Prelude.{ℕ, Bool, false, not, List, [], ◌∷◌, ◌++◌, map, fold, Option, Some, None, if◌then◌else◌}
+use Rattle.std.specs.Prelude.{ℕ, Bool, false, not, List, [], ◌∷◌, ◌++◌, map, fold, Option, Some, None}
+use Rattle.std.specs.Prelude.{if◌then◌else◌}
 use Rattle.std.specs.List.{list_any}
 use Rattle.module_tree.specs.Syntax as syntax
 use Rattle.module_tree.specs.Syntax.{OnceTree}
@@ -14,7 +15,8 @@ use Rattle.core_model.specs.Names.{Name, same_name, at, with_row}
 use Rattle.core_model.specs.Sources.{Text}
 use Rattle.core_model.specs.View.{Entry}
 use Rattle.client_model.specs.Language.{Language, Bag, Slots, Registered, Evaluated}
-use Rattle.client_model.specs.Instance.{Instance, Handler, Deed, code, host, numbered, is_done, disposes, prunes, places_from, with_dropped}
+use Rattle.client_model.specs.Instance.{Instance, Handler, Deed, code, host, numbered, is_done, disposes}
+use Rattle.client_model.specs.Instance.{prunes, places_from, with_dropped}
 use Rattle.client_model.specs.Journal.{Journal, made, evaluated, not_run, registered, no_host, dropped}
 use Rattle.client_model.specs.Runtime.{Runtime, Did, bag_of}
 use Rattle.client_model.specs.Running.{imported_slots}

@@ -1,6 +1,7 @@
 -- What a client shows of itself: its modules, the values of their exports, and the fates of its instances
 -- and their handlers.
-use Rattle.std.specs.Prelude.{ℕ, Bool, true, false, not, ◌&&◌, List, [], ◌∷◌, ◌++◌, map, flat_map, reverse, Option, Some, None, is_none}
+use Rattle.std.specs.Prelude.{ℕ, Bool, true, false, not, ◌&&◌, List, [], ◌∷◌, ◌++◌, map, flat_map, reverse}
+use Rattle.std.specs.Prelude.{Option, Some, None, is_none}
 use Rattle.output_lines.specs.declared.words.Handled.{Handled}
 use Rattle.output_lines.specs.declared.words.Handled.TheVariants as handled
 use Rattle.output_lines.specs.declared.words.ClientState.{ClientState}

@@ -1,5 +1,6 @@
 -- Handlers leave an instance: they are run, or dropped. An instance ends.
-use Rattle.std.specs.Prelude.{◌≡◌, ℕ, Bool, List, [], ◌∷◌, ◌++◌, map, fold, slice_get, Option, Some, None, if◌then◌else◌, ⊤}
+use Rattle.std.specs.Prelude.{◌≡◌, ℕ, Bool, List, [], ◌∷◌, ◌++◌, map, fold, slice_get, Option, Some, None}
+use Rattle.std.specs.Prelude.{if◌then◌else◌, ⊤}
 use Rattle.hmr_types.specs.declared.value.Value.{Value}
 use Rattle.hmr_types.specs.declared.value.Slot.{Slot}
 use Rattle.hmr_types.specs.declared.value.Slot.TheVariants.{Unset, Val}
@@ -13,7 +14,8 @@ use Rattle.output_lines.specs.declared.words.InstanceFate.{InstanceFate}
 use Rattle.core_model.specs.Names.{Name, same_name, at, with_row, without}
 use Rattle.core_model.specs.Sources.{Text}
 use Rattle.client_model.specs.Language.{Language, Slots, Bag, Ran, slot_at}
-use Rattle.client_model.specs.Instance.{Instance, Handler, Deed, code, host, numbered, live_at, with_change, with_end, with_dropped, places_of, is_done}
+use Rattle.client_model.specs.Instance.{Instance, Handler, Deed, code, host, numbered, live_at, with_change}
+use Rattle.client_model.specs.Instance.{with_end, with_dropped, places_of, is_done}
 use Rattle.client_model.specs.Journal.{ran, dropped, ended, gave_up}
 use Rattle.client_model.specs.Runtime.{Runtime, Invalidation, Did, nothing, for_each, bag_of}
 

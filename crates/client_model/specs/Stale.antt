@@ -1,6 +1,7 @@
 -- Edges at which a live module holds an older instance of what it imports, and the updates that stopped
 -- there.
-use Rattle.std.specs.Prelude.{◌≡◌, ◌≢◌, ◌⊎◌, ℕ, ◌==◌, Bool, true, false, not, List, [], ◌∷◌, map, filter, flat_map, Option, Some, None, IsSome}
+use Rattle.std.specs.Prelude.{◌≡◌, ◌≢◌, ◌⊎◌, ℕ, ◌==◌, Bool, true, false, not, List, [], ◌∷◌, map, filter}
+use Rattle.std.specs.Prelude.{flat_map, Option, Some, None, IsSome}
 use Prim.{⊥}
 use Rattle.hmr_types.specs.declared.words.PlanKind.{PlanKind}
 use Rattle.hmr_types.specs.declared.words.PlanKind.TheVariants.{Load, Reload, Update}

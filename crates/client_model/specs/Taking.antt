@@ -1,5 +1,6 @@
 -- A client takes a message: the answer to its request, or one that it can't take.
-use Rattle.std.specs.Prelude.{ℕ, ◌+◌, nat_lt, Bool, true, false, not, ◌&&◌, List, [], ◌∷◌, ◌++◌, length, Option, Some, None, if◌then◌else◌}
+use Rattle.std.specs.Prelude.{ℕ, ◌+◌, nat_lt, Bool, true, false, not, ◌&&◌, List, [], ◌∷◌, ◌++◌, length}
+use Rattle.std.specs.Prelude.{Option, Some, None, if◌then◌else◌}
 use Rattle.hmr_types.specs.declared.limits.TheConstants.{INSTANCES}
 use Rattle.output_lines.specs.declared.out_line.OutLine.{OutLine}
 use Rattle.update_msgs.specs.declared.message.ClientMsg.{ClientMsg}

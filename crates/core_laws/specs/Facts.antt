@@ -1,5 +1,6 @@
 -- What every list of events leaves true of the sources and of each connected client.
-use Rattle.std.specs.Prelude.{◌≡◌, ◌⊎◌, ℕ, ◌≤◌, ◌<◌, Bool, true, false, List, [], Contains, Option, Some, None, ⊤}
+use Rattle.std.specs.Prelude.{◌≡◌, ◌⊎◌, ℕ, ◌≤◌, ◌<◌, Bool, true, false, List, [], Contains, Option, Some}
+use Rattle.std.specs.Prelude.{None, ⊤}
 use Prim.{⊥}
 use Rattle.hmr_types.specs.declared.analysis.Analysis.{Analysis}
 use Rattle.hmr_types.specs.declared.words.PlanKind.{PlanKind}

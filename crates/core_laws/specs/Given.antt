@@ -2,7 +2,8 @@
 use Rattle.std.specs.Prelude.{◌≡◌, ℕ, ◌==◌, ◌&&◌, List, [], ◌∷◌, Option, Some, None, if◌then◌else◌, ⊤}
 use Rattle.hmr_types.specs.declared.analysis.Analysis.{Analysis}
 use Rattle.core_model.specs.Names.{Name, same_name, at}
-use Rattle.core_model.specs.Sources.{Change, edit, result, ResultAnswer, serve, refuse, late, result_answer, sources_after, Serving}
+use Rattle.core_model.specs.Sources.{Change, edit, result, ResultAnswer, serve, refuse, late, result_answer}
+use Rattle.core_model.specs.Sources.{sources_after, Serving}
 use Rattle.core_model.specs.View.{View, Entry}
 
 -- the analyses so far, and the one of a result that is served

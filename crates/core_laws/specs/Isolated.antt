@@ -1,5 +1,6 @@
 -- What is left where other clients' requests are left out.
-use Rattle.std.specs.Prelude.{◌≡◌, ℕ, ◌≤◌, ◌==◌, Bool, true, List, [], ◌∷◌, length, filter, is_some, if◌then◌else◌}
+use Rattle.std.specs.Prelude.{◌≡◌, ℕ, ◌≤◌, ◌==◌, Bool, true, List, [], ◌∷◌, length, filter, is_some}
+use Rattle.std.specs.Prelude.{if◌then◌else◌}
 use Rattle.core_model.specs.Names.{Name}
 use Rattle.core_model.specs.Requests.{Reply}
 use Rattle.core_model.specs.Core.{Core, Event, change, connect, request, disconnect, client_at, step}

@@ -1,7 +1,8 @@
 -- The text of each edit that was counted.
 use Rattle.std.specs.Prelude.{◌≡◌, ℕ, ◌==◌, ◌&&◌, List, [], ◌∷◌, Option, Some, None, if◌then◌else◌, ⊤}
 use Rattle.core_model.specs.Names.{Name, same_name}
-use Rattle.core_model.specs.Sources.{Text, Change, edit, result, Source, Serving, EditAnswer, job, same, removed, edit_refused, edit_answer, text_or_none, sources_after}
+use Rattle.core_model.specs.Sources.{Text, Change, edit, result, Source, Serving, EditAnswer, job, same}
+use Rattle.core_model.specs.Sources.{removed, edit_refused, edit_answer, text_or_none, sources_after}
 
 -- the texts so far, and that of one more edit where it was counted
 abbrev pub written_too : EditAnswer → Name → Option Text → (Name → ℕ → Option Text) → Name → ℕ → Option Text

@@ -14,7 +14,10 @@ ghost use Rattle.core_laws.specs.Fresh.{IsUpToDate};
 ghost use Rattle.core_laws.specs.Settled.{AllAreGood, of_source, of_serving};
 ghost use Rattle.core_laws.specs.Isolated.{without_others, replies_without_others};
 ghost use Rattle.core_laws.specs.Batch.{AreCalm, names_changed};
-ghost use Rattle.core_laws.specs.Examples.{roots, first_text, second_text, saved, served, loads, loads_a, grown, updates, shrinking, two_pages_changed, breaking, served_leaf, loads_meanwhile, told_of_a, page_of, after, first_view, two_turns};
+ghost use Rattle.core_laws.specs.Examples.{roots, first_text, second_text, saved, served, loads, loads_a};
+ghost use Rattle.core_laws.specs.Examples.{grown, updates, shrinking, two_pages_changed, breaking};
+ghost use Rattle.core_laws.specs.Examples.{served_leaf, loads_meanwhile, told_of_a, page_of, after};
+ghost use Rattle.core_laws.specs.Examples.{first_view, two_turns};
 
 /// A page is loaded: it is the fresh load, and there is nothing to do.
 pub fn page_is_loaded()

@@ -1,5 +1,6 @@
 // Laws of the core, for every list of events.
-ghost use Rattle.std.specs.Prelude.{◌≡◌, ◌↔◌, ℕ, ◌==◌, true, false, List, [], ◌∷◌, Option, Some, None, is_some, IfSome, All};
+ghost use Rattle.std.specs.Prelude.{◌≡◌, ◌↔◌, ℕ, ◌==◌, true, false, List, [], ◌∷◌, Option, Some, None};
+ghost use Rattle.std.specs.Prelude.{is_some, IfSome, All};
 ghost use Rattle.hmr_types.specs.declared.analysis.Analysis.{Analysis};
 ghost use Rattle.hmr_types.specs.declared.analysis.Outcome.{Outcome};
 ghost use Rattle.hmr_types.specs.declared.words.ReloadCause.{ReloadCause};
@@ -7,14 +8,16 @@ ghost use Rattle.update_msgs.specs.declared.message.ServerMsg.TheVariants as msg
 ghost use Rattle.hmr_types.specs.Table.{is_table};
 ghost use Rattle.core_model.specs.Sent.{IsReloadSent};
 ghost use Rattle.core_model.specs.Names.{Name, at};
-ghost use Rattle.core_model.specs.Sources.{Sources, Text, Change, edit, same, serve, late, result_answer, sources_after};
+ghost use Rattle.core_model.specs.Sources.{Sources, Text, Change, edit, same, serve, late, result_answer};
+ghost use Rattle.core_model.specs.Sources.{sources_after};
 ghost use Rattle.core_model.specs.Sources as sources;
 ghost use Rattle.core_model.specs.Spread.{IsReloadWanted, reason_of, cause_of};
 ghost use Rattle.core_model.specs.View.{View, differs, declines};
 ghost use Rattle.core_model.specs.Page.{Plan};
 ghost use Rattle.core_model.specs.Client.{Client, triggered, next_batch};
 ghost use Rattle.core_model.specs.Requests.{Request, ask, applied_as, heard, edited, settled, to_client};
-ghost use Rattle.core_model.specs.Core.{Core, Event, change, connect, request, disconnect, client_at, told_of, changes_of, step, core_after, replay, replies};
+ghost use Rattle.core_model.specs.Core.{Core, Event, change, connect, request, disconnect, client_at};
+ghost use Rattle.core_model.specs.Core.{told_of, changes_of, step, core_after, replay, replies};
 ghost use Rattle.core_model.specs.Formed.{IsFormed};
 ghost use Rattle.core_model.specs.Transcript.{IsTrueEvent};
 ghost use Rattle.core_laws.specs.Given.{analysis_given, entry_of};

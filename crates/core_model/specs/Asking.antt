@@ -8,7 +8,8 @@ use Rattle.core_model.specs.Names.{Name, at}
 use Rattle.core_model.specs.FreshLoad.{version_in}
 use Rattle.core_model.specs.Sources.{Sources}
 use Rattle.core_model.specs.Page.{Plan, begun, pruned}
-use Rattle.core_model.specs.Client.{Client, is_held, dropped, reason, replaced, pairs, first_notice, without_notice, next_batch}
+use Rattle.core_model.specs.Client.{Client, is_held, dropped, reason, replaced, pairs, first_notice}
+use Rattle.core_model.specs.Client.{without_notice, next_batch}
 
 -- the rows of the table
 pub data AskRow : Type 0 where

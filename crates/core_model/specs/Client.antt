@@ -1,10 +1,12 @@
 -- What the core keeps of a client, and what of it is read from the sources of the day.
-use Rattle.std.specs.Prelude.{ℕ, ◌+◌, ◌==◌, nat_lt, Bool, false, List, [], ◌++◌, Option, Some, None, option_and_then, option_map, if◌then◌else◌}
+use Rattle.std.specs.Prelude.{ℕ, ◌+◌, ◌==◌, nat_lt, Bool, false, List, [], ◌++◌, Option, Some, None}
+use Rattle.std.specs.Prelude.{option_and_then, option_map, if◌then◌else◌}
 use Rattle.hmr_types.specs.declared.limits.TheConstants.{LARGEST_NUMBER}
 use Rattle.hmr_types.specs.declared.analysis.TextFault.{TextFault}
 use Rattle.core_model.specs.Names.{Name, at, with_row, without, names_of, sorted, first_of}
 use Rattle.core_model.specs.Page.{Page, new_page}
-use Rattle.core_model.specs.Sources.{Sources, EditAnswer, job, same, removed, edit_refused, ResultAnswer, serve, refuse, late}
+use Rattle.core_model.specs.Sources.{Sources, EditAnswer, job, same, removed, edit_refused, ResultAnswer}
+use Rattle.core_model.specs.Sources.{serve, refuse, late}
 use Rattle.core_model.specs.View.{changed_of, dropped_of}
 use Rattle.core_model.specs.Spread.{reason_of, replaced_of, pairs_of}
 

@@ -1,11 +1,13 @@
 -- The server core: its events, what it answers, and what it keeps.
-use Rattle.std.specs.Prelude.{ℕ, ◌+◌, ◌==◌, nat_le, Bool, true, false, not, ◌||◌, List, [], ◌∷◌, length, map, filter, reverse, Option, Some, None, if◌then◌else◌}
+use Rattle.std.specs.Prelude.{ℕ, ◌+◌, ◌==◌, nat_le, Bool, true, false, not, ◌||◌, List, [], ◌∷◌, length, map}
+use Rattle.std.specs.Prelude.{filter, reverse, Option, Some, None, if◌then◌else◌}
 use Rattle.hmr_types.specs.declared.limits.TheConstants.{CLIENTS, LARGEST_CLIENT}
 use Rattle.update_msgs.specs.declared.message.ServerMsg.TheVariants as msg
 use Rattle.core_model.specs.declared.refusal.Refusal.TheVariants.{UnknownClient, TooManyClients, BadRoots}
 use Rattle.core_model.specs.Roots.{are_bad, roots_or}
 use Rattle.core_model.specs.Names.{Name}
-use Rattle.core_model.specs.Sources.{Sources, Change, edit, result, edit_answer, result_answer, changed_by, no_sources}
+use Rattle.core_model.specs.Sources.{Sources, Change, edit, result, edit_answer, result_answer, changed_by}
+use Rattle.core_model.specs.Sources.{no_sources}
 use Rattle.core_model.specs.Client.{Client, new_client, told_of_edit, told_of_result}
 use Rattle.core_model.specs.Requests.{Request, Reply, edited, settled, to_client, refused, gone, heard}
 

@@ -5,9 +5,11 @@ use Rattle.update_msgs.specs.declared.message.ClientMsg.TheVariants as told
 use Rattle.update_msgs.specs.declared.message.ServerMsg.{ServerMsg}
 use Rattle.update_msgs.specs.declared.message.ServerMsg.TheVariants as msg
 use Rattle.core_model.specs.declared.refusal.Refusal.{Refusal}
-use Rattle.core_model.specs.declared.refusal.Refusal.TheVariants.{UnknownClient, TooManyClients, OutOfTurn, Mismatch, Unfetched, Ignored, BadRoots}
+use Rattle.core_model.specs.declared.refusal.Refusal.TheVariants.{UnknownClient, TooManyClients, OutOfTurn}
+use Rattle.core_model.specs.declared.refusal.Refusal.TheVariants.{Mismatch, Unfetched, Ignored, BadRoots}
 use Rattle.core_model.specs.Names.{Name}
-use Rattle.core_model.specs.Requests.{ask, fetch, applied_as, aborted, invalidate, Reply, edited, settled, to_client, refused, gone}
+use Rattle.core_model.specs.Requests.{ask, fetch, applied_as, aborted, invalidate, Reply, edited, settled}
+use Rattle.core_model.specs.Requests.{to_client, refused, gone}
 use Rattle.core_model.specs.Core.{Event, connect, request, disconnect}
 
 -- the event that a message of the client with this number is

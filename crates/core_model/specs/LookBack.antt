@@ -2,7 +2,9 @@
 -- last good result with no removal after it.
 use Rattle.std.specs.Prelude.{ℕ, ◌+◌, List, [], ◌∷◌, Option, Some, None, if◌then◌else◌}
 use Rattle.core_model.specs.Names.{Name, same_name}
-use Rattle.core_model.specs.Sources.{Text, Change, edit, result, Source, Serving, EditAnswer, job, same, removed, edit_refused, edit_answer, text_or_none, ResultAnswer, serve, refuse, late, result_answer, sources_after}
+use Rattle.core_model.specs.Sources.{Text, Change, edit, result, Source, Serving, EditAnswer, job, same}
+use Rattle.core_model.specs.Sources.{removed, edit_refused, edit_answer, text_or_none, ResultAnswer, serve}
+use Rattle.core_model.specs.Sources.{refuse, late, result_answer, sources_after}
 
 -- 1 for an edit that is counted, 0 for another
 abbrev pub counts : EditAnswer → ℕ

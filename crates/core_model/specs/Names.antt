@@ -1,5 +1,6 @@
 -- Names of modules, in lists and as keys.
-use Rattle.std.specs.Prelude.{ℕ, Bool, not, nat_eq, List, [], ◌∷◌, filter, map, Option, Some, None, if◌then◌else◌, true, ◌&&◌}
+use Rattle.std.specs.Prelude.{ℕ, Bool, not, nat_eq, List, [], ◌∷◌, filter, map, Option, Some, None}
+use Rattle.std.specs.Prelude.{if◌then◌else◌, true, ◌&&◌}
 use Rattle.std.specs.List.{list_any}
 use Rattle.std.specs.Ordering.{nat_cmp, is_lt}
 use Rattle.std.specs.Cmp.Lexicographic.{pointwise, slice_cmp}

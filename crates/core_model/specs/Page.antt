@@ -1,6 +1,7 @@
 -- What the server and a client both know of the client's page: whether it is loaded, its modules, the
 -- forced names, and the plan under way. Each answer of the server changes both in the same way.
-use Rattle.std.specs.Prelude.{Bool, true, false, not, List, [], ◌++◌, filter, Option, Some, None, is_some, if◌then◌else◌}
+use Rattle.std.specs.Prelude.{Bool, true, false, not, List, [], ◌++◌, filter, Option, Some, None, is_some}
+use Rattle.std.specs.Prelude.{if◌then◌else◌}
 use Rattle.std.specs.Option.{option_or}
 use Rattle.hmr_types.specs.declared.words.PlanKind.{PlanKind}
 use Rattle.hmr_types.specs.declared.words.PlanKind.TheVariants.{Load, Reload, Update}

@@ -1,17 +1,20 @@
 -- The requests of a client: what each one makes of the client's record, and the reply.
-use Rattle.std.specs.Prelude.{ℕ, ◌==◌, Bool, true, false, not, ◌&&◌, List, [], ◌∷◌, ◌++◌, map, filter, Option, Some, None}
+use Rattle.std.specs.Prelude.{ℕ, ◌==◌, Bool, true, false, not, ◌&&◌, List, [], ◌∷◌, ◌++◌, map, filter, Option}
+use Rattle.std.specs.Prelude.{Some, None}
 use Rattle.hmr_types.specs.declared.analysis.TextFault.{TextFault}
 use Rattle.update_msgs.specs.declared.message.ServerMsg.{ServerMsg}
 use Rattle.update_msgs.specs.declared.message.ServerMsg.TheVariants as msg
 use Rattle.core_model.specs.declared.refusal.Refusal.{Refusal}
 use Rattle.core_model.specs.declared.refusal.Refusal.TheVariants.{OutOfTurn, Mismatch, Unfetched, Ignored}
 use Rattle.core_model.specs.Names.{Name, at, names_of, sorted}
-use Rattle.core_model.specs.Sources.{Source, Serving, Sources, Verdict, outstanding, good, bad, EditAnswer, ResultAnswer}
+use Rattle.core_model.specs.Sources.{Source, Serving, Sources, Verdict, outstanding, good, bad, EditAnswer}
+use Rattle.core_model.specs.Sources.{ResultAnswer}
 use Rattle.core_model.specs.Spread.{cause_of}
 use Rattle.core_model.specs.View.{View, Entry, table_of}
 use Rattle.core_model.specs.Page.{Plan, staged, applied, given_up, forced_too, unfetched_of, new_view}
 use Rattle.core_model.specs.Client.{Client, triggered}
-use Rattle.core_model.specs.Asking.{AskRow, out_of_turn, tell, load, idle, prune, reload, update, ask_row, asked, js_update, number_or_zero}
+use Rattle.core_model.specs.Asking.{AskRow, out_of_turn, tell, load, idle, prune, reload, update, ask_row}
+use Rattle.core_model.specs.Asking.{asked, js_update, number_or_zero}
 
 -- what a client asks or tells
 pub data Request : Type 0 where

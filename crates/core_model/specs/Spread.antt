@@ -1,6 +1,7 @@
 -- How a change spreads: along imports turned round, until a module accepts it. It ends in a reload of
 -- the page, or in an update of the modules that it passed.
-use Rattle.std.specs.Prelude.{◌≡◌, ◌⊎◌, ◌≤◌, Bool, true, not, ◌&&◌, ◌||◌, List, [], ◌∷◌, ◌++◌, length, map, filter, flat_map, Option, Contains, if◌then◌else◌}
+use Rattle.std.specs.Prelude.{◌≡◌, ◌⊎◌, ◌≤◌, Bool, true, not, ◌&&◌, ◌||◌, List, [], ◌∷◌, ◌++◌, length, map}
+use Rattle.std.specs.Prelude.{filter, flat_map, Option, Contains, if◌then◌else◌}
 use Rattle.std.specs.List.{list_any}
 use Prim.{⊥}
 use Rattle.hmr_types.specs.declared.words.ReloadCause.{ReloadCause}

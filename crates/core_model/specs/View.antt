@@ -1,5 +1,6 @@
 -- The modules of a page: the version of each, and what analysis told of its text.
-use Rattle.std.specs.Prelude.{ℕ, ◌==◌, Bool, true, false, not, List, [], map, filter, flat_map, Option, Some, None, is_some, Contains}
+use Rattle.std.specs.Prelude.{ℕ, ◌==◌, Bool, true, false, not, List, [], map, filter, flat_map, Option, Some}
+use Rattle.std.specs.Prelude.{None, is_some, Contains}
 use Prim.{⊥}
 use Rattle.hmr_types.specs.declared.analysis.Analysis.{Analysis}
 use Rattle.core_model.specs.Names.{Name, has, at, names_of, sorted}

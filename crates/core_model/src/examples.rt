@@ -4,12 +4,15 @@ ghost use Rattle.hmr_types.specs.declared.words.ReloadCause.TheVariants.{Root, D
 ghost use Rattle.core_model.specs.Spread.{reason_of, cause_of, replaced_of, pairs_of};
 ghost use Rattle.core_model.specs.View.{dropped_of};
 ghost use Rattle.update_msgs.specs.declared.message.ServerMsg.TheVariants as msg;
-ghost use Rattle.core_model.specs.declared.refusal.Refusal.TheVariants.{UnknownClient, OutOfTurn, Mismatch, Unfetched, Ignored};
+ghost use Rattle.core_model.specs.declared.refusal.Refusal.TheVariants.{UnknownClient, OutOfTurn, Mismatch};
+ghost use Rattle.core_model.specs.declared.refusal.Refusal.TheVariants.{Unfetched, Ignored};
 ghost use Rattle.core_model.specs.Requests.{edited, settled, to_client, refused};
 ghost use Rattle.core_model.specs.Sources.{job, removed, serve};
 ghost use Rattle.core_model.specs.Transcript.{IsLegal, events_of};
 ghost use Rattle.core_model.specs.Core.{new_core, replies};
-ghost use Rattle.core_model.specs.Examples.{plain, saved_text, transforming, transcript, serving_one, lies, one_text, chain, diamond, cycle, decliner, leaf, half_accepting, rootless_cycle, two_ways, m, a, b, c, d, e, x};
+ghost use Rattle.core_model.specs.Examples.{plain, saved_text, transforming, transcript, serving_one, lies};
+ghost use Rattle.core_model.specs.Examples.{one_text, chain, diamond, cycle, decliner, leaf, half_accepting};
+ghost use Rattle.core_model.specs.Examples.{rootless_cycle, two_ways, m, a, b, c, d, e, x};
 
 /// Nothing on a chain accepts: a change at its end reloads, by the whole chain.
 pub fn unaccepted_chain_reloads()

@@ -1,14 +1,18 @@
 // Laws of the definitions: what is computed is what the relations say.
-ghost use Rattle.std.specs.Prelude.{◌≡◌, ◌↔◌, ℕ, Bool, true, List, [], ◌∷◌, ◌++◌, None, IfSome, IfNone, Contains, if◌then◌else◌};
+ghost use Rattle.std.specs.Prelude.{◌≡◌, ◌↔◌, ℕ, Bool, true, List, [], ◌∷◌, ◌++◌, None, IfSome, IfNone};
+ghost use Rattle.std.specs.Prelude.{Contains, if◌then◌else◌};
 ghost use Rattle.core_model.specs.Names.{Name, has, at, names_of, rising};
 ghost use Rattle.core_model.specs.Paths.{Reaches};
 ghost use Rattle.core_model.specs.Rounds.{IsOver, reached_of};
 ghost use Rattle.core_model.specs.View.{View, imports, IsDropped, dropped_of, table_of};
-ghost use Rattle.core_model.specs.Spread.{IsReason, reason_of, IsReloadWanted, IsReplaced, replaced_of, AreIn, IsPair, pairs_of};
-ghost use Rattle.core_model.specs.Page.{Plan, new_plan, plan_imports, met_of, unfetched_of, new_entry, new_view};
+ghost use Rattle.core_model.specs.Spread.{IsReason, reason_of, IsReloadWanted, IsReplaced, replaced_of};
+ghost use Rattle.core_model.specs.Spread.{AreIn, IsPair, pairs_of};
+ghost use Rattle.core_model.specs.Page.{Plan, new_plan, plan_imports, met_of, unfetched_of, new_entry};
+ghost use Rattle.core_model.specs.Page.{new_view};
 ghost use Rattle.hmr_types.specs.Table.{rises};
 ghost use Rattle.core_model.specs.FreshLoad as fresh;
-ghost use Rattle.core_model.specs.FreshLoad.{Served, reached_by, version_in, fresh_table, missing_of, unlinked_of};
+ghost use Rattle.core_model.specs.FreshLoad.{Served, reached_by, version_in, fresh_table, missing_of};
+ghost use Rattle.core_model.specs.FreshLoad.{unlinked_of};
 ghost use Rattle.core_model.specs.Sources.{Sources, Text, Change, sources_after};
 ghost use Rattle.core_model.specs.Client.{Client};
 ghost use Rattle.core_model.specs.Asking.{ask_row, reload};

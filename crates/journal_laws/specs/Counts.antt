@@ -1,6 +1,7 @@
 -- What the journal tells of an instance and of its handlers: how often a handler was run or dropped, what
 -- was registered, and how the instance ended.
-use Rattle.std.specs.Prelude.{◌≡◌, ℕ, ◌==◌, Bool, true, false, ◌&&◌, List, [], ◌∷◌, length, map, filter, flat_map, slice_get, Contains, Some, if◌then◌else◌}
+use Rattle.std.specs.Prelude.{◌≡◌, ℕ, ◌==◌, Bool, true, false, ◌&&◌, List, [], ◌∷◌, length, map, filter}
+use Rattle.std.specs.Prelude.{flat_map, slice_get, Contains, Some, if◌then◌else◌}
 use Rattle.std.specs.List.{list_any}
 use Rattle.hmr_types.specs.declared.words.HandlerKind.{HandlerKind}
 use Rattle.hmr_types.specs.declared.words.HandlerKind.TheVariants as kind
@@ -13,7 +14,8 @@ use Rattle.output_lines.specs.declared.words.InstanceFate.TheVariants.{Live, Rep
 use Rattle.core_model.specs.Names.{Name}
 use Rattle.client_model.specs.Language.{Bag, Ran}
 use Rattle.client_model.specs.Instance.{Instance, Handler, is_dispose, is_prune, is_dep, ended_as}
-use Rattle.client_model.specs.Journal.{Happening, Journal, made, evaluated, not_run, registered, no_host, ran, dropped, ended, gave_up, gave_up_all, told}
+use Rattle.client_model.specs.Journal.{Happening, Journal, made, evaluated, not_run, registered, no_host, ran}
+use Rattle.client_model.specs.Journal.{dropped, ended, gave_up, gave_up_all, told}
 use Rattle.client_model.specs.Runtime.{Runtime}
 
 -- the run of the handler at a place of instance k

@@ -1,5 +1,6 @@
 -- What of a module's data reaches which instance.
-use Rattle.std.specs.Prelude.{◌≡◌, ℕ, ◌==◌, Bool, false, ◌&&◌, [], ◌∷◌, ◌++◌, fold, Option, Some, None, if◌then◌else◌}
+use Rattle.std.specs.Prelude.{◌≡◌, ℕ, ◌==◌, Bool, false, ◌&&◌, [], ◌∷◌, ◌++◌, fold, Option, Some, None}
+use Rattle.std.specs.Prelude.{if◌then◌else◌}
 use Rattle.std.specs.List.{list_any}
 use Rattle.output_lines.specs.declared.words.FaultPlace.{FaultPlace}
 use Rattle.output_lines.specs.declared.words.InstanceFate.{InstanceFate}
@@ -7,7 +8,8 @@ use Rattle.output_lines.specs.declared.words.InstanceFate.TheVariants.{Live, Rep
 use Rattle.core_model.specs.Names.{Name, same_name}
 use Rattle.client_model.specs.Language.{Bag, Evaluated, Ran}
 use Rattle.client_model.specs.Instance.{live_at}
-use Rattle.client_model.specs.Journal.{Happening, Journal, made, evaluated, not_run, registered, no_host, ran, dropped, ended, gave_up, gave_up_all, told, bag_left}
+use Rattle.client_model.specs.Journal.{Happening, Journal, made, evaluated, not_run, registered, no_host, ran}
+use Rattle.client_model.specs.Journal.{dropped, ended, gave_up, gave_up_all, told, bag_left}
 use Rattle.client_model.specs.Runtime.{Runtime, bag_of}
 use Rattle.journal_laws.specs.Counts.{is_dispose_place}
 

@@ -1,6 +1,7 @@
 -- What the variables of a page hold that is loaded anew: each module of the fresh load evaluated once, after
 -- those that it imports, with an empty bag.
-use Rattle.std.specs.Prelude.{◌≡◌, ℕ, suc, Bool, true, false, not, List, [], ◌∷◌, ◌++◌, length, map, fold, Contains, Option, Some, None, is_some, if◌then◌else◌}
+use Rattle.std.specs.Prelude.{◌≡◌, ℕ, suc, Bool, true, false, not, List, [], ◌∷◌, ◌++◌, length, map, fold}
+use Rattle.std.specs.Prelude.{Contains, Option, Some, None, is_some, if◌then◌else◌}
 use Rattle.std.specs.List.{list_any}
 use Prim.{⊥}
 use Rattle.hmr_types.specs.declared.value.Slot.{Slot}

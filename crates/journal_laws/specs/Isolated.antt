@@ -2,7 +2,8 @@
 use Rattle.std.specs.Prelude.{◌≡◌, ℕ, ◌==◌, not, Bool, true, false, ◌∷◌}
 use Rattle.core_model.specs.Client.{Client}
 use Rattle.client_model.specs.Runtime.{Runtime}
-use Rattle.world_model.specs.World.{Step, edits, settles, opens, turn, closes, show, values, fates, fresh, fresh_of, fires}
+use Rattle.world_model.specs.World.{Step, edits, settles, opens, turn, closes, show, values, fates, fresh}
+use Rattle.world_model.specs.World.{fresh_of, fires}
 use Rattle.world_laws.specs.Quiet.{IsOpen}
 use Rattle.world_laws.specs.Runs.{Run, world_of, sources_of, life_in, HasClient}
 

@@ -6,11 +6,13 @@ use Rattle.output_lines.specs.declared.words.InstanceFate.{InstanceFate}
 use Rattle.core_model.specs.Names.{Name}
 use Rattle.core_model.specs.Sources.{Text}
 use Rattle.client_model.specs.Language.{Bag}
-use Rattle.client_model.specs.Journal.{Happening, made, evaluated, not_run, registered, no_host, ran, dropped, ended, gave_up, gave_up_all, told}
+use Rattle.client_model.specs.Journal.{Happening, made, evaluated, not_run, registered, no_host, ran, dropped}
+use Rattle.client_model.specs.Journal.{ended, gave_up, gave_up_all, told}
 use Rattle.world_model.specs.World.{Step, edits, settles, opens}
 use Rattle.world_model.specs.Playing.{Stage}
 use Rattle.world_model.specs.SmallLanguage.{Module}
-use Rattle.world_model.specs.SmallPages.{m, c, importing, exporting, accepting, self_accepting, module_of, page_of, callback}
+use Rattle.world_model.specs.SmallPages.{m, c, importing, exporting, accepting, self_accepting, module_of}
+use Rattle.world_model.specs.SmallPages.{page_of, callback}
 use Rattle.world_model.specs.UpdateScripts.{count, kept_count_plus}
 use Rattle.world_laws.specs.Quiet.{turns}
 use Rattle.journal_laws.specs.FirstClient.{journal_in}

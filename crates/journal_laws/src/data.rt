@@ -8,7 +8,8 @@ ghost use Rattle.client_model.specs.Journal.{Journal, evaluated, ended, gave_up}
 ghost use Rattle.client_model.specs.Runtime.{Runtime};
 ghost use Rattle.journal_laws.specs.Runs.{OfEachRun};
 ghost use Rattle.journal_laws.specs.GivingUp.{BagsGoAtPrunes, AllBagsGoAtReloads, IsRefused};
-ghost use Rattle.journal_laws.specs.Data.{EvaluationsStartRight, RunsStartRight, OthersInheritNothing, SuccessorsInherit, DisposersHandOn, NoneIsLeft, disposed_left};
+ghost use Rattle.journal_laws.specs.Data.{EvaluationsStartRight, RunsStartRight, OthersInheritNothing};
+ghost use Rattle.journal_laws.specs.Data.{SuccessorsInherit, DisposersHandOn, NoneIsLeft, disposed_left};
 
 /// Each evaluation of a module, and each run of a handler of it, starts with the bag that the last one
 /// before it left; with the empty one where there was none, or where the bag was given up since.

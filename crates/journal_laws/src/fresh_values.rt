@@ -18,7 +18,8 @@ ghost use Rattle.world_model.specs.Ties.{WentOn};
 ghost use Rattle.client_model.specs.Language.{BindsImports};
 ghost use Rattle.world_laws.specs.Quiet.{IsOpen};
 ghost use Rattle.journal_laws.specs.OfClients.{journal_at};
-ghost use Rattle.journal_laws.specs.FreshValues.{IsAcyclic, AreWithoutBag, AreLiveWithoutBag, NothingAssigned, NothingAssignedLive, AreFreshValues};
+ghost use Rattle.journal_laws.specs.FreshValues.{IsAcyclic, AreWithoutBag, AreLiveWithoutBag};
+ghost use Rattle.journal_laws.specs.FreshValues.{NothingAssigned, NothingAssignedLive, AreFreshValues};
 ghost use Rattle.journal_laws.specs.WorkedValues.{valued_anew, valued_now, holding, loaded, faulted};
 
 /// Where a client is caught up, no edge is stale, the imports have no cycle, no evaluation of a served text

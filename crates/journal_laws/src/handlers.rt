@@ -2,7 +2,8 @@
 ghost use Rattle.client_model.specs.Language.{Language};
 ghost use Rattle.journal_laws.specs.Runs.{OfEachRun};
 ghost use Rattle.journal_laws.specs.Ends.{AllEnd};
-ghost use Rattle.journal_laws.specs.Counts.{AreTold, AreRegistered, AreFated, AreRunsOfHandlers, AreDisposedOnce, ArePrunedOnce};
+ghost use Rattle.journal_laws.specs.Counts.{AreTold, AreRegistered, AreFated, AreRunsOfHandlers};
+ghost use Rattle.journal_laws.specs.Counts.{AreDisposedOnce, ArePrunedOnce};
 
 /// Each handler ends by the fate of its instance. A disposer or a prune handler that a later one displaced
 /// is dropped. Of the others a live instance holds all. At a replacement the disposer is spent, callbacks on

@@ -23,7 +23,8 @@ ghost use Rattle.world_laws.specs.Stops.{IsStopped};
 ghost use Rattle.world_laws.specs.Quiet.{IsSettled, AreQuiet, IsUpAmongLooks};
 ghost use Rattle.journal_laws.specs.Counts.{AreDisposedOnce};
 ghost use Rattle.journal_laws.specs.Data.{SuccessorsInherit, DisposersHandOn, OthersInheritNothing};
-ghost use Rattle.world_laws.specs.Runs.{Run, sources_of, served_of, life_in, HasClient, next_reply, IsReloadTurn};
+ghost use Rattle.world_laws.specs.Runs.{Run, sources_of, served_of, life_in, HasClient, next_reply};
+ghost use Rattle.world_laws.specs.Runs.{IsReloadTurn};
 
 /// The headline, part by part, of every run and of each client that is open in it. `r` is the client, and
 /// `c` is what the server keeps of it. A run goes on as long as no client would make more instances than

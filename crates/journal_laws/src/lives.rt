@@ -15,14 +15,16 @@ ghost use Rattle.module_language.specs.ModuleLanguage.{module_language};
 ghost use Rattle.world_model.specs.CaughtUp.{IsCaughtUp};
 ghost use Rattle.world_model.specs.World.{Step};
 ghost use Rattle.world_laws.specs.Runs.{Run, sources_of, served_of, life_in, HasClient};
-ghost use Rattle.journal_laws.specs.Counts.{ArePrunedOnce, AreRegistered, AreTold, AreFated, AreRunsOfHandlers};
+ghost use Rattle.journal_laws.specs.Counts.{ArePrunedOnce, AreRegistered, AreTold, AreFated};
+ghost use Rattle.journal_laws.specs.Counts.{AreRunsOfHandlers};
 ghost use Rattle.journal_laws.specs.Ends.{AllEnd};
 ghost use Rattle.journal_laws.specs.FreshValues.{IsAcyclic, NothingAssignedLive, AreFreshValues};
 ghost use Rattle.journal_laws.specs.Isolated.{OthersAreSpared};
 ghost use Rattle.journal_laws.specs.LeftOut.{IsSameAlone};
 ghost use Rattle.journal_laws.specs.Lives.{InEveryRun, HeldPruneHandlersRun, DisposersRunFirst};
 ghost use Rattle.journal_laws.specs.Texts.{UseLiveDataInHandlersAlone};
-ghost use Rattle.journal_laws.specs.Values.{ValuesAreLeft, AreEvaluations, AreUnrun, AreEvaluatedOnce, AreRuns};
+ghost use Rattle.journal_laws.specs.Values.{ValuesAreLeft, AreEvaluations, AreUnrun, AreEvaluatedOnce};
+ghost use Rattle.journal_laws.specs.Values.{AreRuns};
 
 /// What happens to the instances of each client that is open in a run, of every run, by the journal of all
 /// that happened in the client.

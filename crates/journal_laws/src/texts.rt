@@ -3,7 +3,9 @@
 ghost use Rattle.std.specs.Prelude.{◌≡◌, ℕ, List, [], ◌∷◌, codes, pos, Some};
 ghost use Rattle.hmr_types.specs.declared.value.Value.TheVariants.{Num};
 ghost use Rattle.module_language.specs.Examples.{m, x};
-ghost use Rattle.journal_laws.specs.TextPages.{text_page, keeping_loaded, keeping_replaced, text_starts, text_fates, text_stale, seeing_loaded, seeing_updated, seeing_reloaded, leaf_updated, invalidated};
+ghost use Rattle.journal_laws.specs.TextPages.{text_page, keeping_loaded, keeping_replaced, text_starts};
+ghost use Rattle.journal_laws.specs.TextPages.{text_fates, text_stale, seeing_loaded, seeing_updated};
+ghost use Rattle.journal_laws.specs.TextPages.{seeing_reloaded, leaf_updated, invalidated};
 ghost use Rattle.journal_laws.specs.WorkedValues.{values_in, valued_anew, holding};
 ghost use Rattle.output_lines.specs.declared.words.InstanceFate.TheVariants.{Live, Reloaded, Replaced};
 ghost use Rattle.output_lines.specs.declared.words.InstanceStatus.TheVariants.{Done};
@@ -18,7 +20,8 @@ ghost use Rattle.world_model.specs.World.{Step};
 ghost use Rattle.world_model.specs.Steps.{world_after};
 ghost use Rattle.world_model.specs.Ties.{WentOn};
 ghost use Rattle.world_laws.specs.Quiet.{IsOpen};
-ghost use Rattle.journal_laws.specs.FreshValues.{IsAcyclic, NothingAssigned, NothingAssignedLive, AreFreshValues};
+ghost use Rattle.journal_laws.specs.FreshValues.{IsAcyclic, NothingAssigned, NothingAssignedLive};
+ghost use Rattle.journal_laws.specs.FreshValues.{AreFreshValues};
 ghost use Rattle.journal_laws.specs.OfClients.{journal_at};
 ghost use Rattle.journal_laws.specs.Texts.{UseDataInHandlersAlone, UseLiveDataInHandlersAlone};
 

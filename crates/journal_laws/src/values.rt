@@ -1,7 +1,8 @@
 // What the variables of instances hold.
 ghost use Rattle.client_model.specs.Language.{Language};
 ghost use Rattle.journal_laws.specs.Runs.{OfEachRun};
-ghost use Rattle.journal_laws.specs.Values.{ValuesAreLeft, AreEvaluations, AreUnrun, AreEvaluatedOnce, AreRuns};
+ghost use Rattle.journal_laws.specs.Values.{ValuesAreLeft, AreEvaluations, AreUnrun, AreEvaluatedOnce};
+ghost use Rattle.journal_laws.specs.Values.{AreRuns};
 
 /// The variables of each instance, live or not, are those that its evaluation made, with what the runs of
 /// its own handlers assigned since.

@@ -14,7 +14,8 @@ ghost use Rattle.journal_laws.specs.Counts.{runs_of, drops_of, fates_in, disposa
 ghost use Rattle.journal_laws.specs.FirstClient.{client_of, journal_in};
 ghost use Rattle.journal_laws.specs.HandlerRuns.{replacing, abandoning};
 ghost use Rattle.journal_laws.specs.KeptCounter.{imported_again, starts_after, ends_after};
-ghost use Rattle.journal_laws.specs.WorkedValues.{values_in, evaluations_in, imports_in, holding, loaded, updated, faulted};
+ghost use Rattle.journal_laws.specs.WorkedValues.{values_in, evaluations_in, imports_in, holding, loaded};
+ghost use Rattle.journal_laws.specs.WorkedValues.{updated, faulted};
 
 /// An accepted update replaces a module that registered two disposers and a prune handler: of its three
 /// handlers the second disposer alone is run, and the others are dropped.

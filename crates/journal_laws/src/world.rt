@@ -6,7 +6,8 @@ ghost use Rattle.client_model.specs.Language.{Language};
 ghost use Rattle.journal_laws.specs.OfClients.{OfEachClient};
 ghost use Rattle.journal_laws.specs.Counts.{AreDisposedOnce, ArePrunedOnce};
 ghost use Rattle.journal_laws.specs.GivingUp.{BagsGoAtPrunes, AllBagsGoAtReloads};
-ghost use Rattle.journal_laws.specs.Data.{EvaluationsStartRight, RunsStartRight, SuccessorsInherit, DisposersHandOn, OthersInheritNothing};
+ghost use Rattle.journal_laws.specs.Data.{EvaluationsStartRight, RunsStartRight, SuccessorsInherit};
+ghost use Rattle.journal_laws.specs.Data.{DisposersHandOn, OthersInheritNothing};
 ghost use Rattle.journal_laws.specs.Ends.{AllEnd};
 ghost use Rattle.journal_laws.specs.Values.{ValuesAreLeft};
 

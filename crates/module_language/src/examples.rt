@@ -2,7 +2,8 @@
 ghost use Rattle.std.specs.Prelude.{◌≡◌, [], ◌∷◌, codes, true, false, pos};
 ghost use Rattle.module_tree.specs.Syntax as tree;
 ghost use Rattle.module_language.specs.ModuleLanguage.{module_language};
-ghost use Rattle.module_language.specs.Examples.{m, x, importer, hears, keeper, keeps, astray, nameless, importer_slots, kept_five};
+ghost use Rattle.module_language.specs.Examples.{m, x, importer, hears, keeper, keeps, astray, nameless};
+ghost use Rattle.module_language.specs.Examples.{importer_slots, kept_five};
 
 use hmr_types::{FaultWord, HandlerKind, Outcome, Slot, Value};
 

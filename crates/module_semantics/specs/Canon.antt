@@ -1,9 +1,14 @@
 -- The canonical text of a module: each item and statement on lines of its own, two spaces for each block,
 -- parentheses exactly where an operand is of a lower level than its place asks for.
-use Rattle.std.specs.Prelude.{ℕ, zero, suc, List, [], ◌∷◌, ◌++◌, Bool, true, false, ◌==◌, nat_lt, if◌then◌else◌, Option, Some, None, codes, map}
+use Rattle.std.specs.Prelude.{ℕ, zero, suc, List, [], ◌∷◌, ◌++◌, Bool, true, false, ◌==◌, nat_lt}
+use Rattle.std.specs.Prelude.{if◌then◌else◌, Option, Some, None, codes, map}
 use Rattle.std.specs.Str.{bytes_eq}
 use Rattle.std.specs.Fmt.{decimal}
-use Rattle.module_tree.specs.Syntax.{ExprTree, num, text, undefined, name, bag, member, neg, binary, choose, CondTree, param, value, StmtTree, StmtTrees, no_stmts, one_stmt, log, assign, bag_set, throw, invalidate, branch, HandlerTree, OnceTree, code, host, ItemTree, import, declare, act, own, deps, dispose, prune, decline, ModuleTree}
+use Rattle.module_tree.specs.Syntax.{ExprTree, num, text, undefined, name, bag, member, neg, binary, choose}
+use Rattle.module_tree.specs.Syntax.{CondTree, param, value, StmtTree, StmtTrees, no_stmts, one_stmt, log}
+use Rattle.module_tree.specs.Syntax.{assign, bag_set, throw, invalidate, branch, HandlerTree, OnceTree, code}
+use Rattle.module_tree.specs.Syntax.{host, ItemTree, import, declare, act, own, deps, dispose, prune, decline}
+use Rattle.module_tree.specs.Syntax.{ModuleTree}
 use Rattle.module_tree.specs.declared.tree.Op.{Op}
 use Rattle.module_tree.specs.declared.tree.Op.TheVariants as ops
 use Rattle.module_tree.specs.declared.tree.ImportName.{ImportName}

@@ -1,11 +1,14 @@
 -- The tokens of the canonical text of callbacks, items and whole modules, and how deep they are.
-use Rattle.std.specs.Prelude.{ℕ, max, List, [], ◌∷◌, ◌++◌, Bool, true, false, if◌then◌else◌, Option, Some, None, codes}
+use Rattle.std.specs.Prelude.{ℕ, max, List, [], ◌∷◌, ◌++◌, Bool, true, false, if◌then◌else◌, Option, Some}
+use Rattle.std.specs.Prelude.{None, codes}
 use Rattle.std.specs.Str.{bytes_eq}
-use Rattle.module_tree.specs.Syntax.{HandlerTree, OnceTree, code, host, ItemTree, import, declare, act, own, deps, dispose, prune, decline, ModuleTree}
+use Rattle.module_tree.specs.Syntax.{HandlerTree, OnceTree, code, host, ItemTree, import, declare, act, own}
+use Rattle.module_tree.specs.Syntax.{deps, dispose, prune, decline, ModuleTree}
 use Rattle.module_tree.specs.declared.tree.ImportName.{ImportName}
 use Rattle.module_semantics.specs.Token as token
 use Rattle.module_semantics.specs.Token.{Token}
-use Rattle.module_semantics.specs.CanonTokens.{hot_tokens, expr_tokens, stmt_tokens, stmts_tokens, expr_deep, stmt_deep, stmts_deep}
+use Rattle.module_semantics.specs.CanonTokens.{hot_tokens, expr_tokens, stmt_tokens, stmts_tokens, expr_deep}
+use Rattle.module_semantics.specs.CanonTokens.{stmt_deep, stmts_deep}
 
 -- parts with a comma before each
 abbrev pub after_commas : {A : Type 0} → (A → List Token) → List A → List Token

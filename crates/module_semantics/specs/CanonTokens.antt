@@ -1,6 +1,9 @@
 -- The tokens of a canonical text, and how deep it is.
-use Rattle.std.specs.Prelude.{ℕ, suc, max, List, [], ◌∷◌, ◌++◌, Bool, true, false, nat_lt, not, ◌&&◌, ◌==◌, if◌then◌else◌, Option, Some, None, codes}
-use Rattle.module_tree.specs.Syntax.{ExprTree, num, text, undefined, name, bag, member, neg, binary, choose, CondTree, param, value, StmtTree, StmtTrees, no_stmts, one_stmt, log, assign, bag_set, throw, invalidate, branch}
+use Rattle.std.specs.Prelude.{ℕ, suc, max, List, [], ◌∷◌, ◌++◌, Bool, true, false, nat_lt, not, ◌&&◌, ◌==◌}
+use Rattle.std.specs.Prelude.{if◌then◌else◌, Option, Some, None, codes}
+use Rattle.module_tree.specs.Syntax.{ExprTree, num, text, undefined, name, bag, member, neg, binary, choose}
+use Rattle.module_tree.specs.Syntax.{CondTree, param, value, StmtTree, StmtTrees, no_stmts, one_stmt, log}
+use Rattle.module_tree.specs.Syntax.{assign, bag_set, throw, invalidate, branch}
 use Rattle.module_tree.specs.declared.tree.Op.{Op}
 use Rattle.module_tree.specs.declared.tree.Op.TheVariants as ops
 use Rattle.module_semantics.specs.Token as token

@@ -1,5 +1,6 @@
 -- Names and what each holds, in order: the variables of a module, the exports of another, a bag.
-use Rattle.std.specs.Prelude.{ℕ, Bool, true, not, ◌&&◌, ◌||◌, if◌then◌else◌, nat_le, nat_lt, List, [], ◌∷◌, length, map, Option, Some, None, is_some, bytes_eq}
+use Rattle.std.specs.Prelude.{ℕ, Bool, true, not, ◌&&◌, ◌||◌, if◌then◌else◌, nat_le, nat_lt, List, [], ◌∷◌}
+use Rattle.std.specs.Prelude.{length, map, Option, Some, None, is_some, bytes_eq}
 use Rattle.std.specs.List.{list_any}
 use Rattle.hmr_types.specs.declared.limits.TheConstants.{BAG_KEYS}
 use Rattle.hmr_types.specs.declared.value.Value.{Value}

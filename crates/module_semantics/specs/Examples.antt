@@ -1,5 +1,6 @@
 -- Small trees, to be evaluated.
-use Rattle.std.specs.Prelude.{false, ◌+◌, ◌/◌, ◌%◌, ℕ, zero, suc, pos, true, List, [], ◌∷◌, ◌++◌, replicate, codes, Some, None, Result}
+use Rattle.std.specs.Prelude.{false, ◌+◌, ◌/◌, ◌%◌, ℕ, zero, suc, pos, true, List, [], ◌∷◌, ◌++◌, replicate}
+use Rattle.std.specs.Prelude.{codes, Some, None, Result}
 use Rattle.module_tree.specs.Syntax as tree
 use Rattle.module_tree.specs.Syntax.{ExprTree, StmtTree, StmtTrees, ItemTree, ModuleTree, HandlerTree}
 use Rattle.module_tree.specs.Tree.{stmts}

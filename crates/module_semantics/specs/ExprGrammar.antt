@@ -1,7 +1,8 @@
 -- The grammar of expressions, one constructor for each production.
 use Rattle.std.specs.Prelude.{ℕ, suc, max, List, true, false, if◌then◌else◌, Some, None}
 use Rattle.module_tree.specs.declared.tree.Op.TheVariants as ops
-use Rattle.module_semantics.specs.Kinds.{IMPORT, UNDEFINED, NEW, ERROR, META, HOT, DATA, OPEN, CLOSE, DOT, PLUS, MINUS, TIMES, QUESTION, COLON, SAFE_DOT, NULLISH, NameAt}
+use Rattle.module_semantics.specs.Kinds.{IMPORT, UNDEFINED, NEW, ERROR, META, HOT, DATA, OPEN, CLOSE, DOT}
+use Rattle.module_semantics.specs.Kinds.{PLUS, MINUS, TIMES, QUESTION, COLON, SAFE_DOT, NULLISH, NameAt}
 use Rattle.module_semantics.specs.Raw as raw
 use Rattle.module_semantics.specs.Raw.{RawExpr}
 use Rattle.module_semantics.specs.Readers.{next_two}

@@ -3,7 +3,9 @@
 use Rattle.std.specs.Prelude.{ℕ, List, [], ◌∷◌, Bool, true, false, ◌&&◌, not, nat_le, Option, Some, None, map}
 use Rattle.std.specs.List.{list_all}
 use Rattle.std.specs.Str.{is_utf8}
-use Rattle.module_tree.specs.Syntax.{StmtTree, log, assign, bag_set, throw, invalidate, branch, HandlerTree, OnceTree, code, host, ItemTree, import, declare, act, own, deps, dispose, prune, decline, ModuleTree}
+use Rattle.module_tree.specs.Syntax.{StmtTree, log, assign, bag_set, throw, invalidate, branch, HandlerTree}
+use Rattle.module_tree.specs.Syntax.{OnceTree, code, host, ItemTree, import, declare, act, own, deps, dispose}
+use Rattle.module_tree.specs.Syntax.{prune, decline, ModuleTree}
 use Rattle.module_tree.specs.declared.tree.ImportName.{ImportName}
 use Rattle.hmr_types.specs.declared.limits.TheConstants.{DEPTH, LARGEST_NUMBER}
 use Rattle.module_semantics.specs.Bytes.{is_name_start, is_name_byte}

@@ -3,11 +3,16 @@
 pub use Rattle.module_semantics.specs.ExprGrammar.{ExprD, NullD, NullRestD, SumD, SumRestD, ProdD, ProdRestD, UnaryD, PrimD, plain, choice, null, no_null, nullish, sum, no_sum, plus, minus, prod, no_prod, times, positive, negative, number, text, undefined, name, member, safe_member, bag, brackets, hot_spelt, nothing, not_error, expr_spelt, null_spelt, null_rest_spelt, sum_spelt, sum_rest_spelt, prod_spelt, prod_rest_spelt, unary_spelt, prim_spelt, expr_raw, null_raw, null_rest_raw, sum_raw, sum_rest_raw, prod_raw, prod_rest_raw, unary_raw, prim_raw, expr_depth, null_depth, null_rest_depth, sum_depth, sum_rest_depth, prod_depth, prod_rest_depth, unary_depth, prim_depth}
 use Rattle.std.specs.Prelude.{ℕ, suc, max, List, [], ◌∷◌, Bool, true, false, Option, Some, None, map}
 use Rattle.std.specs.Option.{option_map}
-use Rattle.module_semantics.specs.Kinds.{IMPORT, EXPORT, CONST, LET, IF, ELSE, THROW, CONSOLE, LOG, HOST, NEW, ERROR, FROM, AS, META, HOT, DATA, ACCEPT, DISPOSE, PRUNE, DECLINE, INVALIDATE, OPEN_BRACE, CLOSE_BRACE, OPEN, CLOSE, OPEN_BRACKET, CLOSE_BRACKET, COMMA, DOT, EQUALS, ARROW, NameAt}
+use Rattle.module_semantics.specs.Kinds.{IMPORT, EXPORT, CONST, LET, IF, ELSE, THROW, CONSOLE, LOG, HOST, NEW}
+use Rattle.module_semantics.specs.Kinds.{ERROR, FROM, AS, META, HOT, DATA, ACCEPT, DISPOSE, PRUNE, DECLINE}
+use Rattle.module_semantics.specs.Kinds.{INVALIDATE, OPEN_BRACE, CLOSE_BRACE, OPEN, CLOSE, OPEN_BRACKET}
+use Rattle.module_semantics.specs.Kinds.{CLOSE_BRACKET, COMMA, DOT, EQUALS, ARROW, NameAt}
 use Rattle.module_semantics.specs.Raw as raw
-use Rattle.module_semantics.specs.Raw.{RawExpr, RawStmt, RawStmts, no_stmts, one_stmt, RawHandler, RawOnce, RawImport, RawItem}
+use Rattle.module_semantics.specs.Raw.{RawExpr, RawStmt, RawStmts, no_stmts, one_stmt, RawHandler, RawOnce}
+use Rattle.module_semantics.specs.Raw.{RawImport, RawItem}
 use Rattle.module_semantics.specs.Reading.{but_console, flat, one_or_none, all_of}
-use Rattle.module_semantics.specs.Spelling.{Spell, ◌▸◌, mark, name_of, free_name, key, text_token, mark_at, end, many, separated, Listed, listed, items_of, maybe}
+use Rattle.module_semantics.specs.Spelling.{Spell, ◌▸◌, mark, name_of, free_name, key, text_token, mark_at}
+use Rattle.module_semantics.specs.Spelling.{end, many, separated, Listed, listed, items_of, maybe}
 
 -- the deepest of a list, and of what may be missing
 abbrev pub deepest : {D : Type 0} → (D → ℕ) → List D → ℕ

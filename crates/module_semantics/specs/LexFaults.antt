@@ -1,14 +1,19 @@
 -- The first fault of a text: pieces by the rules, and then something that is wrong.
-use Rattle.std.specs.Prelude.{◌≡◌, ℕ, suc, ◌+◌, ◌-◌, ◌<◌, ◌≤◌, List, ◌∷◌, ◌++◌, length, true, false, ◌⊎◌, ◌==◌, Some, None}
+use Rattle.std.specs.Prelude.{◌≡◌, ℕ, suc, ◌+◌, ◌-◌, ◌<◌, ◌≤◌, List, ◌∷◌, ◌++◌, length, true, false, ◌⊎◌}
+use Rattle.std.specs.Prelude.{◌==◌, Some, None}
 use Rattle.module_semantics.specs.Token.{Token}
 use Rattle.module_semantics.specs.Bytes.{is_blank, is_digit, is_name_start, is_quote, not_line_end, is_escape}
 use Rattle.module_semantics.specs.Lexing.{begins, single, barred}
-use Rattle.module_semantics.specs.Pieces.{Part, spelled_parts, parts_size, Piece, first, more, token_of, IsPiece, IsLongest, value, all, opens, unclosed, are_inside, spelled_all, Fit, last_of, size_all, tokens_from}
+use Rattle.module_semantics.specs.Pieces.{Part, spelled_parts, parts_size, Piece, first, more, token_of}
+use Rattle.module_semantics.specs.Pieces.{IsPiece, IsLongest, value, all, opens, unclosed, are_inside}
+use Rattle.module_semantics.specs.Pieces.{spelled_all, Fit, last_of, size_all, tokens_from}
 use Rattle.module_semantics.specs.declared.tokens.After.{After}
 use Rattle.module_semantics.specs.declared.tokens.After.TheVariants as after
 use Rattle.module_semantics.specs.declared.tokens.LexFault.{LexFault}
 use Rattle.module_semantics.specs.declared.tokens.LexKind.{LexKind}
-use Rattle.module_semantics.specs.declared.tokens.LexKind.TheVariants.{BadByte, OpenString, OpenComment, BadEscape, NumberTooLarge, TooManyTokens, NoMemory}
+use Rattle.module_semantics.specs.declared.tokens.LexKind.TheVariants.{BadByte, OpenString, OpenComment}
+use Rattle.module_semantics.specs.declared.tokens.LexKind.TheVariants.{BadEscape, NumberTooLarge}
+use Rattle.module_semantics.specs.declared.tokens.LexKind.TheVariants.{TooManyTokens, NoMemory}
 use Rattle.hmr_types.specs.declared.limits.TheConstants.{TOKENS, LARGEST_NUMBER}
 
 -- no piece begins with b and the bytes after it

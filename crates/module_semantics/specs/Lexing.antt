@@ -1,14 +1,19 @@
 -- What lexing gives: the tokens of a text, or its first fault. `Pieces` and `LexFaults` say the same by rules
 -- on whole texts.
-use Rattle.std.specs.Prelude.{◌≡◌, ℕ, zero, suc, ◌+◌, ◌*◌, ◌-◌, List, [], ◌∷◌, ◌++◌, length, take, drop, Bool, true, false, ◌&&◌, ◌==◌, nat_lt, if◌then◌else◌, Option, Some, None, Result, Ok, Err}
+use Rattle.std.specs.Prelude.{◌≡◌, ℕ, zero, suc, ◌+◌, ◌*◌, ◌-◌, List, [], ◌∷◌, ◌++◌, length, take, drop, Bool}
+use Rattle.std.specs.Prelude.{true, false, ◌&&◌, ◌==◌, nat_lt, if◌then◌else◌, Option, Some, None, Result, Ok}
+use Rattle.std.specs.Prelude.{Err}
 use Rattle.hmr_types.specs.declared.limits.TheConstants.{TOKENS, LARGEST_NUMBER}
 use Rattle.module_semantics.specs.Steps.{◌>>=◌}
 use Rattle.module_semantics.specs.Token.{Token, name, number, text, punct, Lexeme}
-use Rattle.module_semantics.specs.Bytes.{is_blank, is_digit, is_name_start, is_name_byte, is_quote, is_line_end, is_escape, unescape, not_line_feed, span}
+use Rattle.module_semantics.specs.Bytes.{is_blank, is_digit, is_name_start, is_name_byte, is_quote}
+use Rattle.module_semantics.specs.Bytes.{is_line_end, is_escape, unescape, not_line_feed, span}
 use Rattle.module_semantics.specs.declared.tokens.After.{After}
 use Rattle.module_semantics.specs.declared.tokens.After.TheVariants as after
 use Rattle.module_semantics.specs.declared.tokens.LexKind.{LexKind}
-use Rattle.module_semantics.specs.declared.tokens.LexKind.TheVariants.{BadByte, OpenString, OpenComment, BadEscape, NumberTooLarge, TooManyTokens, NoMemory}
+use Rattle.module_semantics.specs.declared.tokens.LexKind.TheVariants.{BadByte, OpenString, OpenComment}
+use Rattle.module_semantics.specs.declared.tokens.LexKind.TheVariants.{BadEscape, NumberTooLarge}
+use Rattle.module_semantics.specs.declared.tokens.LexKind.TheVariants.{TooManyTokens, NoMemory}
 use Rattle.module_semantics.specs.declared.tokens.LexFault.{LexFault}
 
 -- a fault by its kind and its place

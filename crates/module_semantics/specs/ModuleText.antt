@@ -1,5 +1,6 @@
 -- Which text reads as which module, and what the first fault of the others is.
-use Rattle.std.specs.Prelude.{◌≡◌, ℕ, ◌-◌, List, [], ◌∷◌, length, drop, if◌then◌else◌, Option, Some, None, Result, Ok, Err, IsUtf8}
+use Rattle.std.specs.Prelude.{◌≡◌, ℕ, ◌-◌, List, [], ◌∷◌, length, drop, if◌then◌else◌, Option, Some, None}
+use Rattle.std.specs.Prelude.{Result, Ok, Err, IsUtf8}
 use Rattle.std.specs.Str.{is_utf8}
 use Rattle.std.specs.Str.Lossy.{utf8_valid_len}
 use Rattle.module_tree.specs.Syntax.{ModuleTree}

@@ -1,12 +1,14 @@
 -- The rules on names, which are asked of a text that has the grammar. Each rule gives the places that break
 -- it; the fault is the one at the least place.
-use Rattle.std.specs.Prelude.{ℕ, List, [], ◌∷◌, ◌++◌, Bool, true, false, not, ◌||◌, nat_le, if◌then◌else◌, Option, Some, None, map}
+use Rattle.std.specs.Prelude.{ℕ, List, [], ◌∷◌, ◌++◌, Bool, true, false, not, ◌||◌, nat_le, if◌then◌else◌}
+use Rattle.std.specs.Prelude.{Option, Some, None, map}
 use Rattle.std.specs.Str.{bytes_eq}
 use Rattle.hmr_types.specs.declared.analysis.FaultWord.{FaultWord}
 use Rattle.hmr_types.specs.declared.analysis.FaultWord.TheVariants.{DuplicateName, NotAssignable, Unexpected}
 use Rattle.module_semantics.specs.Kinds.{NameAt}
 use Rattle.module_semantics.specs.Raw as raw
-use Rattle.module_semantics.specs.Raw.{RawExpr, RawStmt, RawStmts, RawHandler, RawOnce, RawImport, RawItem, no_stmts, one_stmt}
+use Rattle.module_semantics.specs.Raw.{RawExpr, RawStmt, RawStmts, RawHandler, RawOnce, RawImport, RawItem}
+use Rattle.module_semantics.specs.Raw.{no_stmts, one_stmt}
 use Rattle.module_semantics.specs.Reading.{flat}
 
 -- a place that breaks a rule

@@ -1,7 +1,9 @@
 -- A text as pieces: blanks, comments and longest tokens.
-use Rattle.std.specs.Prelude.{◌≡◌, ℕ, suc, ◌+◌, ◌*◌, ◌-◌, ◌≤◌, List, [], ◌∷◌, ◌++◌, length, Bool, true, false, not, ◌&&◌, ◌==◌, Option, Some, None}
+use Rattle.std.specs.Prelude.{◌≡◌, ℕ, suc, ◌+◌, ◌*◌, ◌-◌, ◌≤◌, List, [], ◌∷◌, ◌++◌, length, Bool, true, false}
+use Rattle.std.specs.Prelude.{not, ◌&&◌, ◌==◌, Option, Some, None}
 use Rattle.module_semantics.specs.Token.{Token, name, number, text, punct, Lexeme}
-use Rattle.module_semantics.specs.Bytes.{is_blank, is_digit, is_name_start, is_name_byte, is_quote, is_line_end, is_escape, unescape, not_line_feed}
+use Rattle.module_semantics.specs.Bytes.{is_blank, is_digit, is_name_start, is_name_byte, is_quote}
+use Rattle.module_semantics.specs.Bytes.{is_line_end, is_escape, unescape, not_line_feed}
 use Rattle.module_semantics.specs.Lexing.{begins, single, double, barred, after_token}
 use Rattle.module_semantics.specs.declared.tokens.After.{After}
 use Rattle.module_semantics.specs.declared.tokens.After.TheVariants as after

@@ -1,13 +1,25 @@
 -- Reading a module text: what the tokens of a text are by the grammar, or where they leave it. Each reader
 -- looks one token ahead; `throw new` alone looks two. `Grammar` says the same by derivations.
-use Rattle.std.specs.Prelude.{ℕ, zero, suc, List, [], ◌∷◌, ◌++◌, length, Bool, true, false, if◌then◌else◌, Option, Some, None, Result, Ok, Err}
+use Rattle.std.specs.Prelude.{ℕ, zero, suc, List, [], ◌∷◌, ◌++◌, length, Bool, true, false, if◌then◌else◌}
+use Rattle.std.specs.Prelude.{Option, Some, None, Result, Ok, Err}
 use Rattle.module_tree.specs.declared.tree.Op.{Op}
 use Rattle.module_tree.specs.declared.tree.Op.TheVariants as ops
 use Rattle.module_semantics.specs.Steps.{◌>>=◌}
 use Rattle.module_semantics.specs.Token.{LineToken}
-use Rattle.module_semantics.specs.Kinds.{OTHER, IMPORT, EXPORT, CONST, LET, IF, ELSE, THROW, UNDEFINED, CONSOLE, LOG, HOST, NEW, ERROR, FROM, AS, META, HOT, DATA, ACCEPT, DISPOSE, PRUNE, DECLINE, INVALIDATE, NUMBER, TEXT, OPEN_BRACE, CLOSE_BRACE, OPEN, CLOSE, OPEN_BRACKET, CLOSE_BRACKET, COMMA, DOT, EQUALS, PLUS, MINUS, TIMES, QUESTION, COLON, ARROW, SAFE_DOT, NULLISH, reserved, free_names, all_names, bytes_of, value_of, NameAt, name_at}
-use Rattle.module_semantics.specs.Raw.{RawExpr, num, text, undefined, name, bag, member, neg, binary, choose, RawStmt, RawStmts, no_stmts, one_stmt, stmts_of, log, assign, set, set_bag, throw, invalidate, branch, RawHandler, RawOnce, code, host, RawImport, RawItem, import, declare, act, own, deps, dispose, prune, decline}
-use Rattle.module_semantics.specs.Readers.{GrammarFault, unexpected, Reader, next_two, taken, mark, given, ◌&◌, mapped, ◌▷◌, ◌◁◌, choice, many, listed, separated, end, deep}
+use Rattle.module_semantics.specs.Kinds.{OTHER, IMPORT, EXPORT, CONST, LET, IF, ELSE, THROW, UNDEFINED}
+use Rattle.module_semantics.specs.Kinds.{CONSOLE, LOG, HOST, NEW, ERROR, FROM, AS, META, HOT, DATA, ACCEPT}
+use Rattle.module_semantics.specs.Kinds.{DISPOSE, PRUNE, DECLINE, INVALIDATE, NUMBER, TEXT, OPEN_BRACE}
+use Rattle.module_semantics.specs.Kinds.{CLOSE_BRACE, OPEN, CLOSE, OPEN_BRACKET, CLOSE_BRACKET, COMMA, DOT}
+use Rattle.module_semantics.specs.Kinds.{EQUALS, PLUS, MINUS, TIMES, QUESTION, COLON, ARROW, SAFE_DOT}
+use Rattle.module_semantics.specs.Kinds.{NULLISH, reserved, free_names, all_names, bytes_of, value_of, NameAt}
+use Rattle.module_semantics.specs.Kinds.{name_at}
+use Rattle.module_semantics.specs.Raw.{RawExpr, num, text, undefined, name, bag, member, neg, binary, choose}
+use Rattle.module_semantics.specs.Raw.{RawStmt, RawStmts, no_stmts, one_stmt, stmts_of, log, assign, set}
+use Rattle.module_semantics.specs.Raw.{set_bag, throw, invalidate, branch, RawHandler, RawOnce, code, host}
+use Rattle.module_semantics.specs.Raw.{RawImport, RawItem, import, declare, act, own, deps, dispose, prune}
+use Rattle.module_semantics.specs.Raw.{decline}
+use Rattle.module_semantics.specs.Readers.{GrammarFault, unexpected, Reader, next_two, taken, mark, given}
+use Rattle.module_semantics.specs.Readers.{◌&◌, mapped, ◌▷◌, ◌◁◌, choice, many, listed, separated, end, deep}
 
 -- a name that is none of the reserved words
 abbrev pub free_name : Reader NameAt

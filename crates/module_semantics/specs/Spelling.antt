@@ -2,7 +2,8 @@
 use Rattle.std.specs.Prelude.{ℕ, List, [], ◌∷◌, Bool, true, ◌&&◌, ◌==◌, if◌then◌else◌, Option, Some, None}
 use Rattle.std.specs.Str.{bytes_eq}
 use Rattle.module_semantics.specs.Token.{LineToken}
-use Rattle.module_semantics.specs.Kinds.{kind, within, COMMA, SEMICOLON, NUMBER, TEXT, free_names, all_names, bytes_of, value_of, NameAt, name_at, same_name}
+use Rattle.module_semantics.specs.Kinds.{kind, within, COMMA, SEMICOLON, NUMBER, TEXT, free_names, all_names}
+use Rattle.module_semantics.specs.Kinds.{bytes_of, value_of, NameAt, name_at, same_name}
 use Rattle.module_semantics.specs.Readers.{next_in, ends}
 
 -- what is left of tokens after a part, where they begin with it

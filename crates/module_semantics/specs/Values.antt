@@ -1,5 +1,7 @@
 -- Values, and what the operators make of them.
-use Rattle.std.specs.Prelude.{ℕ, zero, suc, ℤ, pos, negsuc, ◌+ℤ◌, ◌-ℤ◌, ◌*ℤ◌, neg_ℤ, Bool, true, false, nat_le, nat_lt, if◌then◌else◌, List, [], ◌∷◌, ◌++◌, length, codes, Result, Ok, Err}
+use Rattle.std.specs.Prelude.{ℕ, zero, suc, ℤ, pos, negsuc, ◌+ℤ◌, ◌-ℤ◌, ◌*ℤ◌, neg_ℤ, Bool, true, false}
+use Rattle.std.specs.Prelude.{nat_le, nat_lt, if◌then◌else◌, List, [], ◌∷◌, ◌++◌, length, codes, Result, Ok}
+use Rattle.std.specs.Prelude.{Err}
 use Rattle.std.specs.Fmt.{signed_decimal}
 use Rattle.hmr_types.specs.Results.{◌>>=◌}
 use Rattle.hmr_types.specs.declared.limits.TheConstants.{LARGEST_NUMBER, VALUE_BYTES}

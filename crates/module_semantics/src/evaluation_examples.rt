@@ -3,7 +3,9 @@ ghost use Rattle.std.specs.Prelude.{◌≡◌, ℕ, List, [], ◌∷◌, ◌++�
 ghost use Rattle.module_tree.specs.Syntax as tree;
 ghost use Rattle.module_semantics.specs.Bodies.{body_run, host_ran, host_line};
 ghost use Rattle.module_semantics.specs.Modules.{module_run};
-ghost use Rattle.module_semantics.specs.Examples.{alone, largest, body_alone, letters, with_module, before, after, stopped, keys, export_let, nothing, module_alone, module_with, module_stopped};
+ghost use Rattle.module_semantics.specs.Examples.{alone, largest, body_alone, letters, with_module, before};
+ghost use Rattle.module_semantics.specs.Examples.{after, stopped, keys, export_let, nothing, module_alone};
+ghost use Rattle.module_semantics.specs.Examples.{module_with, module_stopped};
 ghost use Rattle.module_semantics.specs.Evaluation.{value_of};
 
 use crate::ModParam;

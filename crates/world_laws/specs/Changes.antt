@@ -3,7 +3,8 @@ use Rattle.std.specs.Prelude.{ℕ, List, [], ◌∷◌, find, Option, Some, None
 use Rattle.core_model.specs.Names.{Name}
 use Rattle.core_model.specs.Sources.{Text, Change, edit, result}
 use Rattle.client_model.specs.Language.{Language}
-use Rattle.world_model.specs.World.{Job, World, Step, edits, settles, opens, turn, closes, show, values, fates, fresh, fresh_of, fires}
+use Rattle.world_model.specs.World.{Job, World, Step, edits, settles, opens, turn, closes, show, values}
+use Rattle.world_model.specs.World.{fates, fresh, fresh_of, fires}
 use Rattle.world_model.specs.Editing.{is_job}
 use Rattle.world_model.specs.Steps.{world_after}
 

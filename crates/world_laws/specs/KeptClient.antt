@@ -1,6 +1,7 @@
 -- What holds of a client's instances, of its page and of what it fetched, and is kept by each thing that
 -- comes to it.
-use Rattle.std.specs.Prelude.{◌≡◌, ℕ, ◌≤◌, Bool, true, false, List, [], length, Option, Some, None, is_some, IfSome, ⊤}
+use Rattle.std.specs.Prelude.{◌≡◌, ℕ, ◌≤◌, Bool, true, false, List, [], length, Option, Some, None, is_some}
+use Rattle.std.specs.Prelude.{IfSome, ⊤}
 use Prim.{⊥}
 use Rattle.hmr_types.specs.declared.analysis.Outcome.TheVariants.{Good}
 use Rattle.hmr_types.specs.declared.words.PlanKind.{PlanKind}

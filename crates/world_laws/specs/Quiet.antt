@@ -1,5 +1,6 @@
 -- Turns of one client, and what they leave of its plan, its cause to give one up, and its debt.
-use Rattle.std.specs.Prelude.{◌≡◌, ◌<◌, ◌≤◌, ◌==◌, ◌||◌, ℕ, zero, suc, Bool, true, false, List, [], ◌∷◌, ◌++◌, length, filter, Option, Some, None, is_some, ⊤}
+use Rattle.std.specs.Prelude.{◌≡◌, ◌<◌, ◌≤◌, ◌==◌, ◌||◌, ℕ, zero, suc, Bool, true, false, List, [], ◌∷◌, ◌++◌}
+use Rattle.std.specs.Prelude.{length, filter, Option, Some, None, is_some, ⊤}
 use Rattle.std.specs.List.{list_all}
 use Prim.{⊥}
 use Rattle.core_model.specs.Names.{Name, has, at}
@@ -11,7 +12,8 @@ use Rattle.core_model.specs.Core.{client_at}
 use Rattle.client_model.specs.Language.{Language, links_of, BindsImports}
 use Rattle.client_model.specs.Runtime.{Runtime, Cause, missing, broken, unlinked}
 use Rattle.world_model.specs.CaughtUp.{IsCaughtUp, debt}
-use Rattle.world_model.specs.World.{World, Step, edits, settles, opens, turn, closes, show, values, fates, fresh, fresh_of, fires}
+use Rattle.world_model.specs.World.{World, Step, edits, settles, opens, turn, closes, show, values, fates}
+use Rattle.world_model.specs.World.{fresh, fresh_of, fires}
 use Rattle.world_model.specs.Steps.{world_step, world_after}
 use Rattle.world_model.specs.Ties.{WentOn}
 

@@ -10,7 +10,8 @@ use Rattle.client_model.specs.Language.{Language}
 use Rattle.client_model.specs.Runtime.{Runtime, Opening}
 use Rattle.client_model.specs.Requesting.{request}
 use Rattle.client_model.specs.Past.{Past, message, event}
-use Rattle.world_model.specs.World.{World, Step, edits, settles, opens, turn, closes, show, values, fates, fresh, fresh_of, fires}
+use Rattle.world_model.specs.World.{World, Step, edits, settles, opens, turn, closes, show, values, fates}
+use Rattle.world_model.specs.World.{fresh, fresh_of, fires}
 use Rattle.world_model.specs.Turning.{connected_as, opening_of}
 use Rattle.world_model.specs.Steps.{world_after}
 

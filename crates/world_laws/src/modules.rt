@@ -9,7 +9,8 @@ ghost use Rattle.world_model.specs.CaughtUp.{IsCaughtUp, debt, largest_debt};
 ghost use Rattle.world_model.specs.World.{Step, turn};
 ghost use Rattle.world_model.specs.Steps.{world_after};
 ghost use Rattle.world_model.specs.Ties.{WentOn};
-ghost use Rattle.world_laws.specs.Quiet.{IsServedWhole, EachClient, IsOpen, IsSettled, OwesLess, AreQuiet, IsUpAmongLooks};
+ghost use Rattle.world_laws.specs.Quiet.{IsServedWhole, EachClient, IsOpen, IsSettled, OwesLess, AreQuiet};
+ghost use Rattle.world_laws.specs.Quiet.{IsUpAmongLooks};
 
 /// A client that is held with no plan under way has a fresh load that isn't whole.
 pub fn held_module_client_has_no_whole_load()

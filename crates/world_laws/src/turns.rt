@@ -11,7 +11,8 @@ ghost use Rattle.world_model.specs.Steps.{world_step, world_after};
 ghost use Rattle.world_model.specs.Ties.{WentOn};
 ghost use Rattle.world_model.specs.SmallLanguage.{Texts, small_language};
 ghost use Rattle.world_model.specs.UpdateScripts.{counter};
-ghost use Rattle.world_laws.specs.Quiet.{IsServedWhole, CauseIs, IsServedText, EachClient, IsOpen, IsSettled, OwesLess, AreQuiet, IsUpWithin, looks, IsUpAmongLooks, debts};
+ghost use Rattle.world_laws.specs.Quiet.{IsServedWhole, CauseIs, IsServedText, EachClient, IsOpen, IsSettled};
+ghost use Rattle.world_laws.specs.Quiet.{OwesLess, AreQuiet, IsUpWithin, looks, IsUpAmongLooks, debts};
 ghost use Rattle.world_laws.specs.SmallTexts.{all_bind_imports};
 ghost use Rattle.world_laws.specs.CounterTurns.{loading, updating};
 

@@ -4,7 +4,8 @@ use Rattle.module_tree.specs.Syntax.{num, text, name, member, log, ItemTree, dec
 use Rattle.core_model.specs.Sources.{Text}
 use Rattle.world_model.specs.World.{edits, settles, opens, turn, show, fresh}
 use Rattle.world_model.specs.Playing.{Command, step, settle_all, turns, Stage}
-use Rattle.world_model.specs.SmallPages.{m, a, x, importing, exporting, accepting, self_accepting, binding, module_of, page_of, callback, edited}
+use Rattle.world_model.specs.SmallPages.{m, a, x, importing, exporting, accepting, self_accepting, binding}
+use Rattle.world_model.specs.SmallPages.{module_of, page_of, callback, edited}
 
 -- Late results, an equal text, and a version that was settled before.
 

@@ -1,13 +1,15 @@
 -- Scripts of handlers: prune, data, closures of the embedding program, and invalidations.
 use Rattle.std.specs.Prelude.{ℕ, true, false, List, [], ◌∷◌, Some, None, codes}
-use Rattle.module_tree.specs.Syntax.{num, text, name, bag, member, binary, log, bag_set, throw, invalidate, code, host, ItemTree, declare, act, own, deps, dispose, prune}
+use Rattle.module_tree.specs.Syntax.{num, text, name, bag, member, binary, log, bag_set, throw, invalidate}
+use Rattle.module_tree.specs.Syntax.{code, host, ItemTree, declare, act, own, deps, dispose, prune}
 use Rattle.module_tree.specs.declared.tree.Op.TheVariants.{Add}
 use Rattle.hmr_types.specs.declared.value.Value.TheVariants.{Str}
 use Rattle.core_model.specs.Names.{Name}
 use Rattle.core_model.specs.Sources.{Text}
 use Rattle.world_model.specs.World.{opens, turn, fires, show, values, fates}
 use Rattle.world_model.specs.Playing.{Command, step, settle_all, turns, Stage}
-use Rattle.world_model.specs.SmallPages.{m, a, x, importing, exporting, accepting, self_accepting, binding, module_of, page_of, callback, log_text, edited}
+use Rattle.world_model.specs.SmallPages.{m, a, x, importing, exporting, accepting, self_accepting, binding}
+use Rattle.world_model.specs.SmallPages.{module_of, page_of, callback, log_text, edited}
 
 -- An import that goes and comes again.
 

@@ -1,5 +1,6 @@
 -- A script: steps, all results that are due, and turns of a client until it is caught up.
-use Rattle.std.specs.Prelude.{ℕ, zero, suc, Bool, true, false, not, List, [], ◌++◌, map, filter, fold, reverse, Option, Some, None, if◌then◌else◌}
+use Rattle.std.specs.Prelude.{ℕ, zero, suc, Bool, true, false, not, List, [], ◌++◌, map, filter, fold}
+use Rattle.std.specs.Prelude.{reverse, Option, Some, None, if◌then◌else◌}
 use Rattle.output_lines.specs.declared.words.ClientState.{ClientState}
 use Rattle.output_lines.specs.declared.words.ClientState.TheVariants.{Up, Behind}
 use Rattle.output_lines.specs.declared.words.EditWord.{EditWord}

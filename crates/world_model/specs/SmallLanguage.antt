@@ -1,9 +1,14 @@
 -- A small module language for examples: each text stands for a module that is listed beside it. It has
 -- numbers, texts, sums, `??`, the bag, members and `throw`, and no other faults; its dependencies are named
 -- in full.
-use Rattle.std.specs.Prelude.{ℕ, zero, suc, ◌+◌, ◌/◌, ◌%◌, ◌==◌, ℤ, pos, negsuc, ◌+ℤ◌, List, [], ◌∷◌, ◌++◌, map, flat_map, fold, slice_get, Option, Some, None, is_some, codes, if◌then◌else◌}
+use Rattle.std.specs.Prelude.{ℕ, zero, suc, ◌+◌, ◌/◌, ◌%◌, ◌==◌, ℤ, pos, negsuc, ◌+ℤ◌, List, [], ◌∷◌, ◌++◌}
+use Rattle.std.specs.Prelude.{map, flat_map, fold, slice_get, Option, Some, None, is_some, codes}
+use Rattle.std.specs.Prelude.{if◌then◌else◌}
 use Rattle.std.specs.List.{join_with_byte}
-use Rattle.module_tree.specs.Syntax.{ExprTree, num, text, undefined, name, bag, member, neg, binary, choose, StmtTree, StmtTrees, no_stmts, one_stmt, log, assign, bag_set, throw, invalidate, branch, HandlerTree, OnceTree, code, ItemTree, import, declare, act, own, deps, dispose, prune, decline}
+use Rattle.module_tree.specs.Syntax.{ExprTree, num, text, undefined, name, bag, member, neg, binary, choose}
+use Rattle.module_tree.specs.Syntax.{StmtTree, StmtTrees, no_stmts, one_stmt, log, assign, bag_set, throw}
+use Rattle.module_tree.specs.Syntax.{invalidate, branch, HandlerTree, OnceTree, code, ItemTree, import}
+use Rattle.module_tree.specs.Syntax.{declare, act, own, deps, dispose, prune, decline}
 use Rattle.module_tree.specs.declared.tree.Op.{Op}
 use Rattle.module_tree.specs.declared.tree.Op.TheVariants.{Null, Add, Sub, Mul}
 use Rattle.hmr_types.specs.declared.value.Value.{Value}

@@ -8,7 +8,8 @@ use Rattle.core_model.specs.FreshLoad.{FreshLoad, fresh_load}
 use Rattle.core_model.specs.Core.{change, connect, step, client_at}
 use Rattle.client_model.specs.Language.{Language, links_of}
 use Rattle.client_model.specs.Printing.{show_lines, value_lines, fate_lines}
-use Rattle.world_model.specs.World.{World, Step, edits, settles, opens, turn, closes, show, values, fates, fresh, fresh_of, fires, Stepped, stepped, new_world}
+use Rattle.world_model.specs.World.{World, Step, edits, settles, opens, turn, closes, show, values, fates}
+use Rattle.world_model.specs.World.{fresh, fresh_of, fires, Stepped, stepped, new_world}
 use Rattle.world_model.specs.Editing.{edited_by, is_job, settle_job}
 use Rattle.world_model.specs.Turning.{turn_of, open_by, close_of, shown, fire_of, state_in}
 

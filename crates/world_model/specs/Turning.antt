@@ -15,7 +15,8 @@ use Rattle.core_model.specs.Exchange.{event_of, message_for}
 use Rattle.client_model.specs.Language.{Language}
 use Rattle.client_model.specs.Runtime.{Runtime, Opening, new_runtime}
 use Rattle.client_model.specs.Requesting.{request}
-use Rattle.client_model.specs.Taking.{Taken, took, unexpected, instances_full, is_stopped, Taking, unchanged_by, take}
+use Rattle.client_model.specs.Taking.{Taken, took, unexpected, instances_full, is_stopped, Taking}
+use Rattle.client_model.specs.Taking.{unchanged_by, take}
 use Rattle.client_model.specs.Firing.{Fired, heard, busy, Firing, fire}
 use Rattle.client_model.specs.Firing as fires_are
 use Rattle.world_model.specs.CaughtUp.{state_of}

@@ -1,11 +1,14 @@
 -- Scripts of a page load, an update and a reload.
 use Rattle.std.specs.Prelude.{ℕ, true, false, List, [], ◌∷◌, Some, None, codes}
-use Rattle.module_tree.specs.Syntax.{ExprTree, num, text, name, bag, member, binary, log, assign, bag_set, code, declare, act, own, deps, dispose}
+use Rattle.module_tree.specs.Syntax.{ExprTree, num, text, name, bag, member, binary, log, assign, bag_set}
+use Rattle.module_tree.specs.Syntax.{code, declare, act, own, deps, dispose}
 use Rattle.module_tree.specs.declared.tree.Op.TheVariants.{Null, Add}
 use Rattle.core_model.specs.Sources.{Text}
 use Rattle.world_model.specs.World.{opens, show, values, fates, fresh}
 use Rattle.world_model.specs.Playing.{Command, step, settle_all, turns, Stage}
-use Rattle.world_model.specs.SmallPages.{m, a, b, x, c, importing, exporting, accepting, self_accepting, binding, module_of, page_of, callback, callback_of_two, log_text, edited}
+use Rattle.world_model.specs.SmallPages.{m, a, b, x, c, importing, exporting, accepting, self_accepting}
+use Rattle.world_model.specs.SmallPages.{binding, module_of, page_of, callback, callback_of_two, log_text}
+use Rattle.world_model.specs.SmallPages.{edited}
 
 -- A counter: main accepts counter, which keeps its count.
 

@@ -20,7 +20,9 @@ ghost use Rattle.output_lines.specs.declared.words.AbortWord.TheVariants as abor
 ghost use Rattle.hmr_types.specs.declared.analysis.FaultWord.TheVariants.{Unexpected};
 ghost use Rattle.world_model.specs.Playing.{play, quiet_play};
 ghost use Rattle.world_model.specs.SmallPages.{m, a, x};
-ghost use Rattle.world_model.specs.FetchScripts.{late, late_script, faulty_script, moving, moving_script, mixed, mixed_script, needing, needing_script, after_fetch, after_fetch_script};
+ghost use Rattle.world_model.specs.FetchScripts.{late, late_script, faulty_script, moving, moving_script};
+ghost use Rattle.world_model.specs.FetchScripts.{mixed, mixed_script, needing, needing_script, after_fetch};
+ghost use Rattle.world_model.specs.FetchScripts.{after_fetch_script};
 
 /// A late result is never served over a newer one, and an equal text counts for nothing.
 pub fn late_result_is_not_served()

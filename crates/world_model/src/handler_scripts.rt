@@ -17,7 +17,11 @@ ghost use Rattle.output_lines.specs.declared.out_line.OutLine.TheVariants as lin
 ghost use Rattle.output_lines.specs.declared.words.Handled.TheVariants as handled;
 ghost use Rattle.world_model.specs.Playing.{play, quiet_play};
 ghost use Rattle.world_model.specs.SmallPages.{m, a, x};
-ghost use Rattle.world_model.specs.HandlerScripts.{seeing, seeing_script, hosting, hosting_script, label, invalidating, invalidating_script, second_client_script, invalid_root_page, invalid_root_script, faulting, faulting_script, watching_script, asking, asking_script, hearing, hearing_script};
+ghost use Rattle.world_model.specs.HandlerScripts.{seeing, seeing_script, hosting, hosting_script, label};
+ghost use Rattle.world_model.specs.HandlerScripts.{invalidating, invalidating_script, second_client_script};
+ghost use Rattle.world_model.specs.HandlerScripts.{invalid_root_page, invalid_root_script, faulting};
+ghost use Rattle.world_model.specs.HandlerScripts.{faulting_script, watching_script, asking, asking_script};
+ghost use Rattle.world_model.specs.HandlerScripts.{hearing, hearing_script};
 ghost use Rattle.output_lines.specs.declared.words.FaultPlace.TheVariants as place;
 ghost use Rattle.hmr_types.specs.declared.value.EvalFault.TheVariants.{Thrown};
 ghost use Rattle.hmr_types.specs.declared.value.Slot.TheVariants.{Unset};
