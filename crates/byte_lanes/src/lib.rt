@@ -16,6 +16,3 @@ pub use class::Class;
 pub use lines::{count_newlines, line_starts};
 pub use masks::{ClassMasks, classes};
 pub use search::{first_not, first_of};
-
-#[cfg(test)]
-mod tests;

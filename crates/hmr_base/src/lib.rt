@@ -25,6 +25,3 @@ pub use outside::{Failed, Sink, Source};
 pub use read::{ReadFault, read_all};
 pub use std_streams::{StdSink, StdSource};
 pub use write::{WriteFault, write_all};
-
-#[cfg(test)]
-mod tests;

@@ -32,6 +32,3 @@ pub type Ver = u64;
 
 /// The number of a client, from 1.
 pub type ClientId = u32;
-
-#[cfg(test)]
-mod tests;

@@ -9,6 +9,3 @@
 mod tree;
 
 pub use tree::{Cond, Expr, HandlerCode, ImportName, Item, Module, Once, Op, Stmt, copy_stmts};
-
-#[cfg(test)]
-mod tests;

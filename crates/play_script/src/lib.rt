@@ -23,6 +23,3 @@ pub use reader::read_script;
 pub use script::Script;
 pub use script_line::ScriptLine;
 pub use spelling::spelling_is_read;
-
-#[cfg(test)]
-mod tests;

@@ -17,6 +17,3 @@ pub use play_script::{
 };
 pub use rendering::{put_line, render};
 pub use word_texts::{cause_str, fault_str};
-
-#[cfg(test)]
-mod tests;

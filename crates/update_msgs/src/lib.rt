@@ -11,6 +11,3 @@ mod message;
 
 pub use desk::{Desk, HubStop};
 pub use message::{AbortCause, ClientMsg, JsUpdate, ServerMsg};
-
-#[cfg(test)]
-mod tests;

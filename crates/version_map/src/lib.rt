@@ -13,6 +13,3 @@ mod version_map;
 pub use entry::Served;
 pub use outcome::{EditFault, EditOutcome, Settled};
 pub use version_map::VersionMap;
-
-#[cfg(test)]
-mod tests;
