@@ -10,11 +10,12 @@ use Rattle.core_model.specs.Names.{Name, has, same_name}
 use Rattle.core_model.specs.Roots.{are_distinct}
 use Rattle.core_model.proofs.Naming.{and_both, both_true, has_more, neither, not_true, same_true, true_same}
 use Rattle.play_script.specs.declared.draft.Draft.{Draft}
+use Rattle.play_script.specs.declared.form.Form.TheVariants as forms
 use Rattle.play_script.specs.declared.fault.ScriptFault.{ScriptFault}
 use Rattle.play_script.specs.declared.fault.ScriptKind.{ScriptKind}
 use Rattle.play_script.specs.declared.words.Said.{Said}
 use Rattle.play_script.specs.declared.words.Said.TheVariants as says
-use Rattle.play_script.specs.Script.{Contents, Line, allowed, beginning, below_edit, checked, finished, line_read, line_said, lines_from, may_be_command, may_be_root, numbered, placed, script_of}
+use Rattle.play_script.specs.Script.{Contents, Line, allowed, beginning, below_edit, checked, finished, line_read, line_said_in, lines_from, may_be_command, may_be_root, numbered, placed, script_of}
 use Rattle.dev_program.specs.Ends.{AreFew}
 
 -- a name that isn't in the list, at its end
@@ -93,7 +94,7 @@ checked_few : (d : Draft) (n : ℕ) (lines : List Line) → AreFew d.roots → F
 checked_few d n [] h = h
 checked_few d n (line ∷ more) h =
     then_few (numbered n (line_read d line.bytes line.ended)) (λ next. checked next (n + 1) more)
-    (numbered_few n (line_read d line.bytes line.ended) (read_few d (line_said line.bytes line.ended) h))
+    (numbered_few n (line_read d line.bytes line.ended) (read_few d (line_said_in d.form line.bytes line.ended) h))
     (λ next k. checked_few next (n + 1) more k)
 
 ended_few : (lines : List Line) (result : Result Draft ScriptFault) → Few result →
@@ -107,7 +108,7 @@ no_roots = record { few = omega arith; distinct = refl }
 pub script_few : (bytes : List ℕ) → IfOk (script_of bytes) (λ (s : Contents). AreFew s.roots)
 script_few bytes =
     let lines = lines_from [] bytes in
-    ended_few lines (checked beginning 1 lines) (checked_few beginning 1 lines no_roots)
+    ended_few lines (checked (beginning forms.Page) 1 lines) (checked_few (beginning forms.Page) 1 lines no_roots)
 
 pub few_of : (bytes : List ℕ) (s : Contents) → script_of bytes ≡ Ok s → AreFew s.roots
 few_of bytes s e = subst (λ r. IfOk r (λ (x : Contents). AreFew x.roots)) e (script_few bytes)

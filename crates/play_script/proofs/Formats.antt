@@ -6,12 +6,13 @@ use Rattle.hmr_types.specs.declared.limits.TheConstants.{LARGEST_CLIENT, LARGEST
 use Rattle.play_script.specs.declared.script_line.ScriptLine.{ScriptLine}
 use Rattle.play_script.specs.declared.script_line.ScriptLine.TheVariants as lines
 use Rattle.play_script.specs.declared.fault.ScriptKind.{ScriptKind}
+use Rattle.play_script.specs.declared.form.Form.TheVariants as forms
 use Rattle.play_script.specs.declared.words.Word.{Word}
 use Rattle.play_script.specs.declared.words.Word.TheVariants as first
 use Rattle.play_script.specs.declared.words.Said.{Said}
 use Rattle.play_script.specs.declared.words.Said.TheVariants as says
 use Rattle.play_script.specs.Asked.{HasFormat}
-use Rattle.play_script.specs.Script.{Line, all_named, command, command_of, commands, fresh, known_word, named, no_word, number, one_client, one_name, said, settle, turns, whole_line, with_first, words}
+use Rattle.play_script.specs.Script.{Line, all_named, command, command_of, commands, fresh, in_form, known_word, named, no_word, number, one_client, one_name, said, settle, turns, whole_line, with_first, words}
 
 -- what a line says opens no client, or one of format 1 or 2
 abbrev Fits : Said → Type 0
@@ -64,7 +65,8 @@ command_fits first.Fresh ws = fresh_fits ws
 
 said_fits : (ws : List (List ℕ)) → IfOk (said ws) Fits
 said_fits [] = tt
-said_fits (word ∷ ws) = behind (known_word word) (λ w. command w ws) (λ w. command_fits w ws)
+said_fits (word ∷ ws) =
+    behind (known_word word) (λ k. in_form forms.Page k >>= λ w. command w ws) (λ w. command_fits w ws)
 
 by_first : (hash bar : Bool) (ws : List (List ℕ)) → IfOk (cond hash (Ok says.Nothing) (cond bar (Ok says.Text) (said ws))) Fits
 by_first true bar ws = tt

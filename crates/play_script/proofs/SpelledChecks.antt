@@ -11,12 +11,13 @@ use Rattle.hmr_types.specs.ModName.{is_name, is_text}
 use Rattle.hmr_types.specs.Results.{◌>>=◌}
 use Rattle.hmr_types.specs.declared.limits.TheConstants.{ROOTS}
 use Rattle.play_script.specs.declared.draft.Draft.{Draft}
+use Rattle.play_script.specs.declared.form.Form.TheVariants as forms
 use Rattle.play_script.specs.declared.script_line.ScriptLine.{ScriptLine}
 use Rattle.play_script.specs.declared.script_line.ScriptLine.TheVariants as lines
 use Rattle.play_script.specs.declared.words.Said.{Said}
 use Rattle.play_script.specs.declared.words.Said.TheVariants as says
 use Rattle.play_script.specs.Texts.{spaced}
-use Rattle.play_script.specs.Script.{Contents, Line, beginning, checked, is_empty, line_read, lines_from, numbered, placed}
+use Rattle.play_script.specs.Script.{Contents, Line, beginning, checked, is_empty, line_read, line_said_in, lines_from, numbered, placed}
 use Rattle.play_script.specs.Spelling.{HasSpelling, are_roots, command_lines, command_text, fits, is_writable, script_lines}
 use Rattle.play_script.proofs.SpelledLines.{Says, command_says, root_says, bar_utf8}
 use Rattle.play_script.proofs.SpelledTexts.{ended}
@@ -40,11 +41,11 @@ by_both d e f xs ys first second = λ n more.
     (b.0, ap (λ l. checked d n (l ++ more)) (map-append ended xs ys) ∙ (ap (checked d n) (append_assoc (map ended xs) (map ended ys) more) ∙ (a.1 ∙ b.1)))
 
 -- a line that says this is placed
-read_of : (d : Draft) (line : List ℕ) (s : Said) → Says line s → line_read d line true ≡ placed d s
-read_of d line s h = ap (λ r. r >>= placed d) h.0
+read_of : (d : Draft) (line : List ℕ) (s : Said) → d.form ≡ forms.Page → Says line s → line_read d line true ≡ placed d s
+read_of d line s page h = ap (λ f. line_said_in f line true >>= placed d) page ∙ ap (λ r. r >>= placed d) h.0
 
 abbrev of_roots : List (List ℕ) → Bool → Bool → Draft
-of_roots roots began in_edit = record { roots = roots; began = began; in_edit = in_edit }
+of_roots roots began in_edit = record { form = forms.Page; roots = roots; began = began; in_edit = in_edit }
 
 abbrev root_line : List ℕ → List ℕ
 root_line name = codes "root" ++ spaced name
@@ -60,7 +61,7 @@ roots_lead (r ∷ rs) before h =
     let here = of_roots before false false in
     let next = of_roots (before ++ r ∷ []) false false in
     let place : placed here (says.Root r) ≡ Ok next = rw (few, other) refl in
-    by_line here next (of_roots (before ++ r ∷ rs) false false) (root_line r) (map root_line rs) (read_of here (root_line r) (says.Root r) (root_says r two.0) ∙ place)
+    by_line here next (of_roots (before ++ r ∷ rs) false false) (root_line r) (map root_line rs) (read_of here (root_line r) (says.Root r) refl (root_says r two.0) ∙ place)
     (subst (λ b. Leads next (map root_line rs) (of_roots b false false)) (append_assoc before (r ∷ []) rs) (roots_lead rs (before ++ r ∷ []) all.1))
 
 text_read : (roots : List (List ℕ)) (bytes : List ℕ) → is_utf8 bytes ≡ true → nat_lt (length bytes) 65535 ≡ true → line_read (of_roots roots true true) (codes "|" ++ bytes) true ≡ Ok (of_roots roots true true)
@@ -92,7 +93,7 @@ plain roots b c line some h =
     let e = of_roots roots true false in
     let root = some_root roots some in
     let place : placed d (says.Command line) ≡ Ok e = rw root refl in
-    (false, by_line d e e (command_text line) [] (read_of d (command_text line) (says.Command line) h ∙ place) (stays e))
+    (false, by_line d e e (command_text line) [] (read_of d (command_text line) (says.Command line) refl h ∙ place) (stays e))
 
 edit : (roots : List (List ℕ)) (b c : Bool) (name text : List ℕ) → is_empty roots ≡ false → is_writable (lines.Edit name text) ≡ true → Passes roots b c (command_lines (lines.Edit name text))
 edit roots b c name text some h =
@@ -102,7 +103,7 @@ edit roots b c name text some h =
     let root = some_root roots some in
     let place : placed d (says.Edit name) ≡ Ok e = rw root refl in
     let line = command_text (lines.Edit name text) in
-    (true, by_line d e e line (map (λ line. codes "|" ++ line.bytes) (lines_from [] text)) (read_of d line (says.Edit name) (command_says (lines.Edit name text) h) ∙ place) (text_leads (lines_from [] text) roots both.1))
+    (true, by_line d e e line (map (λ line. codes "|" ++ line.bytes) (lines_from [] text)) (read_of d line (says.Edit name) refl (command_says (lines.Edit name text) h) ∙ place) (text_leads (lines_from [] text) roots both.1))
 
 one : (roots : List (List ℕ)) (b c : Bool) (line : ScriptLine) → is_empty roots ≡ false → is_writable line ≡ true → Passes roots b c (command_lines line)
 one roots b c (lines.Edit name text) some h = edit roots b c name text some h
@@ -141,8 +142,8 @@ below_roots s false e h = commands_lead s.lines s.roots false false e h.lines
 below_roots s true e h = none_of s.lines s.roots (h.some_root e)
 
 -- the lines of a spelling pass, and its roots stand after them
-pub spelling_passes : (s : Contents) → HasSpelling s → (e : Draft) × (checked beginning 1 (map ended (script_lines s)) ≡ Ok e) × (e.roots ≡ s.roots)
+pub spelling_passes : (s : Contents) → HasSpelling s → (e : Draft) × (checked (beginning forms.Page) 1 (map ended (script_lines s)) ≡ Ok e) × (e.roots ≡ s.roots)
 spelling_passes s h =
     let ends = below_roots s (is_empty s.roots) refl h in
-    let leads = by_both beginning (of_roots s.roots false false) ends.0 (map root_line s.roots) (flat_map command_lines s.lines) (roots_lead s.roots [] h.roots) ends.1 in
-    (ends.0, ap (checked beginning 1) (sym (append-nil (map ended (script_lines s)))) ∙ (leads 1 []).1, ends.2)
+    let leads = by_both (beginning forms.Page) (of_roots s.roots false false) ends.0 (map root_line s.roots) (flat_map command_lines s.lines) (roots_lead s.roots [] h.roots) ends.1 in
+    (ends.0, ap (checked (beginning forms.Page) 1) (sym (append-nil (map ended (script_lines s)))) ∙ (leads 1 []).1, ends.2)

@@ -5,6 +5,7 @@ use Rattle.std.specs.Prelude.{ℕ, ◌++◌, codes}
 use Rattle.std.proofs.lemmas.Bool.{and_from}
 use Rattle.std.proofs.lemmas.List.Folds.{list_all-append}
 use Rattle.hmr_types.specs.Results.{◌>>=◌}
+use Rattle.play_script.specs.declared.form.Form.TheVariants as forms
 use Rattle.play_script.specs.Texts.{spaced}
 use Rattle.play_script.specs.Script.{Contents, Line, beginning, checked, commands, finished, script_of}
 use Rattle.play_script.specs.Spelling.{HasSpelling, command_lines, script_lines, spelling}
@@ -23,5 +24,5 @@ spelling_is_read s h =
     let whole : list_all has_no_lf (script_lines s) ≡ true = list_all-append has_no_lf (map (λ name. codes "root" ++ spaced name) s.roots) (flat_map command_lines s.lines) ∙ and_from _ _ (roots_no_lf s.roots [] h.roots) (commands_no_lf s.lines h.lines) in
     let ls = map ended (script_lines s) in
     let passes = spelling_passes s h in
-    ap (λ l. checked beginning 1 l >>= λ draft. Ok (finished l draft)) (lines-ended_by_lf (script_lines s) whole)
+    ap (λ l. checked (beginning forms.Page) 1 l >>= λ draft. Ok (finished l draft)) (lines-ended_by_lf (script_lines s) whole)
     ∙ (ap (λ r. r >>= λ draft. Ok (finished ls draft)) passes.1 ∙ ap Ok (same_script s (passes.0).roots ls passes.2 (spelling_says s h)))

@@ -15,6 +15,8 @@ use Rattle.play_script.specs.declared.script_line.ScriptLine.TheVariants as line
 use Rattle.play_script.specs.declared.words.Word.{Word}
 use Rattle.play_script.specs.declared.words.Word.TheVariants as first
 use Rattle.play_script.specs.declared.words.Said.{Said}
+use Rattle.play_script.specs.declared.form.Form.{Form}
+use Rattle.play_script.specs.declared.form.Form.TheVariants as forms
 use Rattle.play_script.specs.declared.words.Said.TheVariants as says
 use Rattle.play_script.specs.declared.fault.ScriptFault.{ScriptFault}
 use Rattle.play_script.specs.declared.fault.ScriptKind.{ScriptKind}
@@ -171,30 +173,47 @@ known_word w =
     else if is_text w (codes "fresh") then Ok first.Fresh
     else Err UnknownWord
 
+-- a first word, where this form of script has it
+abbrev pub in_form : Form → Word → Result Word ScriptKind
+in_form forms.Page word = Ok word
+in_form forms.Edits first.Edit = Ok first.Edit
+in_form forms.Edits first.Remove = Ok first.Remove
+in_form forms.Edits other = Err UnknownWord
+
 -- what the words of a line say
-abbrev pub said : List (List ℕ) → Result Said ScriptKind
-said [] = Err UnknownWord
-said (word ∷ arguments) = known_word word >>= λ w. command w arguments
+abbrev pub said_in : Form → List (List ℕ) → Result Said ScriptKind
+said_in form [] = Err UnknownWord
+said_in form (word ∷ arguments) = known_word word >>= λ k. in_form form k >>= λ w. command w arguments
 
 -- what a line that LF ends says: nothing and `#` say nothing, `|` is a line of text
-abbrev pub whole_line : List ℕ → Result Said ScriptKind
-whole_line [] = Ok says.Nothing
-whole_line (b ∷ bs) =
+abbrev pub whole_line_in : Form → List ℕ → Result Said ScriptKind
+whole_line_in form [] = Ok says.Nothing
+whole_line_in form (b ∷ bs) =
     if b == 35 then Ok says.Nothing
     else if b == 124 then Ok says.Text
-    else said (words (b ∷ bs))
+    else said_in form (words (b ∷ bs))
 
 -- what a line says, or its first fault by itself
-abbrev pub line_said : List ℕ → Bool → Result Said ScriptKind
-line_said line ended =
+abbrev pub line_said_in : Form → List ℕ → Bool → Result Said ScriptKind
+line_said_in form line ended =
     if not (is_utf8 line) then Err NotUtf8
     else if nat_lt SCRIPT_LINE_BYTES (length line) then Err LineTooLong
-    else if ended then whole_line line
+    else if ended then whole_line_in form line
     else Err CutLine
 
--- the script before its first line
-abbrev pub beginning : Draft
-beginning = record { roots = []; began = false; in_edit = false }
+-- the same in the script of a page
+abbrev pub said : List (List ℕ) → Result Said ScriptKind
+said = said_in forms.Page
+
+abbrev pub whole_line : List ℕ → Result Said ScriptKind
+whole_line = whole_line_in forms.Page
+
+abbrev pub line_said : List ℕ → Bool → Result Said ScriptKind
+line_said = line_said_in forms.Page
+
+-- a script before its first line
+abbrev pub beginning : Form → Draft
+beginning form = record { form = form; roots = []; began = false; in_edit = false }
 
 -- whether there is nothing
 abbrev pub is_empty : {X : Type 0} → List X → Bool
@@ -205,9 +224,13 @@ is_empty (x ∷ xs) = false
 abbrev pub may_be_root : Draft → List ℕ → Bool
 may_be_root draft name = not draft.began && nat_lt (length draft.roots) ROOTS && not (list_any (λ root. is_text root name) draft.roots)
 
--- a command may come where a root came
+-- a command may come where a root came; in edits, everywhere
+abbrev pub asks_a_root : Form → Bool
+asks_a_root forms.Page = true
+asks_a_root forms.Edits = false
+
 abbrev pub may_be_command : Draft → Bool
-may_be_command draft = not (is_empty draft.roots)
+may_be_command draft = not (asks_a_root draft.form && is_empty draft.roots)
 
 -- what may come here
 abbrev pub allowed : Bool → Draft → Result Draft ScriptKind
@@ -229,7 +252,7 @@ placed draft (says.Command command) = allowed (may_be_command draft) (record dra
 
 -- the script so far after a line, or the line's first fault
 abbrev pub line_read : Draft → List ℕ → Bool → Result Draft ScriptKind
-line_read draft line ended = line_said line ended >>= placed draft
+line_read draft line ended = line_said_in draft.form line ended >>= placed draft
 
 -- what the line of this number says, or its fault in the script
 abbrev pub numbered : {X : Type 0} → ℕ → Result X ScriptKind → Result X ScriptFault
@@ -286,7 +309,7 @@ finished ls draft = record { roots = draft.roots; lines = commands ls }
 
 -- the script that bytes say, or their first fault
 abbrev pub script_of : List ℕ → Result Contents ScriptFault
-script_of text = checked beginning 1 (lines_from [] text) >>= λ draft. Ok (finished (lines_from [] text) draft)
+script_of text = checked (beginning forms.Page) 1 (lines_from [] text) >>= λ draft. Ok (finished (lines_from [] text) draft)
 
 -- the fault of a script whose line of this number is refused
 abbrev pub fault_at : ℕ → Refusal → ScriptFault

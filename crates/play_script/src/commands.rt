@@ -6,6 +6,7 @@ ghost use Rattle.play_script.specs.Asked.{HasFormat, IsNext};
 
 use crate::fault::Refusal;
 use crate::first_line::first_line;
+use crate::form::Form;
 use crate::script_line::ScriptLine;
 use crate::words::{Said, read_whole_line};
 use hmr_types::Sequence;
@@ -30,9 +31,9 @@ impl<'a> Model for Commands<'a> {
 
 /// A command, and the text below its line.
 #[derive(Drop)]
-struct Found<'a> {
-    command: ScriptLine,
-    below: &'a [u8],
+pub(crate) struct Found<'a> {
+    pub(crate) command: ScriptLine,
+    pub(crate) below: &'a [u8],
 }
 
 impl<'a> Commands<'a> {
@@ -64,7 +65,8 @@ impl<'a> Commands<'a> {
     }
 }
 
-fn next_command(alloc: Global, text: &[u8]) -> Result<Option<Found<'_>>, AllocError>
+/// The first command of a text, where there is one.
+pub(crate) fn next_command(alloc: Global, text: &[u8]) -> Result<Option<Found<'_>>, AllocError>
     ensures { IfOk result (λ found. MatchOption found (commands (lines_from [] text.now) ≡ []) (λ f. commands (lines_from [] text.now) ≡ f.command ∷ commands (lines_from [] f.below.now))) }
 {
     let mut left = text;
@@ -84,7 +86,7 @@ fn next_command(alloc: Global, text: &[u8]) -> Result<Option<Found<'_>>, AllocEr
 fn command_of(alloc: Global, line: &[u8], below: &[u8]) -> Result<Option<ScriptLine>, AllocError>
     ensures { IfOk result (λ command. command ≡ command_of (whole_line line.now) (lines_from [] below.now)) }
 {
-    match read_whole_line(alloc, line) {
+    match read_whole_line(alloc, Form::Page, line) {
         Ok(Said::Edit(name)) => {
             let text = text_below(alloc, below)?;
             Ok(Some(ScriptLine::Edit(name, text)))

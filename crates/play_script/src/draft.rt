@@ -4,9 +4,10 @@ ghost use Rattle.std.specs.Prelude.{true, false, ◌≡◌, ◌++◌, [], ◌∷
 ghost use Rattle.hmr_types.specs.declared.limits.TheConstants.{ROOTS};
 ghost use Rattle.std.specs.List.{list_any};
 ghost use Rattle.hmr_types.specs.ModName.{is_text};
-ghost use Rattle.play_script.specs.Script.{Gives, beginning, below_edit, placed, may_be_root, may_be_command, allowed, is_empty};
+ghost use Rattle.play_script.specs.Script.{Gives, beginning, below_edit, placed, asks_a_root, may_be_root, may_be_command, allowed, is_empty};
 
 use crate::fault::{Refusal, ScriptKind};
+use crate::form::Form;
 use crate::words::Said;
 use hmr_types::limits::ROOTS;
 use hmr_types::{ModName, Sequence};
@@ -15,6 +16,8 @@ use std::alloc::Global;
 /// A script so far.
 #[derive(Drop)]
 pub struct Draft {
+    /// Which commands the script has.
+    pub form: Form,
     /// The roots.
     pub roots: Sequence<ModName>,
     /// Whether a command came.
@@ -25,10 +28,11 @@ pub struct Draft {
 
 impl Draft {
     /// The script before its first line. It takes no memory.
-    pub fn new(alloc: Global) -> Draft
-        ensures { result ≡ beginning }
+    pub fn new(alloc: Global, form: Form) -> Draft
+        ensures { result ≡ beginning form }
     {
         Draft {
+            form,
             roots: Sequence::new(alloc),
             began: false,
             in_edit: false,
@@ -51,8 +55,14 @@ impl Draft {
     fn behind_nothing(self) -> Draft
         ensures { result ≡ record self { in_edit = false } }
     {
-        let Draft { roots, began, .. } = self;
+        let Draft {
+            form,
+            roots,
+            began,
+            ..
+        } = self;
         Draft {
+            form,
             roots,
             began,
             in_edit: false,
@@ -74,10 +84,16 @@ impl Draft {
         if !may_be_root(self.roots.as_slice(), self.began, &name) {
             return Err(Refusal::Fault(ScriptKind::RootPlace));
         }
-        let Draft { roots, began, .. } = self;
+        let Draft {
+            form,
+            roots,
+            began,
+            ..
+        } = self;
         let mut names = roots.into_vec();
         names.push(name)?;
         Ok(Draft {
+            form,
             roots: Sequence::from_vec(names),
             began,
             in_edit: false,
@@ -87,15 +103,25 @@ impl Draft {
     fn behind_command(self, is_edit: bool) -> Result<Draft, Refusal>
         ensures { Gives (λ d. d) result (allowed (may_be_command self) (record self { began = true; in_edit = is_edit })) }
     {
-        if self.roots.as_slice().is_empty() {
+        if asks_a_root(self.form) && self.roots.as_slice().is_empty() {
             return Err(Refusal::Fault(ScriptKind::RootPlace));
         }
-        let Draft { roots, .. } = self;
+        let Draft { form, roots, .. } = self;
         Ok(Draft {
+            form,
             roots,
             began: true,
             in_edit: is_edit,
         })
+    }
+}
+
+fn asks_a_root(form: Form) -> bool
+    ensures { result ≡ asks_a_root form }
+{
+    match form {
+        Form::Page => true,
+        Form::Edits => false,
     }
 }
 

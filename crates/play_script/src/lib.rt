@@ -2,15 +2,18 @@
 //!
 //! Stands on the vocabulary. Keeps: [`read_script`] is the definition `script_of`, the first fault of
 //! bytes that are no script included, and a [`Script`] keeps its text and no command: the commands are
-//! read from the text, one by one, as [`Commands::next`] is asked for them. Knows nothing of worlds,
+//! read from the text, one by one, as [`Commands::next`] is asked for them. [`read_edits`] and [`Edits`]
+//! are the same for scripts that have edits and removals alone. Knows nothing of worlds,
 //! clients or versions, and nothing of what a command writes.
 #![tactic(auto)]
 
 mod arguments;
 mod commands;
 mod draft;
+mod edits;
 mod fault;
 mod first_line;
+mod form;
 mod reader;
 mod script;
 mod script_line;
@@ -18,8 +21,9 @@ mod spelling;
 mod words;
 
 pub use commands::Commands;
+pub use edits::{Edit, Edits};
 pub use fault::{ScriptFault, ScriptKind, script_word};
-pub use reader::read_script;
+pub use reader::{read_edits, read_script};
 pub use script::Script;
 pub use script_line::ScriptLine;
 pub use spelling::spelling_is_read;

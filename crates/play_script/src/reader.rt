@@ -1,12 +1,15 @@
-// Reads a script. Its lines are gone over once: each is checked by itself and against those before it,
+// Reads a script of either form. Its lines are gone over once: each is checked by itself and against those before it,
 // and the first that is refused is the answer of all. Only the roots are kept.
 ghost use Rattle.std.specs.Prelude.{◌≡◌, ◌≤◌, ◌↔◌, [], length, IsTrue};
 ghost use Rattle.std.specs.Str.{is_utf8, IsUtf8};
-ghost use Rattle.play_script.specs.Script.{Gives, IsReading, beginning, checked, line_read, line_said, lines_from, numbered, script_of};
+ghost use Rattle.play_script.specs.Script.{Gives, IsReading, beginning, checked, line_read, line_said_in, lines_from, numbered, script_of};
+ghost use Rattle.play_script.specs.Edits.{edits_of};
 
 use crate::draft::Draft;
+use crate::edits::Edits;
 use crate::fault::{Refusal, ScriptFault, ScriptKind};
 use crate::first_line::first_line;
+use crate::form::Form;
 use crate::script::Script;
 use crate::words::{Said, read_whole_line};
 use hmr_types::limits::SCRIPT_LINE_BYTES;
@@ -21,17 +24,30 @@ pub fn read_script(alloc: Global, text: &[u8]) -> Result<Script<'_>, ScriptFault
     requires { length text.now ≤ 4294967295 }
     ensures { IsReading result (script_of text.now) }
 {
-    match check_lines(alloc, text) {
+    match check_lines(alloc, Form::Page, text) {
         Ok(draft) => Ok(Script::new(draft.roots, text)),
         Err(fault) => Err(fault),
     }
 }
 
-fn check_lines(alloc: Global, text: &[u8]) -> Result<Draft, ScriptFault>
+/// The edits that the bytes say, at most 4,294,967,295 of them: the lines of a script that has no command
+/// but `edit` and `remove`, and needs no root.
+///
+/// A refusal is as of [`read_script`], where every other command is an unknown word. The time is linear in
+/// the bytes. The memory is, meanwhile, that of the words and the name of one line: no edit is kept.
+pub fn read_edits(alloc: Global, text: &[u8]) -> Result<Edits<'_>, ScriptFault>
     requires { length text.now ≤ 4294967295 }
-    ensures { IsReading result (checked beginning 1 (lines_from [] text.now)) }
+    ensures { IsReading result (edits_of text.now) }
 {
-    let mut draft = Draft::new(alloc);
+    check_lines(alloc, Form::Edits, text)?;
+    Ok(Edits::of(text))
+}
+
+fn check_lines(alloc: Global, form: Form, text: &[u8]) -> Result<Draft, ScriptFault>
+    requires { length text.now ≤ 4294967295 }
+    ensures { IsReading result (checked (beginning form) 1 (lines_from [] text.now)) }
+{
+    let mut draft = Draft::new(alloc, form);
     let mut passed: u32 = 0;
     let mut left = text;
     while let Some(first) = first_line(left) {
@@ -60,12 +76,12 @@ fn read_numbered(
 fn read_line(alloc: Global, draft: Draft, line: &[u8], ended: bool) -> Result<Draft, Refusal>
     ensures { Gives (λ d. d) result (line_read draft line.now ended) }
 {
-    let said = line_said(alloc, line, ended)?;
+    let said = line_said(alloc, draft.form, line, ended)?;
     draft.placed(said)
 }
 
-fn line_said(alloc: Global, line: &[u8], ended: bool) -> Result<Said, Refusal>
-    ensures { Gives (λ s. s) result (line_said line.now ended) }
+fn line_said(alloc: Global, form: Form, line: &[u8], ended: bool) -> Result<Said, Refusal>
+    ensures { Gives (λ s. s) result (line_said_in form line.now ended) }
 {
     if !is_utf8(line) {
         return Err(Refusal::Fault(ScriptKind::NotUtf8));
@@ -76,7 +92,7 @@ fn line_said(alloc: Global, line: &[u8], ended: bool) -> Result<Said, Refusal>
     if !ended {
         return Err(Refusal::Fault(ScriptKind::CutLine));
     }
-    read_whole_line(alloc, line)
+    read_whole_line(alloc, form, line)
 }
 
 fn is_utf8(line: &[u8]) -> bool

@@ -1,10 +1,11 @@
 // What one line says: nothing, text, or by its words a root, the beginning of an edit, or a command.
 ghost use Rattle.std.specs.Prelude.{◌≡◌, IfOk, map};
 ghost use Rattle.hmr_types.specs.ModName.{is_text};
-ghost use Rattle.play_script.specs.Script.{Gives, whole_line, words, said, command, known_word, no_word, one_name, one_client, opening, settle, turns, fresh};
+ghost use Rattle.play_script.specs.Script.{Gives, whole_line_in, words, said_in, in_form, command, known_word, no_word, one_name, one_client, opening, settle, turns, fresh};
 
 use crate::arguments::{only_word, read_count, read_name, read_names, read_version};
 use crate::fault::{Refusal, ScriptKind};
+use crate::form::Form;
 use crate::script_line::ScriptLine;
 use hmr_types::{ClientId, ModName};
 use std::alloc::{AllocError, Global};
@@ -57,24 +58,25 @@ pub enum Said {
     Command(ScriptLine),
 }
 
-/// What a line that LF ends says.
-pub fn read_whole_line(alloc: Global, line: &[u8]) -> Result<Said, Refusal>
-    ensures { Gives (λ s. s) result (whole_line line.now) }
+/// What a line that LF ends says in a script of this form.
+pub fn read_whole_line(alloc: Global, form: Form, line: &[u8]) -> Result<Said, Refusal>
+    ensures { Gives (λ s. s) result (whole_line_in form line.now) }
 {
     match line {
         [] | [b'#', ..] => Ok(Said::Nothing),
         [b'|', ..] => Ok(Said::Text),
-        _ => read_words(alloc, line),
+        _ => read_words(alloc, form, line),
     }
 }
 
-fn read_words(alloc: Global, line: &[u8]) -> Result<Said, Refusal>
-    ensures { Gives (λ s. s) result (said (words line.now)) }
+fn read_words(alloc: Global, form: Form, line: &[u8]) -> Result<Said, Refusal>
+    ensures { Gives (λ s. s) result (said_in form (words line.now)) }
 {
     let words = words_of(alloc, line)?;
     match words.as_slice() {
         [word, arguments @ ..] => {
-            let word = known_word(word)?;
+            let known = known_word(word)?;
+            let word = in_form(form, known)?;
             read_command(alloc, word, arguments)
         }
         [] => Err(Refusal::Fault(ScriptKind::UnknownWord)),
@@ -224,6 +226,17 @@ fn known_word(word: &[u8]) -> Result<Word, Refusal>
         return Ok(Word::Fresh);
     }
     Err(Refusal::Fault(ScriptKind::UnknownWord))
+}
+
+/// The word, where this form of script has it.
+fn in_form(form: Form, word: Word) -> Result<Word, Refusal>
+    ensures { Gives (λ w. w) result (in_form form word) }
+{
+    match (form, word) {
+        (Form::Page, word) => Ok(word),
+        (Form::Edits, Word::Edit | Word::Remove) => Ok(word),
+        (Form::Edits, _) => Err(Refusal::Fault(ScriptKind::UnknownWord)),
+    }
 }
 
 fn is_text(word: &[u8], text: &[u8]) -> bool

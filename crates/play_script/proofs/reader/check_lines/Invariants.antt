@@ -5,7 +5,7 @@ use Rattle.play_script.proofs.reader.check_lines.Given as goal
 -- what is left goes on to what stands after the whole text; each line that was passed has a byte
 abbrev pub invariant-loop-first : goal.invariant-loop-first
 invariant-loop-first l = record {
-  same : checked l.draft (l.passed + 1) (lines_from [] l.left) ≡ checked beginning 1 (lines_from [] l.text);
+  same : checked l.draft (l.passed + 1) (lines_from [] l.left) ≡ checked (beginning l.fn.form) 1 (lines_from [] l.text);
   few : l.passed + length l.left ≤ length l.text;
 }
 
