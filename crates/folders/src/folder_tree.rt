@@ -36,7 +36,8 @@ pub struct FolderFile {
 /// aren't UTF-8, and what is neither file nor folder, are left out.
 ///
 /// Each `open` but the first waits until a look at the folders that were listed since the `open` before it
-/// shows a name, a length or a time of change that wasn't listed, and for at most a minute.
+/// shows a name, a length or a time of change that wasn't listed, and for at most a minute. It doesn't wait
+/// where none was listed, as after a refused `open`.
 #[derive(Drop)]
 pub struct FolderTree<R: Drop> {
     rt: R,
@@ -120,7 +121,12 @@ impl<R: Files + AllocGlobal + Wait + Clone + Drop> FolderTree<R> {
         }
     }
 
+    // Whether what was listed is no more what a look shows. Where nothing was listed, there is nothing to wait
+    // for.
     fn has_changed(&self, alloc: Global) -> bool {
+        if self.seen.is_empty() {
+            return true;
+        }
         for seen in &self.seen {
             match look(&self.rt, alloc, &seen.path) {
                 Ok(marks) if marks == seen.marks => {}

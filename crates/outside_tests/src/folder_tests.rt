@@ -6,7 +6,7 @@ use std::collections::VecDeque;
 use std::test::Fail;
 use std::{fs, thread};
 
-fn files(alloc: Global, rows: &[(&str, &str)]) -> Result<Vec<MemFile>, AllocError> {
+pub(crate) fn files(alloc: Global, rows: &[(&str, &str)]) -> Result<Vec<MemFile>, AllocError> {
     let mut files = Vec::new(alloc);
     for (path, text) in rows {
         files.push(MemFile {
@@ -17,7 +17,7 @@ fn files(alloc: Global, rows: &[(&str, &str)]) -> Result<Vec<MemFile>, AllocErro
     Ok(files)
 }
 
-fn are(lines: &[String], rows: &[&str]) -> bool {
+pub(crate) fn are(lines: &[String], rows: &[&str]) -> bool {
     lines.len() == rows.len()
         && lines
             .iter()
