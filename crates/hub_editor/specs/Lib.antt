@@ -1,0 +1,5 @@
+pub mod Edits
+pub mod Results
+pub mod Openings
+pub mod Causes
+pub mod Editing
