@@ -1,0 +1,67 @@
+-- What a client's message is to a desk, and the message that a reply is.
+use Rattle.std.specs.Prelude.{ℕ, Bool, true, false, Option, Some, None, if◌then◌else◌, ⊤}
+use Prim.{⊥}
+use Rattle.update_msgs.specs.declared.message.ClientMsg.{ClientMsg}
+use Rattle.update_msgs.specs.declared.message.ClientMsg.TheVariants as told
+use Rattle.update_msgs.specs.declared.message.ServerMsg.{ServerMsg}
+use Rattle.update_msgs.specs.declared.message.ServerMsg.TheVariants as msg
+use Rattle.core_model.specs.Exchange.{refusal_message}
+use Rattle.server_core.specs.declared.event.Reply.{Reply}
+use Rattle.server_core.specs.declared.event.Reply.TheVariants as replies
+
+-- a client's first message
+abbrev pub is_hello : ClientMsg → Bool
+is_hello (told.Hello format roots) = true
+is_hello told.Ask = false
+is_hello (told.Fetch n) = false
+is_hello (told.Applied table) = false
+is_hello (told.Aborted cause n from x) = false
+is_hello (told.Invalidate n v message) = false
+is_hello told.Bye = false
+
+-- a client's last message
+abbrev pub is_bye : ClientMsg → Bool
+is_bye (told.Hello format roots) = false
+is_bye told.Ask = false
+is_bye (told.Fetch n) = false
+is_bye (told.Applied table) = false
+is_bye (told.Aborted cause n from x) = false
+is_bye (told.Invalidate n v message) = false
+is_bye told.Bye = true
+
+-- the client that an answer gives; else the one before
+abbrev pub connected_or : ℕ → ServerMsg → ℕ
+connected_or client (msg.Connected i roots) = i
+connected_or client (msg.Update replaced updates batch triggered) = client
+connected_or client (msg.Prune paths) = client
+connected_or client (msg.FullReload cause path batch triggered) = client
+connected_or client (msg.Error n row column word) = client
+connected_or client (msg.Broken n row column word) = client
+connected_or client msg.Idle = client
+connected_or client msg.Done = client
+connected_or client (msg.Text n v t) = client
+connected_or client (msg.Missing n) = client
+connected_or client (msg.NotYet n) = client
+connected_or client (msg.Refused code n told kept) = client
+
+-- the client of a desk after an answer, 0 for none; after the last message there is none
+abbrev pub client_after : ℕ → Bool → ServerMsg → ℕ
+client_after client bye answer = if bye then 0 else connected_or client answer
+
+-- the reply is one to a client
+abbrev pub IsForClient : Reply → Type 0
+IsForClient (replies.Edited outcome) = ⊥
+IsForClient (replies.EditRefused refusal) = ⊥
+IsForClient (replies.Settled settled) = ⊥
+IsForClient (replies.To message) = ⊤
+IsForClient (replies.Refused refusal) = ⊤
+IsForClient replies.Gone = ⊤
+
+-- the message that a reply to a client is
+abbrev pub message_in : Reply → Option ServerMsg
+message_in (replies.Edited outcome) = None
+message_in (replies.EditRefused refusal) = None
+message_in (replies.Settled settled) = None
+message_in (replies.To message) = Some message
+message_in (replies.Refused refusal) = Some (refusal_message refusal)
+message_in replies.Gone = Some msg.Done

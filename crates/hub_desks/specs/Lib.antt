@@ -1,0 +1,5 @@
+pub mod Fullness
+pub mod Exchange
+pub mod Telling
+pub mod Desks
+pub mod Boards
