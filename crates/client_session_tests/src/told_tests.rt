@@ -1,4 +1,8 @@
 // What a client sends for what it is told, and the lines of what it took.
+use crate::messages::{
+    ABORTED, APPLIED, ASK, BAD_TEXT, BYE, CONNECTED, DONE, FETCH, HELLO, IDLE, TEXT, UNKNOWN,
+    coming,
+};
 use client_sessions::{Ended, client_session};
 use const_eval::Ran;
 use handler_table::{Shelf, host_run};
@@ -13,50 +17,12 @@ use std::collections::VecDeque;
 use std::sync::Wait;
 use std::test::Fail;
 
-const CONNECTED: &str = "{\"client\":1,\"roots\":[\"/m.js\"],\"type\":\"connected\"}";
-
-const TEXT: &str =
-    "{\"path\":\"/m.js\",\"text\":\"export let n = 1;\\n\",\"type\":\"text\",\"version\":1}";
-
-const BAD_TEXT: &str =
-    "{\"path\":\"/m.js\",\"text\":\"export let = 1;\\n\",\"type\":\"text\",\"version\":1}";
-
-const DONE: &str = "{\"type\":\"done\"}";
-
-const IDLE: &str = "{\"type\":\"idle\"}";
-
-const UNKNOWN: &str = "{\"type\":\"news\"}";
-
-const HELLO: &str = "{\"format\":2,\"type\":\"hello\"}";
-
-const FETCH: &str = "{\"path\":\"/m.js\",\"type\":\"fetch\"}";
-
-const APPLIED: &str = "{\"table\":[[\"/m.js\",1]],\"type\":\"applied\"}";
-
-const ABORTED: &str =
-    "{\"cause\":\"broken\",\"from\":null,\"name\":null,\"path\":\"/m.js\",\"type\":\"aborted\"}";
-
-const ASK: &str = "{\"type\":\"ask\"}";
-
-const BYE: &str = "{\"type\":\"bye\"}";
-
 /// A session that is over.
 #[derive(Drop)]
 struct Over<R: Drop> {
     ended: Ended,
     lines: String,
     link: MemLink<R>,
-}
-
-fn coming(alloc: Global, messages: &[&str]) -> Result<VecDeque<Vec<u8>>, AllocError> {
-    let mut coming = VecDeque::new(alloc);
-    for message in messages {
-        let bytes = Vec::from_slice(alloc, message.as_bytes())?;
-        if coming.push_back(bytes).is_err() {
-            return Err(AllocError);
-        }
-    }
-    Ok(coming)
 }
 
 fn text_of(alloc: Global, lines: &[OutLine]) -> Result<String, AllocError> {

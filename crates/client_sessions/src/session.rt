@@ -89,8 +89,12 @@ fn talk<L: Link, F: FnOnce(Bag) -> Result<Ran, AllocError> + Drop>(
     bye(alloc, link, runtime.format())
 }
 
-// One request, and what the runtime does at its answer.
-fn turn<L: Link, F: FnOnce(Bag) -> Result<Ran, AllocError> + Drop>(
+/// One request of a runtime over an open link, and what the runtime does at its answer. The lines of that
+/// are put behind those before.
+///
+/// Where it can't be had the session has ended, in one of the ways of [`client_session`] other than by an
+/// answered bye; then no line came of it. It waits.
+pub fn turn<L: Link, F: FnOnce(Bag) -> Result<Ran, AllocError> + Drop>(
     alloc: Global,
     link: &mut L,
     runtime: &mut HotRuntime<F>,
@@ -121,8 +125,8 @@ fn turn<L: Link, F: FnOnce(Bag) -> Result<Ran, AllocError> + Drop>(
     Ok(())
 }
 
-// The bye, which any answer ends.
-fn bye<L: Link>(alloc: Global, link: &mut L, format: u8) -> Ended
+/// The bye over an open link, which any answer ends. The answer is read in this format, 1 or 2. It waits.
+pub fn bye<L: Link>(alloc: Global, link: &mut L, format: u8) -> Ended
     requires is_open { L.phase link.old ≡ Phase.Open }
     requires format { IsFormat format }
     ensures ends { Ends format Bye takes_bye

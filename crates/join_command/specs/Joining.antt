@@ -1,0 +1,101 @@
+-- What a client's command writes, and how it ends.
+use Rattle.std.specs.Prelude.{◌≡◌, ◌⊎◌, ◌≤◌, ◌+◌, ℕ, List, [], length, Option, Result, Ok, Err, ⊤}
+use Prim.{⊥}
+use Rattle.std.specs.List.{AllZip, flat_map}
+use Rattle.std.specs.Io.KnownBytes.{Appends}
+use Rattle.hmr_base.specs.Fronts.{WritesFront}
+use Rattle.outside_calls.specs.declared.out_fault.OutFault.{OutFault}
+use Rattle.outside_calls.specs.declared.out_fault.OutFault.TheVariants as faults
+use Rattle.output_lines.specs.declared.out_line.OutLine.{OutLine}
+use Rattle.play_text.specs.Lines.{line_text}
+use Rattle.update_msgs.specs.declared.message.ServerMsg.{ServerMsg}
+use Rattle.links.specs.Told.{told_front}
+use Rattle.client_model.specs.Runtime.{Opening}
+use Rattle.sessions.specs.declared.ended.Ended.{Ended}
+use Rattle.sessions.specs.declared.ended.Ended.TheVariants as ends
+use Rattle.client_sessions.specs.Asking.{lines_of}
+use Rattle.client_sessions.specs.Course.{ClientCourse}
+use Rattle.client_sessions.specs.Exchange.{ReadsIn}
+use Rattle.join_command.specs.declared.stop.JoinStop.{JoinStop}
+use Rattle.join_command.specs.declared.stop.JoinStop.TheVariants.{Unwritten, NetFailed, InstancesFull, BadAnswer, NoMemory}
+
+-- what is told of a list of messages, or of bytes
+abbrev pub Words : Type 0
+Words = Option (List (List ℕ))
+
+abbrev pub Bytes : Type 0
+Bytes = Option (List ℕ)
+
+-- the bytes of lines
+abbrev pub lines_text : List OutLine → List ℕ
+lines_text lines = flat_map line_text lines
+
+-- the stop at a fault of the net
+abbrev pub stop_at : OutFault → JoinStop
+stop_at faults.Failed = NetFailed
+stop_at faults.NoMemory = NoMemory
+
+-- how the command ends where the session ended so
+abbrev pub ends_as : Ended → Result ⊤ JoinStop
+ends_as ends.Closed = Ok tt
+ends_as ends.LinkFault = Err NetFailed
+ends_as (ends.BadMessage fault) = Err BadAnswer
+ends_as ends.Stopped = Err NoMemory
+ends_as ends.NoMemory = Err NoMemory
+ends_as (ends.Unexpected wanted got) = Err BadAnswer
+ends_as ends.InstancesFull = Err InstancesFull
+
+-- writing stops only at the output or for want of memory
+abbrev pub IsWriteStop : JoinStop → Type 0
+IsWriteStop Unwritten = ⊤
+IsWriteStop NetFailed = ⊥
+IsWriteStop InstancesFull = ⊥
+IsWriteStop BadAnswer = ⊥
+IsWriteStop NoMemory = ⊤
+
+-- the session came to its end, and all its lines are written
+pub record RunsOut (opening : Opening) (turns format : ℕ) (left left' sent sent' : Words) (old new : Bytes)
+    (result : Result ⊤ JoinStop) : Type 0 where
+  pub lines : List OutLine
+  pub ended : Ended
+  pub course : ClientCourse opening turns format left left' sent sent' lines ended
+  pub written : Appends old new (lines_text lines)
+  pub result_is : result ≡ ends_as ended
+
+-- writing stopped behind these answers, and a front of their lines is written
+pub record IsCutShort (opening : Opening) (turns format : ℕ) (left left' : Words) (old new : Bytes)
+    (result : Result ⊤ JoinStop) : Type 0 where
+  pub takes : List (List ℕ)
+  pub answers : List ServerMsg
+  pub left_is : left ≡ told_front takes left'
+  pub reads : AllZip (ReadsIn format) takes answers
+  pub few : length answers ≤ turns + 1
+  pub written : WritesFront old new (lines_text (lines_of opening [] answers))
+  pub stop : JoinStop
+  pub stops : IsWriteStop stop
+  pub result_is : result ≡ Err stop
+
+-- the one or the other
+abbrev pub Joins : Opening → ℕ → ℕ → Words → Words → Words → Words → Bytes → Bytes → Result ⊤ JoinStop → Type 0
+Joins opening turns format left left' sent sent' old new result =
+    RunsOut opening turns format left left' sent sent' old new result
+    ⊎ IsCutShort opening turns format left left' old new result
+
+-- no end was given, and nothing is written
+pub record IsUnconnected (old new : Bytes) (result : Result ⊤ JoinStop) : Type 0 where
+  pub fault : OutFault
+  pub result_is : result ≡ Err (stop_at fault)
+  pub written : Appends old new []
+
+-- a session over an end
+pub record JoinsOver (opening : Opening) (turns : ℕ) (coming : Words) (old new : Bytes)
+    (result : Result ⊤ JoinStop) : Type 0 where
+  pub left : Words
+  pub before : Words
+  pub after : Words
+  pub joins : Joins opening turns opening.format coming left before after old new result
+
+-- a session over the end that comes next, where the net tells its messages; or there was no end
+abbrev pub JoinsAt : Opening → ℕ → Words → Bytes → Bytes → Result ⊤ JoinStop → Type 0
+JoinsAt opening turns coming old new result =
+    IsUnconnected old new result ⊎ JoinsOver opening turns coming old new result
