@@ -40,11 +40,8 @@ fn told(alloc: Global, text: &[u8]) -> Result<String, AllocError> {
 }
 
 /// A row's text, in which `~` stands for LF.
-fn text_of(alloc: Global, row: &str) -> Result<Vec<u8>, AllocError> {
-    row.as_bytes()
-        .iter()
-        .map(|b| if *b == b'~' { b'\n' } else { *b })
-        .collect(alloc)
+fn text_of(alloc: Global, row: &str) -> Result<String, AllocError> {
+    row.replace(alloc, "~", "\n")
 }
 
 /// What a text brings, and the text. The places were worked out by hand from the grammar's page.
@@ -135,7 +132,7 @@ fn texts_are_parsed_as_the_rows_say(rt: HostRuntime) -> Result<(), Fail> {
     for row in ROWS.lines() {
         if let Some((want, text)) = row.split_once('=') {
             let text = text_of(alloc, text)?;
-            let is = told(alloc, &text)?;
+            let is = told(alloc, text.as_bytes())?;
             assert_eq!(rt; is.as_str(), want);
             rows = rows.wrapping_add(1);
         }
@@ -204,15 +201,15 @@ import { b as c, a } from './x.js'; export let n = 1 + 2 * c;~if (import.meta.ho
 #[test]
 fn spellings_of_a_module_print_alike(rt: HostRuntime) -> Result<(), Fail> {
     let alloc = rt.alloc();
-    let mut canonical = Vec::new(alloc);
+    let mut canonical = String::new(alloc);
     let mut rows: u32 = 0;
     for row in SPELLINGS.split('|') {
         let text = text_of(alloc, row)?;
         if rows == 0 {
-            canonical.extend_from_slice(&text)?;
+            canonical.push_str(&text)?;
         }
-        let is = printed(alloc, &text)?;
-        assert!(rt; is == canonical);
+        let is = printed(alloc, text.as_bytes())?;
+        assert!(rt; is.as_slice() == canonical.as_bytes());
         rows = rows.wrapping_add(1);
     }
     assert_eq!(rt; rows, 10);
