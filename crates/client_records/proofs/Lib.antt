@@ -2,6 +2,7 @@ pub mod Noticing
 pub mod Changes
 pub mod Fetching
 pub mod Invalidating
+pub mod Aborting
 pub mod Rows
 pub mod Beginning
 pub mod Asking

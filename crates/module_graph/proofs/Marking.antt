@@ -14,14 +14,15 @@ use Rattle.std.proofs.lemmas.Option.{same_Some}
 use Rattle.indexmap.specs.IndexMap.{insert_entry}
 use Rattle.core_model.specs.Names.{Name, same_name, has, at, names_of, without_all}
 use Rattle.core_model.specs.Roots.{are_distinct}
-use Rattle.core_model.specs.View.{View, Entry, imports_of, imports}
+use Rattle.core_model.specs.View.{View, Entry, accepted_of, imports_of}
 use Rattle.core_model.proofs.Naming.{same_true, both_true, and_both}
 use Rattle.module_graph.specs.declared.view_rows.Row.{Row}
 use Rattle.module_graph.specs.Entries.{put_entry}
-use Rattle.module_graph.specs.Importers.{Sets, is_under, IsTurned, Places}
+use Rattle.module_graph.specs.ReverseIndex.{Sets, is_under, IsTurned, IsWithout, Leaves, Places}
 use Rattle.module_graph.specs.Rows.{Rows, view_of, are_staying, mark, mark_name, mark_names, AreIndexed}
 use Rattle.module_graph.proofs.Rows.{put_distinct, kept_distinct}
-use Rattle.module_graph.proofs.Turning.{has_take_more, turned_on}
+use Rattle.module_graph.proofs.Sets.{has_take_more}
+use Rattle.module_graph.proofs.Turning.{turned_on}
 
 -- Looking up.
 
@@ -65,12 +66,12 @@ pub put_at : (n : Name) (e : Entry) (rows : View) (m : Name) → at (put_entry n
 put_at n e [] m = refl
 put_at n e (row ∷ rows) m = put_at_step n e row rows m (same_name row.0 n) refl (put_at n e rows m)
 
-imports_step : (b : Bool) (e : Entry) (o : Option Entry) (n : Name) → has (imports_of (if b then Some e else o)) n ≡ (if b then has e.analysis.imports n else has (imports_of o) n)
-imports_step true e o n = refl
-imports_step false e o n = refl
+list_step : (list : Option Entry → List Name) (b : Bool) (e : Entry) (o : Option Entry) (n : Name) → has (list (if b then Some e else o)) n ≡ (if b then has (list (Some e)) n else has (list o) n)
+list_step list true e o n = refl
+list_step list false e o n = refl
 
-put_imports : (name : Name) (e : Entry) (view : View) (n m : Name) → imports (put_entry name e view) m n ≡ (if same_name name m then has e.analysis.imports n else imports view m n)
-put_imports name e view n m = ap (λ o. has (imports_of o) n) (put_at name e view m) ∙ imports_step (same_name name m) e (at view m) n
+put_lists : (list : Option Entry → List Name) (name : Name) (e : Entry) (view : View) (n m : Name) → has (list (at (put_entry name e view) m)) n ≡ (if same_name name m then has (list (Some e)) n else has (list (at view m)) n)
+put_lists list name e view n m = ap (λ o. has (list o) n) (put_at name e view m) ∙ list_step list (same_name name m) e (at view m) n
 
 insert_step : (n : Name) (r : Row) (row : Name × Row) (rows : Rows) (b c : Bool) → b ≡ c → (c ≡ true → row.0 ≡ n) → view_of (insert_entry same_name rows n r) ≡ put_entry n r.entry (view_of rows)
     → view_of (if b then (row.0, r) ∷ rows else row ∷ insert_entry same_name rows n r) ≡ (if c then (n, r.entry) ∷ view_of rows else (row.0, row.1.entry) ∷ put_entry n r.entry (view_of rows))
@@ -150,50 +151,74 @@ pub left_staying : (rows : Rows) → are_staying (filter (λ row. not row.1.leav
 left_staying [] = refl
 left_staying (row ∷ rows) = kept_stays row (filter (λ r. not r.1.leaving) rows) (not row.1.leaving) refl (left_staying rows)
 
--- The rows of a view and their importers.
+-- The rows of a view and its indexes.
 
-pub none_indexed : (rows : Rows) (sets : Sets) → rows ≡ [] → ((n m : Name) → is_under sets n m ≡ false) → AreIndexed rows sets
-none_indexed rows sets e h = subst (λ r. AreIndexed r sets) (sym e) (record { distinct = refl; staying = refl; turned = record { at = h } })
+pub none_indexed : (rows : Rows) (importers acceptors : Sets) → rows ≡ [] → ((n m : Name) → is_under importers n m ≡ false) → ((n m : Name) → is_under acceptors n m ≡ false) → AreIndexed rows importers acceptors
+none_indexed rows importers acceptors e h k = subst (λ r. AreIndexed r importers acceptors) (sym e) (record { distinct = refl; staying = refl; imports = record { is = h }; accepted = record { is = k } })
 
-pub same_indexed : (rows new : Rows) (sets : Sets) → new ≡ rows → AreIndexed rows sets → AreIndexed new sets
-same_indexed rows new sets e a = subst (λ r. AreIndexed r sets) (sym e) a
+pub same_indexed : (rows new : Rows) (importers acceptors : Sets) → new ≡ rows → AreIndexed rows importers acceptors → AreIndexed new importers acceptors
+same_indexed rows new importers acceptors e a = subst (λ r. AreIndexed r importers acceptors) (sym e) a
 
-pub copied_indexed : (rows new : Rows) (sets next : Sets) → new ≡ rows → ((n m : Name) → is_under next n m ≡ is_under sets n m) → AreIndexed rows sets → AreIndexed new next
-copied_indexed rows new sets next e h a = same_indexed rows new next e (record { distinct = a.distinct; staying = a.staying; turned = record { at = λ n m. h n m ∙ a.turned.at n m } })
-
-own_step : (name m : Name) (view : View) (n : Name) (b : Bool) → (b ≡ true → name ≡ m) → imports view m n ≡ (if b then has (imports_of (at view name)) n else imports view m n)
-own_step name m view n true f = ap (λ k. imports view k n) (sym (f refl))
-own_step name m view n false f = refl
-
--- the module still imports what it did
-pub refused_indexed : (name : Name) (rows new : Rows) (sets next : Sets) → new ≡ rows → Places name (has (imports_of (at (view_of rows) name))) sets next → AreIndexed rows sets → AreIndexed new next
-refused_indexed name rows new sets next e p a = same_indexed rows new next e (record {
+pub copied_indexed : (rows new : Rows) (importers acceptors importers_now acceptors_now : Sets) → new ≡ rows → ((n m : Name) → is_under importers_now n m ≡ is_under importers n m) → ((n m : Name) → is_under acceptors_now n m ≡ is_under acceptors n m)
+    → AreIndexed rows importers acceptors → AreIndexed new importers_now acceptors_now
+copied_indexed rows new importers acceptors importers_now acceptors_now e h k a = same_indexed rows new importers_now acceptors_now e (record {
   distinct = a.distinct;
   staying = a.staying;
-  turned = turned_on (view_of rows) (view_of rows) name (imports_of (at (view_of rows) name)) sets next a.turned p (λ n m. own_step name m (view_of rows) n (same_name name m) (same_true name m));
+  imports = record { is = λ n m. h n m ∙ a.imports.is n m };
+  accepted = record { is = λ n m. k n m ∙ a.accepted.is n m };
 })
 
--- it imports what its new entry says
-pub put_indexed : (name : Name) (r : Row) (rows new : Rows) (sets next : Sets) → not r.leaving ≡ true → new ≡ insert_entry same_name rows name r → Places name (has r.entry.analysis.imports) sets next → AreIndexed rows sets → AreIndexed new next
-put_indexed name r rows new sets next s e p a = same_indexed (insert_entry same_name rows name r) new next e (record {
+own_step : (list : Option Entry → List Name) (name m : Name) (view : View) (n : Name) (b : Bool) → (b ≡ true → name ≡ m) → has (list (at view m)) n ≡ (if b then has (list (at view name)) n else has (list (at view m)) n)
+own_step list name m view n true f = ap (λ k. has (list (at view k)) n) (sym (f refl))
+own_step list name m view n false f = refl
+
+-- the module still lists what it did
+refused_turned : (list : Option Entry → List Name) (name : Name) (view : View) (sets next : Sets) → IsTurned list view sets → Places name (has (list (at view name))) sets next → IsTurned list view next
+refused_turned list name view sets next t p = turned_on list view view name (list (at view name)) sets next t p (λ n m. own_step list name m view n (same_name name m) (same_true name m))
+
+pub refused_indexed : (name : Name) (rows new : Rows) (importers acceptors importers_now acceptors_now : Sets) → new ≡ rows
+    → Places name (has (imports_of (at (view_of rows) name))) importers importers_now → Places name (has (accepted_of (at (view_of rows) name))) acceptors acceptors_now
+    → AreIndexed rows importers acceptors → AreIndexed new importers_now acceptors_now
+refused_indexed name rows new importers acceptors importers_now acceptors_now e p q a = same_indexed rows new importers_now acceptors_now e (record {
+  distinct = a.distinct;
+  staying = a.staying;
+  imports = refused_turned imports_of name (view_of rows) importers importers_now a.imports p;
+  accepted = refused_turned accepted_of name (view_of rows) acceptors acceptors_now a.accepted q;
+})
+
+-- it lists what its new entry says
+put_turned : (list : Option Entry → List Name) (name : Name) (r : Row) (rows : Rows) (sets next : Sets) → IsTurned list (view_of rows) sets → Places name (has (list (Some r.entry))) sets next → IsTurned list (view_of (insert_entry same_name rows name r)) next
+put_turned list name r rows sets next t p = subst (λ (v : View). IsTurned list v next) (sym (inserted name r rows))
+    (turned_on list (view_of rows) (put_entry name r.entry (view_of rows)) name (list (Some r.entry)) sets next t p (put_lists list name r.entry (view_of rows)))
+
+pub put_indexed : (name : Name) (r : Row) (rows new : Rows) (importers acceptors importers_now acceptors_now : Sets) → not r.leaving ≡ true → new ≡ insert_entry same_name rows name r
+    → Places name (has r.entry.analysis.imports) importers importers_now → Places name (has r.entry.analysis.accepted) acceptors acceptors_now
+    → AreIndexed rows importers acceptors → AreIndexed new importers_now acceptors_now
+put_indexed name r rows new importers acceptors importers_now acceptors_now s e p q a = same_indexed (insert_entry same_name rows name r) new importers_now acceptors_now e (record {
   distinct = ap (λ (v : View). are_distinct (names_of v)) (inserted name r rows) ∙ put_distinct name r.entry (view_of rows) a.distinct;
   staying = insert_staying name r rows s a.staying;
-  turned = subst (λ (v : View). IsTurned v next) (sym (inserted name r rows)) (turned_on (view_of rows) (put_entry name r.entry (view_of rows)) name r.entry.analysis.imports sets next a.turned p (put_imports name r.entry (view_of rows)));
+  imports = put_turned imports_of name r rows importers importers_now a.imports p;
+  accepted = put_turned accepted_of name r rows acceptors acceptors_now a.accepted q;
 })
 
-gone_step : (b : Bool) (o : Option Entry) (n : Name) → has (imports_of (cond (not b) o None)) n ≡ (if b then false else has (imports_of o) n)
-gone_step true o n = refl
-gone_step false o n = refl
+gone_step : (list : Option Entry → List Name) → list None ≡ [] → (b : Bool) (o : Option Entry) (n : Name) → has (list (cond (not b) o None)) n ≡ (if b then false else has (list o) n)
+gone_step list e true o n = ap (λ l. has l n) e
+gone_step list e false o n = refl
 
 -- the modules of these names are gone
-pub gone_indexed : (names : List Name) (rows new : Rows) (sets next : Sets) → view_of new ≡ without_all names (view_of rows) → are_staying new ≡ true → ((n m : Name) → is_under next n m ≡ (if has names m then false else is_under sets n m)) → AreIndexed rows sets → AreIndexed new next
-gone_indexed names rows new sets next e s h a = record {
+gone_turned : (list : Option Entry → List Name) → list None ≡ [] → (names : List Name) (view next : View) (sets now : Sets) → next ≡ without_all names view → IsWithout names sets now → IsTurned list view sets → IsTurned list next now
+gone_turned list none names view next sets now e h t = subst (λ (v : View). IsTurned list v now) (sym e) (record {
+  is = λ n m. h.is n m ∙ ap (λ u. if has names m then false else u) (t.is n m)
+      ∙ sym (ap (λ o. has (list o) n) (at_without names view m) ∙ gone_step list none (has names m) (at view m) n);
+})
+
+pub gone_indexed : (names : List Name) (rows new : Rows) (importers acceptors importers_now acceptors_now : Sets) → view_of new ≡ without_all names (view_of rows) → are_staying new ≡ true
+    → IsWithout names importers importers_now → IsWithout names acceptors acceptors_now → AreIndexed rows importers acceptors → AreIndexed new importers_now acceptors_now
+gone_indexed names rows new importers acceptors importers_now acceptors_now e s h k a = record {
   distinct = ap (λ (v : View). are_distinct (names_of v)) e ∙ kept_distinct (λ (row : Name × Entry). not (has names row.0)) (view_of rows) a.distinct;
   staying = s;
-  turned = subst (λ (v : View). IsTurned v next) (sym e) (record {
-    at = λ n m. h n m ∙ ap (λ t. if has names m then false else t) (a.turned.at n m)
-        ∙ sym (ap (λ o. has (imports_of o) n) (at_without names (view_of rows) m) ∙ gone_step (has names m) (at (view_of rows) m) n);
-  });
+  imports = gone_turned imports_of refl names (view_of rows) (view_of new) importers importers_now e h a.imports;
+  accepted = gone_turned accepted_of refl names (view_of rows) (view_of new) acceptors acceptors_now e k a.accepted;
 }
 
 module_gone : (b u old : Bool) → u ≡ (if b then false else old) → (if old && true then false else u) ≡ false
@@ -206,14 +231,17 @@ gone_case : (x n m : Name) (old cur new : Sets) (h s : Bool) → (s ≡ true →
 gone_case x n m old cur new h true f e own was other = ap (is_under new n) (sym (f refl)) ∙ own
 gone_case x n m old cur new h false f e own was other = other e ∙ was
 
--- one name more of a list: its module goes from under all that it imports
-pub gone_more : (view : View) (xs : List Name) (i : ℕ) (d : Name) (old cur new : Sets) → IsTurned view old → i < length xs
-    → ((n m : Name) → is_under cur n m ≡ (if has (take i xs) m then false else is_under old n m))
-    → Places (get_or xs i d) (λ n. if has (imports_of (at view (get_or xs i d))) n && not (has [] n) then false else is_under cur n (get_or xs i d)) cur new
-    → (n m : Name) → is_under new n m ≡ (if has (take (i + 1) xs) m then false else is_under old n m)
-gone_more view xs i d old cur new t h was p n m =
-    let x = get_or xs i d in
-    gone_case x n m old cur new (has (take i xs) m) (same_name x m) (same_true x m) refl
-    (p.own n ∙ module_gone (has (take i xs) x) (is_under cur n x) (has (imports_of (at view x)) n) (was n x ∙ ap (λ u. if has (take i xs) x then false else u) (t.at n x)))
-    (was n m) (p.others n m)
-    ∙ ap (λ b. if b then false else is_under old n m) (sym (has_take_more xs i d m h))
+pub none_gone : (names : List Name) (sets : Sets) → IsWithout (take 0 names) sets sets
+none_gone names sets = record { is = λ n m. refl }
+
+-- one name more of a list: its module goes from under all that it lists
+pub gone_more : (list : Option Entry → List Name) (view : View) (xs : List Name) (i : ℕ) (d : Name) (old cur new : Sets) → IsTurned list view old → i < length xs → IsWithout (take i xs) old cur
+    → Leaves (get_or xs i d) (list (at view (get_or xs i d))) [] cur new → IsWithout (take (i + 1) xs) old new
+gone_more list view xs i d old cur new t h was p = record {
+  is = λ n m.
+      let x = get_or xs i d in
+      gone_case x n m old cur new (has (take i xs) m) (same_name x m) (same_true x m) refl
+      (p.own n ∙ module_gone (has (take i xs) x) (is_under cur n x) (has (list (at view x)) n) (was.is n x ∙ ap (λ u. if has (take i xs) x then false else u) (t.is n x)))
+      (was.is n m) (p.others n m)
+      ∙ ap (λ b. if b then false else is_under old n m) (sym (has_take_more xs i d m h));
+}

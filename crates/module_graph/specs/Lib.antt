@@ -1,4 +1,4 @@
 pub mod Entries
-pub mod Importers
+pub mod ReverseIndex
 pub mod Paths
 pub mod Rows

@@ -3,9 +3,9 @@ use Rattle.std.specs.Prelude.{◌≡◌, Bool, true, not, List, map, ◌||◌}
 use Rattle.std.specs.List.{list_all}
 use Rattle.core_model.specs.Names.{Name, has, names_of, same_name}
 use Rattle.core_model.specs.Roots.{are_distinct}
-use Rattle.core_model.specs.View.{View}
+use Rattle.core_model.specs.View.{View, accepted_of, imports_of}
 use Rattle.module_graph.specs.declared.view_rows.Row.{Row}
-use Rattle.module_graph.specs.Importers.{Sets, IsTurned}
+use Rattle.module_graph.specs.ReverseIndex.{Sets, IsTurned}
 
 abbrev pub Rows : Type 0
 Rows = List (Name × Row)
@@ -30,8 +30,10 @@ mark_name n rows = map (λ row. (row.0, mark (same_name n row.0) row.1)) rows
 abbrev pub mark_names : List Name → Rows → Rows
 mark_names names rows = map (λ row. (row.0, mark (has names row.0) row.1)) rows
 
--- no two rows have one name, none is about to leave, and the importers are the imports turned round
-pub record AreIndexed (rows : Rows) (sets : Sets) : Type 0 where
+-- no two rows have one name, none is about to leave, and the indexes are the imports and what is accepted
+-- by name, turned round
+pub record AreIndexed (rows : Rows) (importers acceptors : Sets) : Type 0 where
   pub distinct : are_distinct (names_of (view_of rows)) ≡ true
   pub staying : are_staying rows ≡ true
-  pub turned : IsTurned (view_of rows) sets
+  pub imports : IsTurned imports_of (view_of rows) importers
+  pub accepted : IsTurned accepted_of (view_of rows) acceptors

@@ -1,15 +1,16 @@
 //! The modules of a page, and what imports lead to.
 //!
-//! Stands on the vocabulary and on the definitions of the core. Keeps: a [`View`] has one entry for a
-//! name, in order of entering, and contracts see it as the list of its entries; beside them are the
-//! importers of each name, which are the imports turned round. Knows nothing of changes, of roots or of
-//! clients.
+//! Stands on the vocabulary and on the definitions of the core. Keeps: a [`View`] has one entry for a name, in
+//! order of entering, and contracts see it as the list of its entries; beside them are the importers and the
+//! acceptors of each name, which are what modules import and accept, turned round. Knows nothing of changes, of
+//! roots or of clients.
 #![tactic(auto)]
 
-mod importers;
+mod indexes;
 mod known;
 mod name_set;
 mod names;
+mod reverse_index;
 mod search;
 mod view;
 mod view_rows;

@@ -1,5 +1,6 @@
 // Sets of names, in which a name is looked up in the time of the logarithm of their number.
-ghost use Rattle.std.specs.Prelude.{◌≡◌, ◌<◌, ◌+◌, ◌^◌, ◌||◌, [], length, not, if◌then◌else◌, IfOk, OnErr, OnOk};
+ghost use Rattle.std.specs.Prelude.{◌≡◌, ◌<◌, ◌+◌, ◌^◌, ◌||◌, [], length, not, if◌then◌else◌};
+ghost use Rattle.std.specs.Prelude.{IfOk, OnErr, OnOk};
 ghost use Rattle.core_model.specs.Names.{Name, has, same_name};
 
 use hmr_types::ModName;

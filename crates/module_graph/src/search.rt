@@ -22,7 +22,8 @@ pub trait Edges {
 
     /// The names that the edges of this one lead to, in any order.
     fn next(&self, alloc: Global, name: &ModName) -> Result<Vec<ModName>, AllocError>
-        ensures exact { IfOk result (λ next. (m : Name) → Contains next.items m ↔ (edge self.now name.now m ≡ true)) }
+        ensures exact { IfOk result (λ next. (m : Name) →
+            Contains next.items m ↔ (edge self.now name.now m ≡ true)) }
         ensures over { IfOk result (λ _. IsOver (edge self.now) (names self.now)) };
 }
 
@@ -68,7 +69,8 @@ pub fn reached<G: Edges>(
     graph: &G,
     starts: &[ModName],
 ) -> Result<Vec<ModName>, AllocError>
-    ensures exact { IfOk result (λ names. (m : Name) → Contains names.items m ↔ Reaches (G.edge graph.now) starts.now m) }
+    ensures exact { IfOk result (λ names. (m : Name) →
+        Contains names.items m ↔ Reaches (G.edge graph.now) starts.now m) }
     ensures distinct { IfOk result (λ names. are_distinct names.items ≡ true) }
 {
     let mut known = Known::new(alloc);

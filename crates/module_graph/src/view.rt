@@ -1,19 +1,19 @@
-// The modules of a page: a map by name whose entries stay in order of entering, and beside it the
-// importers of each name. What changes an entry changes the importers with it: putting an entry takes
-// the memory for both first, so that a refusal leaves both as they were.
-ghost use Rattle.std.specs.Prelude.{◌≡◌, ◌↔◌, [], true, false, if◌then◌else◌, IfOk, OnOk, OnErr, Contains, option_map, slice_get};
+// The modules of a page: a map by name whose entries stay in order of entering, and beside it who imports
+// and who accepts each name. What changes an entry changes these indexes with it: putting an entry
+// takes the memory for all first, so that a refusal leaves all as they were.
+ghost use Rattle.std.specs.Prelude.{◌≡◌, ◌↔◌, [], true, IfOk, OnOk, OnErr, Contains, option_map, slice_get};
 ghost use Rattle.std.specs.Cmp.Lexicographic.{slice_cmp};
 ghost use Rattle.std.specs.List.Sorted.{IsStrictlySortedBy};
 ghost use Rattle.std.specs.Ordering.{nat_cmp};
-ghost use Rattle.core_model.specs.Names.{Name, at, has, names_of, without_all};
+ghost use Rattle.core_model.specs.Names.{Name, at, names_of, without_all};
 ghost use Rattle.core_model.specs.Roots.{are_distinct};
 ghost use Rattle.core_model.specs.View.{imports, accepts, self_accepts, declines};
 ghost use Rattle.module_graph.specs.Entries.{put_entry};
-ghost use Rattle.module_graph.specs.Importers.{IsTurned, is_under};
+ghost use Rattle.module_graph.specs.ReverseIndex.{IsWithout};
 ghost use Rattle.module_graph.specs.Rows.{AreIndexed, view_of};
 
-use crate::importers::Importers;
-use crate::view_rows::{Entry, Row, copy_of, drop_rows, find, imports_of, names_in};
+use crate::indexes::Indexes;
+use crate::view_rows::{Entry, Row, copy_of, drop_rows, find, lists_of, names_in};
 use hmr_types::{Analysis, ModName, Ver};
 use indexmap::IndexMap;
 use std::alloc::{AllocError, Global};
@@ -24,7 +24,7 @@ use std::marker::Model;
 #[derive(Drop)]
 pub struct View {
     rows: IndexMap<ModName, Row>,
-    importers: Importers,
+    indexes: Indexes,
 }
 
 impl Model for View {
@@ -35,7 +35,8 @@ impl Model for View {
 
     ghost view = { λ v. view_of v.rows.entries };
 
-    ghost invariant = { λ v. AreIndexed v.rows.entries v.importers.sets.entries };
+    ghost invariant = { λ v.
+        AreIndexed v.rows.entries v.indexes.importers.sets.entries v.indexes.acceptors.sets.entries };
 }
 
 impl View {
@@ -45,13 +46,14 @@ impl View {
     {
         View {
             rows: IndexMap::new(alloc),
-            importers: Importers::new(alloc),
+            indexes: Indexes::new(alloc),
         }
     }
 
     /// The version and the analysis of a module: one look-up by hash. It takes no memory.
     pub fn get(&self, name: &ModName) -> Option<(Ver, &Analysis)>
-        ensures { option_map (λ found. record { version = found.0; analysis = found.1.now }) result ≡ at self.now name.now }
+        ensures { option_map (λ found. record { version = found.0; analysis = found.1.now }) result
+            ≡ at self.now name.now }
     {
         let entry = find(&self.rows, name)?;
         Some((entry.version, &entry.analysis))
@@ -60,7 +62,8 @@ impl View {
     /// The module at this place, from 0, in order of entering: None exactly past the end. It takes no
     /// memory.
     pub fn at(&self, place: usize) -> Option<(&ModName, Ver, &Analysis)>
-        ensures { option_map (λ found. (found.0.now, record { version = found.1; analysis = found.2.now })) result ≡ slice_get self.now place }
+        ensures { option_map (λ found. (found.0.now, record { version = found.1; analysis = found.2.now }))
+            result ≡ slice_get self.now place }
     {
         let (name, row) = self.rows.get_index(place)?;
         Some((name, row.entry.version, &row.entry.analysis))
@@ -79,20 +82,14 @@ impl View {
     pub fn imports(&self, name: &ModName, import: &ModName) -> bool
         ensures { result ≡ imports self.now name.now import.now }
     {
-        match find(&self.rows, name) {
-            Some(entry) => entry.imports(import),
-            None => false,
-        }
+        self.indexes.importers.has(import, name)
     }
 
     /// Whether the module of this name accepts the other by name. It takes no memory.
     pub fn accepts(&self, name: &ModName, dependency: &ModName) -> bool
         ensures { result ≡ accepts self.now name.now dependency.now }
     {
-        match find(&self.rows, name) {
-            Some(entry) => entry.accepts(dependency),
-            None => false,
-        }
+        self.indexes.acceptors.has(dependency, name)
     }
 
     /// Whether the module of this name accepts itself. It takes no memory.
@@ -119,61 +116,76 @@ impl View {
     /// own. They are kept in that order: it takes time in proportion to the answer.
     pub fn importers(&self, alloc: Global, name: &ModName) -> Result<Vec<ModName>, AllocError>
         ensures rising { IfOk result (λ names. IsStrictlySortedBy (slice_cmp nat_cmp) names.items) }
-        ensures exact { IfOk result (λ names. (m : Name) → Contains names.items m ↔ (imports self.now m name.now ≡ true)) }
+        ensures exact { IfOk result (λ names. (m : Name) →
+            Contains names.items m ↔ (imports self.now m name.now ≡ true)) }
     {
-        let names = self.importers.of(alloc, name)?;
+        let names = self.indexes.importers.of(alloc, name)?;
+        Ok(names)
+    }
+
+    /// The names of the modules that accept this one by name, rising by bytes; the name needs no module of
+    /// its own. They are kept in that order: it takes time in proportion to the answer.
+    pub fn acceptors(&self, alloc: Global, name: &ModName) -> Result<Vec<ModName>, AllocError>
+        ensures rising { IfOk result (λ names. IsStrictlySortedBy (slice_cmp nat_cmp) names.items) }
+        ensures exact { IfOk result (λ names. (m : Name) →
+            Contains names.items m ↔ (accepts self.now m name.now ≡ true)) }
+    {
+        let names = self.indexes.acceptors.of(alloc, name)?;
         Ok(names)
     }
 
     /// Puts a module in place of the one of its name, or else at the end. A refusal changes nothing. Each
-    /// import is looked up by hash, and the name found among its importers by their order; imports of
-    /// the module before are first compared with the new ones.
+    /// import and each accepted name is looked up by hash, and the name found among its importers or
+    /// acceptors by their order; those of the module before are first compared with the new ones.
     pub fn put(&mut self, name: ModName, ver: Ver, analysis: Analysis) -> Result<(), AllocError>
-        ensures ok { OnOk result (self.new ≡ put_entry name (record { version = ver; analysis = analysis }) self.old) }
+        ensures ok { OnOk result
+            (self.new ≡ put_entry name (record { version = ver; analysis = analysis }) self.old) }
         ensures err { OnErr result (self.new ≡ self.old) }
     {
         let entry = Entry {
             version: ver,
             analysis,
         };
-        put_row(&mut self.rows, &mut self.importers, name, entry)
+        put_row(&mut self.rows, &mut self.indexes, name, entry)
     }
 
     /// Takes away the modules of these names. The others keep their order. It takes no memory, and the time
-    /// of one walk of the view and of look-ups of the names and of what their modules import.
+    /// of one walk of the view and of look-ups of the names and of what their modules import and accept.
     pub fn drop_names(&mut self, names: &[ModName])
         ensures { self.new ≡ without_all names.now self.old }
     {
-        take_out(&mut self.importers, &self.rows, names);
+        take_out(&mut self.indexes, &self.rows, names);
         drop_rows(&mut self.rows, names);
     }
 
-    /// An equal view. It takes time in proportion to the modules and their imports.
+    /// An equal view. It takes time in proportion to the modules, their imports and what they accept.
     pub fn copy(&self, alloc: Global) -> Result<View, AllocError>
         ensures { IfOk result (λ view. view ≡ self.now) }
     {
         let rows = copy_of(&self.rows)?;
-        let importers = self.importers.copy()?;
-        Ok(View { rows, importers })
+        let indexes = self.indexes.copy()?;
+        Ok(View { rows, indexes })
     }
 }
 
-// Puts an entry, and its module under what it imports. What may need memory comes before what changes an
-// entry.
+// Puts an entry, and its module under what it imports and accepts. What may need memory comes before what
+// changes an entry.
 fn put_row(
     rows: &mut IndexMap<ModName, Row>,
-    importers: &mut Importers,
+    indexes: &mut Indexes,
     name: ModName,
     entry: Entry,
 ) -> Result<(), AllocError>
-    requires { AreIndexed rows.old.entries importers.old.sets.entries }
+    requires { AreIndexed rows.old.entries
+        indexes.old.importers.sets.entries indexes.old.acceptors.sets.entries }
     ensures ok { OnOk result (view_of rows.new.entries ≡ put_entry name entry (view_of rows.old.entries)) }
     ensures err { OnErr result (view_of rows.new.entries ≡ view_of rows.old.entries) }
-    ensures indexed { AreIndexed rows.new.entries importers.new.sets.entries }
+    ensures indexed { AreIndexed rows.new.entries
+        indexes.new.importers.sets.entries indexes.new.acceptors.sets.entries }
 {
     rows.reserve(1)?;
-    let before = imports_of(rows, &name);
-    importers.replace(&name, before, entry.analysis.imports.as_slice())?;
+    let before = lists_of(rows, &name);
+    indexes.replace(&name, before, entry.lists())?;
     let row = Row {
         entry,
         leaving: false,
@@ -182,12 +194,16 @@ fn put_row(
     Ok(())
 }
 
-// Takes the modules of these names away from under what they import.
-fn take_out(importers: &mut Importers, rows: &IndexMap<ModName, Row>, names: &[ModName])
-    requires { IsTurned (view_of rows.now.entries) importers.old.sets.entries }
-    ensures { (n m : Name) → is_under importers.new.sets.entries n m ≡ (if has names.now m then false else is_under importers.old.sets.entries n m) }
+// Takes the modules of these names away from under what they import and accept.
+fn take_out(indexes: &mut Indexes, rows: &IndexMap<ModName, Row>, names: &[ModName])
+    requires { AreIndexed rows.now.entries
+        indexes.old.importers.sets.entries indexes.old.acceptors.sets.entries }
+    ensures importers { IsWithout names.now
+        indexes.old.importers.sets.entries indexes.new.importers.sets.entries }
+    ensures acceptors { IsWithout names.now
+        indexes.old.acceptors.sets.entries indexes.new.acceptors.sets.entries }
 {
     for name in names {
-        importers.leave(name, imports_of(rows, name), &[]);
+        indexes.remove(name, lists_of(rows, name));
     }
 }

@@ -1,11 +1,11 @@
 // The entries of a view in a map by name, in order of entering. Entries leave in one walk: first each
 // that goes is looked up and marked, then the walk keeps those without a mark.
 ghost use Rattle.std.specs.Prelude.{◌≡◌, not, true, IfOk, filter, option_map};
-ghost use Rattle.core_model.specs.Names.{at, has, names_of, without_all};
-ghost use Rattle.core_model.specs.View.{imports_of};
+ghost use Rattle.core_model.specs.Names.{at, names_of, without_all};
+ghost use Rattle.core_model.specs.View.{accepted_of, imports_of};
 ghost use Rattle.module_graph.specs.Rows.{are_staying, mark_name, mark_names, view_of};
 
-use crate::names::has_name;
+use crate::indexes::Lists;
 use hmr_types::{Analysis, ModName, Ver};
 use indexmap::IndexMap;
 use std::alloc::{AllocError, Global};
@@ -37,16 +37,14 @@ impl Entry {
         })
     }
 
-    pub(crate) fn imports(&self, name: &ModName) -> bool
-        ensures { result ≡ has self.now.analysis.imports name.now }
+    pub(crate) fn lists(&self) -> Lists<'_>
+        ensures imports { result.imports.now ≡ self.now.analysis.imports }
+        ensures accepted { result.accepted.now ≡ self.now.analysis.accepted }
     {
-        has_name(self.analysis.imports.as_slice(), name)
-    }
-
-    pub(crate) fn accepts(&self, name: &ModName) -> bool
-        ensures { result ≡ has self.now.analysis.accepted name.now }
-    {
-        has_name(self.analysis.accepted.as_slice(), name)
+        Lists {
+            imports: self.analysis.imports.as_slice(),
+            accepted: self.analysis.accepted.as_slice(),
+        }
     }
 }
 
@@ -79,13 +77,17 @@ pub(crate) fn find<'a>(rows: &'a IndexMap<ModName, Row>, name: &ModName) -> Opti
     }
 }
 
-/// What the module of a name imports; nothing where there is none.
-pub(crate) fn imports_of<'a>(rows: &'a IndexMap<ModName, Row>, name: &ModName) -> &'a [ModName]
-    ensures { result.now ≡ imports_of (at (view_of rows.now.entries) name.now) }
+/// What the module of a name lists; nothing where there is none.
+pub(crate) fn lists_of<'a>(rows: &'a IndexMap<ModName, Row>, name: &ModName) -> Lists<'a>
+    ensures imports { result.imports.now ≡ imports_of (at (view_of rows.now.entries) name.now) }
+    ensures accepted { result.accepted.now ≡ accepted_of (at (view_of rows.now.entries) name.now) }
 {
     match find(rows, name) {
-        Some(entry) => entry.analysis.imports.as_slice(),
-        None => &[],
+        Some(entry) => entry.lists(),
+        None => Lists {
+            imports: &[],
+            accepted: &[],
+        },
     }
 }
 

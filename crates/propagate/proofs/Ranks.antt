@@ -1,10 +1,9 @@
 -- A search that meets names in the order of the least paths to them.
 use Rattle.std.proofs.Common.{◌≡◌, ◌↔◌, ◌⊎◌, inl, inr, ℕ, zero, suc, ◌+◌, ◌<◌, ◌≤◌, Bool, true, false, List, [], ◌∷◌, ◌++◌, length, map, get_or, refl, ap, sym, ◌∙◌, arith, Contains}
-use Rattle.std.specs.Prelude.{◌-◌, not, Option, Some, None, if◌then◌else◌}
-use Prim.{⊥}
+use Rattle.std.specs.Prelude.{◌-◌, not, Option, Some, None}
 use Rattle.std.specs.declared.cmp.Ordering.{Ordering}
 use Rattle.std.specs.declared.cmp.Ordering.TheVariants.{Less, Equal, Greater}
-use Rattle.std.specs.Ordering.{nat_cmp, is_gt, is_lt, ordering_then, ordering_reverse}
+use Rattle.std.specs.Ordering.{nat_cmp, is_gt, ordering_then}
 use Rattle.std.specs.Cmp.{IsTotalOrder}
 use Rattle.std.specs.Cmp.Lexicographic.{slice_cmp}
 use Rattle.std.specs.List.{AllByRecursion}
@@ -16,7 +15,7 @@ use Rattle.std.proofs.lemmas.List.Elements.{Contains-get_or}
 use Rattle.std.proofs.lemmas.Bool.{false≢true}
 use Rattle.core_model.specs.Names.{Name, has}
 use Rattle.core_model.specs.Paths.{Leads, IsPath, Reaches}
-use Rattle.core_model.specs.LeastPath.{path_cmp, NotAfter, AtMost, IsLeastPath}
+use Rattle.core_model.specs.LeastPath.{path_cmp, AtMost, IsLeastPath}
 use Rattle.core_model.proofs.Naming.{has_is, cases_bool, filtered_from, filtered_in}
 use Rattle.core_model.proofs.Reaching.{path_on, reaches_within}
 use Rattle.core_model.proofs.LeastPaths.{itself, through}

@@ -1,24 +1,23 @@
 -- Who is told: what a boundary may be told of has all of its pairs, and the pairs rise.
-use Rattle.std.proofs.Common.{◌≡◌, ◌↔◌, ◌⊎◌, inl, inr, ℕ, zero, suc, ◌+◌, ◌<◌, Bool, true, false, List, [], ◌∷◌, ◌++◌, length, map, drop, refl, ap, sym, ◌∙◌, arith, Contains}
-use Rattle.std.specs.Prelude.{filter, flat_map, cond, ◌&&◌, ◌||◌, not, slice_get, is_some, Option, Some, None, if◌then◌else◌}
-use Rattle.std.specs.List.{AllByRecursion, list_any}
+use Rattle.std.proofs.Common.{◌≡◌, ◌↔◌, ◌⊎◌, inl, inr, Bool, true, false, List, [], ◌∷◌, ◌++◌, map, refl, ap, sym, ◌∙◌, Contains}
+use Rattle.std.specs.Prelude.{filter, flat_map, cond, ◌&&◌, ◌||◌, not}
+use Rattle.std.specs.List.{AllByRecursion}
 use Rattle.std.proofs.lemmas.Bool.{false≢true}
 use Rattle.std.specs.List.Sorted.{IsStrictlySortedBy}
 use Rattle.std.specs.declared.cmp.Ordering.TheVariants.{Less}
 use Rattle.std.specs.Ordering.{nat_cmp, ordering_then}
 use Rattle.std.specs.Cmp.Lexicographic.{slice_cmp}
 use Rattle.std.proofs.lemmas.Cmp.{nat_list_cmp_total, tied_itself}
-use Rattle.std.proofs.lemmas.Option.{same_Some, slice_get_within}
-use Rattle.std.proofs.lemmas.List.{append_assoc, append-nil}
 use Rattle.std.proofs.lemmas.List.Kept.{IsStrictlySortedBy-filter}
 use Rattle.core_model.specs.Names.{Name, same_name, has, at, names_of, sorted}
-use Rattle.core_model.specs.View.{View, Entry, accepted_of, accepts, self_accepts}
+use Rattle.core_model.specs.View.{View, accepted_of, accepts, self_accepts}
+use Rattle.core_model.specs.Rounds.{touched}
 use Rattle.core_model.specs.Spread.{AreIn, IsReplaced, is_pair, pairs_with, pairs_of}
-use Rattle.core_model.proofs.Naming.{same_true, has_is, filtered_has, filtered_from, filtered_in, sorted_has, both_true, or_cases, or_left, or_right, any_from, no_names}
+use Rattle.core_model.proofs.Naming.{same_true, has_is, has_append, filtered_has, filtered_from, sorted_has, both_true, or_cases, or_left, or_right, any_from, any_is, no_names, Found}
 use Rattle.core_model.proofs.Views.{accepter_named}
 use Rattle.core_model.proofs.Spreading.{replaced_named}
 use Rattle.module_graph.proofs.Sorting.{IsRising, same_rising, sorted_rising}
-use Rattle.propagate.specs.Pairs.{own_and_accepted, told, is_via, may_be_told, pair_cmp}
+use Rattle.propagate.specs.Pairs.{accepted_by, own_and_accepted, told, may_be_told, pair_cmp}
 
 and_same : (b p q : Bool) → (b ≡ true → p ≡ q) → (b && p) ≡ (b && q)
 and_same true p q f = f refl
@@ -78,34 +77,37 @@ left_out f p g [] = refl
 left_out f p g (m ∷ names) = left_if f m names (filter p names) (p m) (g m) (left_out f p g names)
 
 module _ (view : View) (changed forced replaced : List Name) (ofc : AreIn changed view) (off : AreIn forced view) (is : (m : Name) → Contains replaced m ↔ IsReplaced view changed forced m) where
-  abbrev among : List Name
-  among = filter (may_be_told view replaced forced) (names_of view)
-
-  told_named : (m n : Name) → ((same_name m n && has replaced n && self_accepts view n) ≡ true) ⊎ ((accepts view m n && not (has replaced m) && (has replaced n || has forced n)) ≡ true) → has among m ≡ true
-  told_named m n (inl h) =
+  may_be : (m n : Name) → ((same_name m n && has replaced n && self_accepts view n) ≡ true) ⊎ ((accepts view m n && not (has replaced m) && (has replaced n || has forced n)) ≡ true) → may_be_told view replaced forced m ≡ true
+  may_be m n (inl h) =
       let a = both_true (same_name m n) _ (both_true (same_name m n && has replaced n) _ h).0 in
-      let r : has replaced m ≡ true = ap (has replaced) (same_true m n a.0) ∙ a.1 in
-      filtered_in (may_be_told view replaced forced) (names_of view) m (or_left (has replaced m) _ r) (changed_named view changed forced replaced ofc off is m r)
-  told_named m n (inr h) =
+      or_left (has replaced m) _ (ap (has replaced) (same_true m n a.0) ∙ a.1)
+  may_be m n (inr h) =
       let a = both_true (accepts view m n && not (has replaced m)) _ h in
-      let b = (both_true (accepts view m n) _ a.0).0 in
-      filtered_in (may_be_told view replaced forced) (names_of view) m (or_right (has replaced m) _ (any_from (is_via replaced forced) (accepted_of (at view m)) n b a.1)) (accepter_named view m n b)
+      or_right (has replaced m) _ (any_from (λ k. accepted_by view k m) (replaced ++ forced) n (has_append replaced forced n ∙ a.1) (both_true (accepts view m n) _ a.0).0)
 
-  told_none : (m : Name) → has among m ≡ false → told view replaced forced m ≡ []
+  told_none : (m : Name) → may_be_told view replaced forced m ≡ false → told view replaced forced m ≡ []
   told_none m f = ap (map (λ n. (m, n))) (no_names (filter (is_pair view replaced forced m) (own_and_accepted view m))
-      (λ n h. false≢true (sym f ∙ told_named m n (or_cases (same_name m n && has replaced n && self_accepts view n) _ (filtered_from (is_pair view replaced forced m) (own_and_accepted view m) n h).0))))
+      (λ n h. false≢true (sym f ∙ may_be m n (or_cases (same_name m n && has replaced n && self_accepts view n) _ (filtered_from (is_pair view replaced forced m) (own_and_accepted view m) n h).0))))
 
-  among_sorted : sorted among ≡ filter (has among) (sorted (names_of view))
-  among_sorted = same_rising (sorted among) (filter (has among) (sorted (names_of view))) (sorted_rising among)
-      (IsStrictlySortedBy-filter (slice_cmp nat_cmp) (has among) (sorted (names_of view)) (sorted_rising (names_of view)))
-      (λ m. sorted_has among m ∙ by m (has among m) refl ∙ sym (filtered_has (has among) (sorted (names_of view)) m ∙ ap (λ b. has among m && b) (sorted_has (names_of view) m)))
-    where
-      by : (m : Name) (b : Bool) → has among m ≡ b → b ≡ (b && has (names_of view) m)
-      by m true e = sym (filtered_from (may_be_told view replaced forced) (names_of view) m e).1
-      by m false e = refl
+  -- what may be told is a module of the view
+  teller_named : (m : Name) → (has replaced m ≡ true) ⊎ (touched (accepted_by view) (replaced ++ forced) m ≡ true) → has (names_of view) m ≡ true
+  teller_named m (inl h) = changed_named view changed forced replaced ofc off is m h
+  teller_named m (inr h) = let f : Found (λ k. accepted_by view k m) (replaced ++ forced) = any_is (λ k. accepted_by view k m) (replaced ++ forced) h in accepter_named view m f.name f.passing
 
-  pub among_told : flat_map (told view replaced forced) (sorted among) ≡ pairs_of view replaced forced
-  among_told = ap (flat_map (told view replaced forced)) among_sorted ∙ left_out (told view replaced forced) (has among) told_none (sorted (names_of view)) ∙ all_told view changed forced replaced ofc off is
+  module _ (names : List Name) (these : (m : Name) → has names m ≡ may_be_told view replaced forced m) where
+    in_view : (m : Name) (b : Bool) → has names m ≡ b → b ≡ (b && has (names_of view) m)
+    in_view m true e = sym (teller_named m (or_cases (has replaced m) _ (sym (these m) ∙ e)))
+    in_view m false e = refl
+
+    among_sorted : sorted names ≡ filter (has names) (sorted (names_of view))
+    among_sorted = same_rising (sorted names) (filter (has names) (sorted (names_of view))) (sorted_rising names)
+        (IsStrictlySortedBy-filter (slice_cmp nat_cmp) (has names) (sorted (names_of view)) (sorted_rising (names_of view)))
+        (λ m. sorted_has names m ∙ in_view m (has names m) refl ∙ sym (filtered_has (has names) (sorted (names_of view)) m ∙ ap (λ b. has names m && b) (sorted_has (names_of view) m)))
+
+    pub among_told : flat_map (told view replaced forced) (sorted names) ≡ pairs_of view replaced forced
+    among_told = ap (flat_map (told view replaced forced)) among_sorted
+        ∙ left_out (told view replaced forced) (has names) (λ m f. told_none m (sym (these m) ∙ f)) (sorted (names_of view))
+        ∙ all_told view changed forced replaced ofc off is
 
 -- Sets in the place of lists with the same names.
 
@@ -113,29 +115,18 @@ filter_same : {X : Type 0} (p q : X → Bool) → ((x : X) → p x ≡ q x) → 
 filter_same p q e [] = refl
 filter_same p q e (x ∷ xs) = ap (λ b. cond b (x ∷ filter p xs) (filter p xs)) (e x) ∙ ap (λ l. cond (q x) (x ∷ l) l) (filter_same p q e xs)
 
-any_same : (p q : Name → Bool) → ((n : Name) → p n ≡ q n) → (names : List Name) → list_any p names ≡ list_any q names
-any_same p q e [] = refl
-any_same p q e (n ∷ names) = ap (λ b. b || list_any p names) (e n) ∙ ap (λ b. q n || b) (any_same p q e names)
-
 module _ (view : View) (replaced forced marks others : List Name) (same : (n : Name) → has marks n ≡ has replaced n) (alike : (n : Name) → has others n ≡ has forced n) where
   pair_same : (m n : Name) → is_pair view marks others m n ≡ is_pair view replaced forced m n
   pair_same m n = ap (λ b. (same_name m n && b && self_accepts view n) || (accepts view m n && not (has marks m) && (b || has others n))) (same n)
       ∙ ap (λ b. (same_name m n && has replaced n && self_accepts view n) || (accepts view m n && not b && (has replaced n || has others n))) (same m)
       ∙ ap (λ b. (same_name m n && has replaced n && self_accepts view n) || (accepts view m n && not (has replaced m) && (has replaced n || b))) (alike n)
 
-  via_same : (n : Name) → is_via marks others n ≡ is_via replaced forced n
-  via_same n = ap (λ b. b || has others n) (same n) ∙ ap (λ b. has replaced n || b) (alike n)
-
-  row_same : (m : Name) → may_be_told view marks others m ≡ may_be_told view replaced forced m
-  row_same m = ap (λ b. b || list_any (is_via marks others) (accepted_of (at view m))) (same m) ∙ ap (λ b. has replaced m || b) (any_same (is_via marks others) (is_via replaced forced) via_same (accepted_of (at view m)))
-
   told_same : (m : Name) → told view marks others m ≡ told view replaced forced m
   told_same m = ap (map (λ n. (m, n))) (filter_same (is_pair view marks others m) (is_pair view replaced forced m) (pair_same m) (own_and_accepted view m))
 
   -- what the boundaries are told of, by the marks
-  pub marks_told : flat_map (told view marks others) (sorted (filter (may_be_told view marks others) (names_of view))) ≡ flat_map (told view replaced forced) (sorted (filter (may_be_told view replaced forced) (names_of view)))
-  marks_told = flat_map_same (told view marks others) (told view replaced forced) told_same (sorted (filter (may_be_told view marks others) (names_of view)))
-      ∙ ap (λ names. flat_map (told view replaced forced) (sorted names)) (filter_same (may_be_told view marks others) (may_be_told view replaced forced) row_same (names_of view))
+  pub marks_told : (names : List Name) → flat_map (told view marks others) names ≡ flat_map (told view replaced forced) names
+  marks_told names = flat_map_same (told view marks others) (told view replaced forced) told_same names
 
 -- The pairs rise.
 

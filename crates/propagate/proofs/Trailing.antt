@@ -1,6 +1,6 @@
 -- The search for the least path: what it keeps, a name further, and the path back from a place.
-use Rattle.std.proofs.Common.{◌≡◌, ◌↔◌, ◌⊎◌, inl, inr, ℕ, zero, suc, ◌+◌, ◌<◌, ◌≤◌, Bool, true, false, List, [], ◌∷◌, ◌++◌, length, map, take, reverse, get_or, refl, ap, sym, ◌∙◌, arith, Contains}
-use Rattle.std.specs.Prelude.{not, cond, filter, ◌||◌, Option, Some, None, IfSome, if◌then◌else◌}
+use Rattle.std.proofs.Common.{◌≡◌, ◌↔◌, ◌⊎◌, inl, inr, ℕ, suc, ◌+◌, ◌<◌, ◌≤◌, Bool, true, false, List, [], ◌∷◌, ◌++◌, length, map, take, reverse, get_or, refl, ap, sym, ◌∙◌, arith, Contains}
+use Rattle.std.specs.Prelude.{not, cond, ◌||◌, Option, Some, None, IfSome, if◌then◌else◌}
 use Rattle.std.specs.Ordering.{nat_cmp}
 use Rattle.std.specs.Cmp.Lexicographic.{slice_cmp}
 use Rattle.std.specs.declared.cmp.Ordering.TheVariants.{Less, Equal}
@@ -13,7 +13,7 @@ use Rattle.std.proofs.lemmas.List.Elements.{filter_more}
 use Rattle.std.proofs.lemmas.List.Kept.{IsStrictlySortedBy-filter}
 use Rattle.core_model.specs.Names.{Name, has, sorted}
 use Rattle.core_model.specs.Rounds.{IsOver}
-use Rattle.core_model.proofs.Naming.{has_is, has_append, false_from, filtered_from, or_cases, or_left, or_right, sorted_has, cases_bool}
+use Rattle.core_model.proofs.Naming.{has_is, has_append, false_from, filtered_from, or_cases, or_left, or_right, sorted_has}
 use Rattle.module_graph.specs.Paths.{with_new}
 use Rattle.module_graph.proofs.Distinct.{at_most}
 use Rattle.module_graph.proofs.Sorting.{IsRising, sorted_rising}

@@ -1,3 +1,4 @@
 pub mod Passing
 pub mod Pairs
 pub mod Trails
+pub mod NameLookup

@@ -7,6 +7,7 @@
 #![tactic(auto)]
 
 mod change;
+mod name_lookup;
 mod outcome;
 mod pairs;
 mod passing;

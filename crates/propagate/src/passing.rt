@@ -6,38 +6,40 @@ ghost use Rattle.core_model.specs.Spread.{passes, ends_badly};
 ghost use Rattle.propagate.specs.Passing.{lets_pass};
 
 use crate::change::Change;
+use crate::name_lookup::NameLookup;
 use crate::trails::Ends;
 use hmr_types::ModName;
-use module_graph::{Edges, View, copy_of, has_name};
+use module_graph::{Edges, View, copy_of};
 use std::alloc::{AllocError, Global};
 
 /// The edges that a change passes in a view, where some modules were invalidated.
-#[derive(Clone, Copy)]
+#[derive(Drop)]
 pub(crate) struct Passing<'a> {
     view: &'a View,
-    forced: &'a [ModName],
+    forced: NameLookup<'a>,
 }
 
 impl<'a> Passing<'a> {
-    pub(crate) fn of(change: &Change<'a>) -> Passing<'a>
-        ensures view { result.view.now ≡ change.now.view.now }
-        ensures forced { result.forced.now ≡ change.now.forced.now }
+    pub(crate) fn of(alloc: Global, change: &Change<'a>) -> Result<Passing<'a>, AllocError>
+        ensures view { IfOk result (λ passing. passing.view.now ≡ change.now.view.now) }
+        ensures forced { IfOk result (λ passing. passing.forced ≡ change.now.forced.now) }
     {
-        Passing {
+        let forced = NameLookup::of(alloc, change.forced)?;
+        Ok(Passing {
             view: change.view,
-            forced: change.forced,
-        }
+            forced,
+        })
     }
 }
 
 impl<'a> Edges for Passing<'a> {
-    ghost edge = { λ s. passes s.view.now s.forced.now };
+    ghost edge = { λ s. passes s.view.now s.forced };
 
     ghost names = { λ s. names_of s.view.now };
 
     fn next(&self, alloc: Global, name: &ModName) -> Result<Vec<ModName>, AllocError> {
         let importers = self.view.importers(alloc, name)?;
-        let names = let_pass(alloc, self.view, self.forced, name, &importers)?;
+        let names = let_pass(alloc, self.view, &self.forced, name, &importers)?;
         Ok(names)
     }
 }
@@ -46,11 +48,12 @@ impl<'a> Edges for Passing<'a> {
 fn let_pass(
     alloc: Global,
     view: &View,
-    forced: &[ModName],
+    forced: &NameLookup,
     name: &ModName,
     importers: &[ModName],
 ) -> Result<Vec<ModName>, AllocError>
-    ensures { IfOk result (λ names. names.items ≡ filter (lets_pass view.now forced.now name.now) importers.now) }
+    ensures { let passing = filter (lets_pass view.now forced.now name.now) importers.now in
+        IfOk result (λ names. names.items ≡ passing) }
 {
     let mut names = Vec::new(alloc);
     for importer in importers {
@@ -61,47 +64,48 @@ fn let_pass(
     Ok(names)
 }
 
-fn lets_pass(view: &View, forced: &[ModName], name: &ModName, importer: &ModName) -> bool
+fn lets_pass(view: &View, forced: &NameLookup, name: &ModName, importer: &ModName) -> bool
     ensures { result ≡ lets_pass view.now forced.now name.now importer.now }
 {
-    !view.accepts(importer, name) && (!view.self_accepts(name) || has_name(forced, name))
+    !view.accepts(importer, name) && (!view.self_accepts(name) || forced.has(name))
 }
 
 /// The modules at which a change wants the page to be loaded again.
-#[derive(Clone, Copy)]
+#[derive(Drop)]
 pub(crate) struct BadEnds<'a> {
     view: &'a View,
-    roots: &'a [ModName],
-    forced: &'a [ModName],
+    roots: NameLookup<'a>,
+    forced: NameLookup<'a>,
 }
 
 impl<'a> BadEnds<'a> {
-    pub(crate) fn of(change: &Change<'a>) -> BadEnds<'a>
-        ensures view { result.view.now ≡ change.now.view.now }
-        ensures roots { result.roots.now ≡ change.now.roots.now }
-        ensures forced { result.forced.now ≡ change.now.forced.now }
+    pub(crate) fn of(alloc: Global, change: &Change<'a>) -> Result<BadEnds<'a>, AllocError>
+        ensures view { IfOk result (λ ends. ends.view.now ≡ change.now.view.now) }
+        ensures roots { IfOk result (λ ends. ends.roots ≡ change.now.roots.now) }
+        ensures forced { IfOk result (λ ends. ends.forced ≡ change.now.forced.now) }
     {
-        BadEnds {
+        let roots = NameLookup::of(alloc, change.roots)?;
+        let forced = NameLookup::of(alloc, change.forced)?;
+        Ok(BadEnds {
             view: change.view,
-            roots: change.roots,
-            forced: change.forced,
-        }
+            roots,
+            forced,
+        })
     }
 }
 
 impl<'a> Ends for BadEnds<'a> {
-    ghost bad = { λ s. ends_badly s.view.now s.roots.now s.forced.now };
+    ghost bad = { λ s. ends_badly s.view.now s.roots s.forced };
 
     fn is_bad(&self, name: &ModName) -> bool {
-        ends_badly(self.view, self.roots, self.forced, name)
+        ends_badly(self.view, &self.roots, &self.forced, name)
     }
 }
 
-fn ends_badly(view: &View, roots: &[ModName], forced: &[ModName], name: &ModName) -> bool
+fn ends_badly(view: &View, roots: &NameLookup, forced: &NameLookup, name: &ModName) -> bool
     ensures { result ≡ ends_badly view.now roots.now forced.now name.now }
 {
-    view.declines(name)
-        || (has_name(roots, name) && (!view.self_accepts(name) || has_name(forced, name)))
+    view.declines(name) || (roots.has(name) && (!view.self_accepts(name) || forced.has(name)))
 }
 
 /// The modules that a change starts from.

@@ -14,9 +14,14 @@ use std::alloc::{AllocError, Global};
 
 /// The reason of a reload, where one is wanted.
 pub(crate) fn reason(alloc: Global, change: &Change) -> Result<Option<Reason>, AllocError>
-    ensures reason { IfOk result (λ reload. IfSome reload (λ r. IsReason change.now.view.now change.now.roots.now change.now.changed.now change.now.forced.now (path_of r))) }
-    ensures cause { IfOk result (λ reload. IfSome reload (λ r. cause_in r ≡ cause_of change.now.view.now (path_of r))) }
-    ensures none { IfOk result (λ reload. IfNone reload (IsReloadWanted change.now.view.now change.now.roots.now change.now.changed.now change.now.forced.now → ⊥)) }
+    ensures reason { IfOk result (λ reload. IfSome reload (λ r.
+        IsReason change.now.view.now change.now.roots.now change.now.changed.now change.now.forced.now
+        (path_of r))) }
+    ensures cause { IfOk result (λ reload. IfSome reload (λ r.
+        cause_in r ≡ cause_of change.now.view.now (path_of r))) }
+    ensures none { IfOk result (λ reload. IfNone reload
+        (IsReloadWanted change.now.view.now change.now.roots.now change.now.changed.now change.now.forced.now
+        → ⊥)) }
 {
     match least_unaccepted(alloc, change)? {
         Some(path) => Ok(Some(named(change.view, path))),
@@ -25,11 +30,17 @@ pub(crate) fn reason(alloc: Global, change: &Change) -> Result<Option<Reason>, A
 }
 
 fn least_unaccepted(alloc: Global, change: &Change) -> Result<Option<Vec<ModName>>, AllocError>
-    ensures some { IfOk result (λ answer. IfSome answer (λ path. IsReason change.now.view.now change.now.roots.now change.now.changed.now change.now.forced.now path.items)) }
-    ensures none { IfOk result (λ answer. IfNone answer (IsReloadWanted change.now.view.now change.now.roots.now change.now.changed.now change.now.forced.now → ⊥)) }
+    ensures some { IfOk result (λ answer. IfSome answer (λ path.
+        IsReason change.now.view.now change.now.roots.now change.now.changed.now change.now.forced.now
+        path.items)) }
+    ensures none { IfOk result (λ answer. IfNone answer
+        (IsReloadWanted change.now.view.now change.now.roots.now change.now.changed.now change.now.forced.now
+        → ⊥)) }
 {
     let starts = starts_of(alloc, change.changed, change.forced)?;
-    let path = least_path(alloc, &Passing::of(change), &BadEnds::of(change), &starts)?;
+    let graph = Passing::of(alloc, change)?;
+    let ends = BadEnds::of(alloc, change)?;
+    let path = least_path(alloc, &graph, &ends, &starts)?;
     Ok(path)
 }
 

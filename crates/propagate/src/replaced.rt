@@ -13,9 +13,10 @@ use std::alloc::{AllocError, Global};
 
 /// The names that an update replaces, rising by bytes, each once.
 pub(crate) fn replaced(alloc: Global, change: &Change) -> Result<Vec<ModName>, AllocError>
-    ensures { IfOk result (λ names. names.items ≡ replaced_of change.now.view.now change.now.changed.now change.now.forced.now) }
+    ensures { IfOk result (λ names.
+        names.items ≡ replaced_of change.now.view.now change.now.changed.now change.now.forced.now) }
 {
-    let graph = Passing::of(change);
+    let graph = Passing::of(alloc, change)?;
     let starts = starts_of(alloc, change.changed, change.forced)?;
     let firsts = next_of_all(alloc, &graph, &starts)?;
     let passed = reached(alloc, &graph, &firsts)?;
@@ -24,8 +25,8 @@ pub(crate) fn replaced(alloc: Global, change: &Change) -> Result<Vec<ModName>, A
     Ok(replaced)
 }
 
-// The names that an edge leads to from one of these.
-fn next_of_all<G: Edges>(
+/// The names that an edge leads to from one of these.
+pub(crate) fn next_of_all<G: Edges>(
     alloc: Global,
     graph: &G,
     names: &[ModName],

@@ -4,7 +4,8 @@ ghost use Rattle.std.specs.Cmp.Lexicographic.{slice_cmp};
 ghost use Rattle.std.specs.List.Sorted.{IsStrictlySortedBy};
 ghost use Rattle.std.specs.Ordering.{nat_cmp};
 ghost use Rattle.core_model.specs.Names.{Name};
-ghost use Rattle.core_model.specs.Spread.{AreIn, IsReason, IsReloadWanted, IsReplaced, IsPair, cause_of, reason_of, replaced_of, pairs_of};
+ghost use Rattle.core_model.specs.Spread.{AreIn, IsReason, IsReloadWanted, IsReplaced, IsPair};
+ghost use Rattle.core_model.specs.Spread.{cause_of, reason_of, replaced_of, pairs_of};
 ghost use Rattle.propagate.specs.Pairs.{pair_cmp};
 ghost use Rattle.propagate.specs.Passing.{path_of, cause_in};
 
@@ -22,6 +23,9 @@ use std::alloc::{AllocError, Global};
 /// The reason of a reload is an unaccepted path that ends at a module which declines, at a root that
 /// doesn't accept itself, or at a forced root: the one with the fewest names, and of these the least by
 /// bytes, name by name. It is a path to be followed, name by name.
+///
+/// It looks up what the change reaches, the importers and the acceptors of that, and what these acceptors
+/// accept; it doesn't look at the rest of the view.
 pub fn spread(
     alloc: Global,
     view: &View,
@@ -31,14 +35,19 @@ pub fn spread(
 ) -> Result<Spread, AllocError>
     requires changed { AreIn changed.now view.now }
     requires forced { AreIn forced.now view.now }
-    ensures reason { IfOk result (λ s. IfSome s.reload (λ r. IsReason view.now roots.now changed.now forced.now (path_of r))) }
+    ensures reason { IfOk result (λ s. IfSome s.reload (λ r.
+        IsReason view.now roots.now changed.now forced.now (path_of r))) }
     ensures cause { IfOk result (λ s. IfSome s.reload (λ r. cause_in r ≡ cause_of view.now (path_of r))) }
-    ensures no_reload { IfOk result (λ s. IfNone s.reload (IsReloadWanted view.now roots.now changed.now forced.now → ⊥)) }
-    ensures reason_computed { IfOk result (λ s. option_map path_of s.reload ≡ reason_of view.now roots.now changed.now forced.now) }
-    ensures replaced { IfOk result (λ s. (m : Name) → Contains s.replaced m ↔ IsReplaced view.now changed.now forced.now m) }
+    ensures no_reload { IfOk result (λ s. IfNone s.reload
+        (IsReloadWanted view.now roots.now changed.now forced.now → ⊥)) }
+    ensures reason_computed { IfOk result (λ s.
+        option_map path_of s.reload ≡ reason_of view.now roots.now changed.now forced.now) }
+    ensures replaced { IfOk result (λ s. (m : Name) →
+        Contains s.replaced m ↔ IsReplaced view.now changed.now forced.now m) }
     ensures replaced_rising { IfOk result (λ s. IsStrictlySortedBy (slice_cmp nat_cmp) s.replaced) }
     ensures replaced_computed { IfOk result (λ s. s.replaced ≡ replaced_of view.now changed.now forced.now) }
-    ensures pairs { IfOk result (λ s. (m n : Name) → Contains s.pairs (m, n) ↔ IsPair view.now changed.now forced.now m n) }
+    ensures pairs { IfOk result (λ s. (m n : Name) →
+        Contains s.pairs (m, n) ↔ IsPair view.now changed.now forced.now m n) }
     ensures pairs_rising { IfOk result (λ s. IsStrictlySortedBy pair_cmp s.pairs) }
     ensures pairs_computed { IfOk result (λ s. s.pairs ≡ pairs_of view.now s.replaced forced.now) }
 {

@@ -3,7 +3,8 @@
 // isn't met yet. So it meets names in the order of the least paths to them: of paths with fewer names
 // first, and of paths with as many the lesser first. The first name met that is looked for is the end of
 // the least path of all.
-ghost use Rattle.std.specs.Prelude.{◌≡◌, ◌<◌, ◌++◌, Bool, true, false, List, [], Option, IfOk, OnOk, IfSome, IfNone, length, map, get_or};
+ghost use Rattle.std.specs.Prelude.{◌≡◌, ◌<◌, ◌++◌, Bool, true, false, List, [], Option};
+ghost use Rattle.std.specs.Prelude.{IfOk, OnOk, IfSome, IfNone, length, map, get_or};
 ghost use Rattle.std.specs.Cmp.Lexicographic.{slice_cmp};
 ghost use Rattle.std.specs.List.Sorted.{IsStrictlySortedBy};
 ghost use Rattle.std.specs.Ordering.{nat_cmp};
@@ -42,8 +43,10 @@ pub(crate) fn least_path<G: Edges, B: Ends>(
     ends: &B,
     starts: &[ModName],
 ) -> Result<Option<Vec<ModName>>, AllocError>
-    ensures some { IfOk result (λ answer. IfSome answer (λ path. IsLeastPath (G.edge graph.now) starts.now (B.bad ends.now) path.items)) }
-    ensures none { IfOk result (λ answer. IfNone answer ((m : Name) → Reaches (G.edge graph.now) starts.now m → B.bad ends.now m ≡ false)) }
+    ensures some { IfOk result (λ answer. IfSome answer (λ path.
+        IsLeastPath (G.edge graph.now) starts.now (B.bad ends.now) path.items)) }
+    ensures none { IfOk result (λ answer. IfNone answer ((m : Name) →
+        Reaches (G.edge graph.now) starts.now m → B.bad ends.now m ≡ false)) }
 {
     let mut trails = Trails {
         met: Known::new(alloc),
@@ -68,7 +71,8 @@ pub(crate) fn least_path<G: Edges, B: Ends>(
 fn meet(trails: &mut Trails, from: Option<usize>, names: &[ModName]) -> Result<(), AllocError>
     requires rising { IsStrictlySortedBy (slice_cmp nat_cmp) names.now }
     ensures met { OnOk result (trails.new.met ≡ trails.old.met ++ unmet trails.old.met names.now) }
-    ensures from { OnOk result (trails.new.from.items ≡ trails.old.from.items ++ map (λ n. from) (unmet trails.old.met names.now)) }
+    ensures from { let more = map (λ n. from) (unmet trails.old.met names.now) in
+        OnOk result (trails.new.from.items ≡ trails.old.from.items ++ more) }
 {
     for name in names {
         meet_one(trails, from, name)?;
@@ -78,7 +82,8 @@ fn meet(trails: &mut Trails, from: Option<usize>, names: &[ModName]) -> Result<(
 
 fn meet_one(trails: &mut Trails, from: Option<usize>, name: &ModName) -> Result<(), AllocError>
     ensures met { OnOk result (trails.new.met ≡ with_new trails.old.met name.now) }
-    ensures from { OnOk result (trails.new.from.items ≡ with_from trails.old.met trails.old.from.items name.now from) }
+    ensures from { OnOk result
+        (trails.new.from.items ≡ with_from trails.old.met trails.old.from.items name.now from) }
 {
     if trails.met.add(name)? {
         trails.from.push(from)?;
@@ -95,7 +100,8 @@ fn path_to(
 ) -> Result<Vec<ModName>, AllocError>
     requires within { at < length names.now }
     requires traced { IsTraced names.now from.now }
-    ensures { (paths : List (List Name)) → AreTrails names.now from.now paths → IfOk result (λ path. path.items ≡ get_or paths at []) }
+    ensures { (paths : List (List Name)) → AreTrails names.now from.now paths →
+        IfOk result (λ path. path.items ≡ get_or paths at []) }
 {
     let mut path = Vec::new(alloc);
     let mut place = Some(at);

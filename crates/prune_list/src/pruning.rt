@@ -16,7 +16,8 @@ use std::alloc::{AllocError, Global};
 /// for each import and each module, and sorts what is left.
 pub fn unreached(alloc: Global, view: &View, roots: &[ModName]) -> Result<Vec<ModName>, AllocError>
     ensures rising { IfOk result (λ names. IsStrictlySortedBy (slice_cmp nat_cmp) names.items) }
-    ensures exact { IfOk result (λ names. (n : Name) → Contains names.items n ↔ IsDropped view.now roots.now n) }
+    ensures exact { IfOk result (λ names. (n : Name) →
+        Contains names.items n ↔ IsDropped view.now roots.now n) }
     ensures computed { IfOk result (λ names. names.items ≡ dropped_of view.now roots.now) }
 {
     let known = reached(alloc, &Imports::of(view), roots)?;

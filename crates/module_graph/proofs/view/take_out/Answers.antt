@@ -1,19 +1,28 @@
-use Rattle.std.proofs.Common.{false, []}
-use Rattle.std.specs.Prelude.{◌&&◌, not, if◌then◌else◌}
+use Rattle.std.proofs.Common.{[]}
 use Rattle.std.proofs.Math.Path.{subst}
-use Rattle.core_model.specs.Names.{at, has}
-use Rattle.core_model.specs.View.{imports_of}
-use Rattle.module_graph.specs.Importers.{Places, is_under}
+use Rattle.core_model.specs.Names.{at}
+use Rattle.core_model.specs.View.{accepted_of, imports_of}
+use Rattle.module_graph.specs.ReverseIndex.{Leaves}
 use Rattle.module_graph.specs.Rows.{view_of}
-use Rattle.module_graph.proofs.Marking.{gone_more}
+use Rattle.module_graph.proofs.Marking.{gone_more, none_gone}
 use Rattle.module_graph.proofs.view.take_out.Goals as goal
+
+pub loop-name-init : goal.loop-name-init
+loop-name-init c = (none_gone c.args.names.now _, none_gone c.args.names.now _)
 
 pub loop-name-preserved : goal.loop-name-preserved
 loop-name-preserved c =
     let view = view_of c.args.rows.now.entries in
-    let cur = c.loop-name.importers.sets.entries in
-    let new = c.leave.new.self.sets.entries in
+    let names = c.args.names.now in
+    let i = c.loop-name.name-index in
     let x = c.name-item.result in
-    gone_more view c.args.names.now c.loop-name.name-index x c.args.importers.now.sets.entries cur new c.requires c.loop-name-test.true c.loop-name.invariant
-    (subst (λ y. Places y (λ n. if has (imports_of (at view y)) n && not (has [] n) then false else is_under cur n y) cur new) c.name-item.is
-    (subst (λ l. Places x (λ n. if has l n && not (has [] n) then false else is_under cur n x) cur new) c.imports_of.ensures c.leave.ensures))
+    let was = c.args.indexes.now in
+    let cur = c.loop-name.indexes in
+    let new = c.remove.new.self in (
+      gone_more imports_of view names i x was.importers.sets.entries cur.importers.sets.entries new.importers.sets.entries c.requires.imports c.loop-name-test.true c.loop-name.invariant.0
+          (subst (λ y. Leaves y (imports_of (at view y)) [] cur.importers.sets.entries new.importers.sets.entries) c.name-item.is
+          (subst (λ l. Leaves x l [] cur.importers.sets.entries new.importers.sets.entries) c.lists_of.ensures.imports c.remove.ensures.imports)),
+      gone_more accepted_of view names i x was.acceptors.sets.entries cur.acceptors.sets.entries new.acceptors.sets.entries c.requires.accepted c.loop-name-test.true c.loop-name.invariant.1
+          (subst (λ y. Leaves y (accepted_of (at view y)) [] cur.acceptors.sets.entries new.acceptors.sets.entries) c.name-item.is
+          (subst (λ l. Leaves x l [] cur.acceptors.sets.entries new.acceptors.sets.entries) c.lists_of.ensures.accepted c.remove.ensures.accepted)),
+    )

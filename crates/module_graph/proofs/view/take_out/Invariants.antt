@@ -1,8 +1,9 @@
-use Rattle.std.proofs.Common.{◌≡◌, false, take}
-use Rattle.std.specs.Prelude.{if◌then◌else◌}
-use Rattle.core_model.specs.Names.{Name, has}
-use Rattle.module_graph.specs.Importers.{is_under}
+use Rattle.std.proofs.Common.{take}
+use Rattle.module_graph.specs.ReverseIndex.{IsWithout}
 use Rattle.module_graph.proofs.view.take_out.Given as goal
 
+-- the modules of the names so far are under none
 abbrev pub invariant-loop-name : goal.invariant-loop-name
-invariant-loop-name l = (n m : Name) → is_under l.importers.sets.entries n m ≡ (if has (take l.name-index l.names) m then false else is_under l.fn.importers.sets.entries n m)
+invariant-loop-name l =
+    let gone = take l.name-index l.names in
+    IsWithout gone l.fn.indexes.importers.sets.entries l.indexes.importers.sets.entries × IsWithout gone l.fn.indexes.acceptors.sets.entries l.indexes.acceptors.sets.entries

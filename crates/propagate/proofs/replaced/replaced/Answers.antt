@@ -16,9 +16,9 @@ returns c =
     let passed = c.in_ok-passed.passed.items in
     replaced_is view changed forced firsts passed
     (subst (λ s. (m : Name) → has firsts m ≡ touched (passes view forced) s m) (c.deref.ensures.value ∙ c.in_ok-starts.ensures)
-    (subst (λ v. (m : Name) → has firsts m ≡ touched (passes v forced) c.deref.result.now m) c.of-graph.ensures.view
-    (subst (λ f. (m : Name) → has firsts m ≡ touched (passes c.of-graph.result.view.now f) c.deref.result.now m) c.of-graph.ensures.forced c.in_ok-firsts.ensures)))
+    (subst (λ v. (m : Name) → has firsts m ≡ touched (passes v forced) c.deref.result.now m) c.in_ok-graph.ensures.view
+    (subst (λ f. (m : Name) → has firsts m ≡ touched (passes c.in_ok-graph.graph.view.now f) c.deref.result.now m) c.in_ok-graph.ensures.forced c.in_ok-firsts.ensures)))
     (subst (λ s. (m : Name) → Contains passed m ↔ Reaches (passes view forced) s m) c.deref-2.ensures.value
-    (subst (λ v. (m : Name) → Contains passed m ↔ Reaches (passes v forced) c.deref-2.result.now m) c.of-graph.ensures.view
-    (subst (λ f. (m : Name) → Contains passed m ↔ Reaches (passes c.of-graph.result.view.now f) c.deref-2.result.now m) c.of-graph.ensures.forced c.in_ok-passed.ensures.exact)))
+    (subst (λ v. (m : Name) → Contains passed m ↔ Reaches (passes v forced) c.deref-2.result.now m) c.in_ok-graph.ensures.view
+    (subst (λ f. (m : Name) → Contains passed m ↔ Reaches (passes c.in_ok-graph.graph.view.now f) c.deref-2.result.now m) c.in_ok-graph.ensures.forced c.in_ok-passed.ensures.exact)))
     c.in_ok-names.names.items c.in_ok-replaced.replaced.items (c.in_ok-names.ensures ∙ ap (λ l. changed ++ l) c.deref-3.ensures.value) c.in_ok-replaced.ensures

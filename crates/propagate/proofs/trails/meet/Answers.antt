@@ -1,4 +1,4 @@
-use Rattle.std.proofs.Common.{◌≡◌, ◌++◌, take, ap, ◌∙◌}
+use Rattle.std.proofs.Common.{◌++◌, take, ap, ◌∙◌}
 use Rattle.module_graph.specs.Paths.{with_new}
 use Rattle.propagate.specs.Trails.{unmet, with_from}
 use Rattle.propagate.proofs.Trailing.{met_on, from_on}

@@ -1,8 +1,8 @@
-use Rattle.std.proofs.Common.{◌≡◌, ◌<◌, ◌++◌, ◌∷◌, [], length, get_or, reverse, sym, ap, ◌∙◌}
+use Rattle.std.proofs.Common.{◌<◌, ◌++◌, ◌∷◌, [], length, get_or, reverse, sym, ap, ◌∙◌}
 use Rattle.std.specs.Prelude.{None, IfSome}
 use Rattle.std.proofs.Math.Path.{subst}
 use Rattle.std.proofs.lemmas.List.{get_or_default}
-use Rattle.propagate.proofs.Trailing.{path_before, earlier, earlier_within, one_back}
+use Rattle.propagate.proofs.Trailing.{path_before, earlier_within, one_back}
 use Rattle.propagate.proofs.trails.path_to.Goals as goal
 
 pub loop-place-preserved : goal.loop-place-preserved

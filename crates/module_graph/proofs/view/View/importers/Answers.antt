@@ -1,9 +1,9 @@
 use Rattle.std.proofs.Common.{◌≡◌, ◌↔◌, true, Contains}
 use Rattle.std.proofs.Math.Path.{subst}
 use Rattle.core_model.specs.Names.{Name}
-use Rattle.core_model.specs.View.{View, imports}
+use Rattle.core_model.specs.View.{View, imports_of, imports}
 use Rattle.module_graph.specs.Rows.{view_of}
-use Rattle.module_graph.proofs.Turning.{importers_are}
+use Rattle.module_graph.proofs.Turning.{listers_are}
 use Rattle.module_graph.proofs.view.View.importers.Goals as goal
 
 pub returns-clause-exact : goal.returns-clause-exact
@@ -12,4 +12,4 @@ returns-clause-exact c =
     let names = c.in_ok-names.names.items in
     let inside = c.self.inside in
     subst (λ (v : View). (m : Name) → Contains names m ↔ (imports v m n ≡ true)) c.self.view_is
-    (importers_are n (view_of inside.rows.entries) inside.importers.sets.entries names c.self.invariant.turned c.in_ok-names.ensures.these)
+    (listers_are imports_of n (view_of inside.rows.entries) inside.indexes.importers.sets.entries names c.self.invariant.imports c.in_ok-names.ensures.these)

@@ -1,5 +1,5 @@
 use Rattle.std.proofs.Common.{◌≡◌, ◌++◌}
-use Rattle.module_graph.proofs.importers.names_in.Given as goal
+use Rattle.module_graph.proofs.reverse_index.names_in.Given as goal
 
 -- what is copied, and what is left, are all
 abbrev pub invariant-loop-name : goal.invariant-loop-name

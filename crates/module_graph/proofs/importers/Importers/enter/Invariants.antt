@@ -1,8 +1,0 @@
-use Rattle.std.proofs.Common.{true, take}
-use Rattle.std.specs.Prelude.{if◌then◌else◌}
-use Rattle.core_model.specs.Names.{has}
-use Rattle.module_graph.specs.Importers.{Places, is_under}
-use Rattle.module_graph.proofs.importers.Importers.enter.Given as goal
-
-abbrev pub invariant-loop-import : goal.invariant-loop-import
-invariant-loop-import l = Places l.importer (λ n. if has (take l.import-index l.imports) n then true else is_under l.fn.self.sets.entries n l.importer) l.fn.self.sets.entries l.self.sets.entries
