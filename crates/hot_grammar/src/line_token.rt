@@ -9,6 +9,7 @@ ghost use Rattle.hot_grammar.specs.Lines.{line_token_of};
 
 use crate::Kind;
 use crate::token_kind::kind_of;
+use byte_lanes::count_newlines;
 use hot_lexer::{Token, TokenKind};
 use std::alloc::{AllocError, Global};
 use std::marker::Model;
@@ -16,14 +17,14 @@ use std::marker::Model;
 /// A token of a text, with whether it begins on a later line than the one on which the token before it
 /// ends.
 #[derive(Drop)]
-pub struct LineToken {
+pub struct LineToken<'a> {
     kind: Kind,
-    token: TokenKind,
+    token: TokenKind<'a>,
     at: u32,
     later: bool,
 }
 
-impl Model for LineToken {
+impl<'a> Model for LineToken<'a> {
     ghost use Rattle.std.specs.Prelude.{◌≡◌};
     ghost use Rattle.module_semantics.specs.Kinds as kinds;
     ghost use Rattle.module_semantics.specs.Token as plain;
@@ -37,7 +38,7 @@ impl Model for LineToken {
     ghost invariant = { λ t. code_of t.kind ≡ kinds.kind (token_of t.token) };
 }
 
-impl LineToken {
+impl<'a> LineToken<'a> {
     /// What the grammar sees of it.
     pub fn kind(&self) -> Kind
         ensures { code_of result ≡ kind self.now.token }
@@ -57,7 +58,7 @@ impl LineToken {
         ensures { result.now ≡ bytes_of self.now.token }
     {
         match &self.token {
-            TokenKind::Name(name) => name.as_str(),
+            TokenKind::Name(name) => name,
             TokenKind::Text(text) => text.as_str(),
             TokenKind::Number(_) | TokenKind::Punct(_) => "",
         }
@@ -82,24 +83,18 @@ impl LineToken {
 }
 
 /// Whether a line feed stands in the bytes.
-#[tactic(auto, unfolding(module_semantics::specs::Lines::line_feeds))]
 fn has_line_feed(bytes: &[u8]) -> bool
     ensures { result ≡ nat_lt 0 (line_feeds bytes.now) }
 {
-    for i in 0..bytes.len() {
-        if bytes[i] == b'\n' {
-            return true;
-        }
-    }
-    false
+    count_newlines(bytes) > 0
 }
 
 /// A token of a text, where the one before it ends at `end`.
 #[tactic(auto, using(crate::proofs::LineTurns::later_is))]
-fn line_token(text: &[u8], end: usize, token: Token) -> LineToken
+fn line_token<'a>(text: &[u8], end: usize, token: Token<'a>) -> LineToken<'a>
     requires before { end ≤ token.at }
     requires within { token.at ≤ length text.now }
-    ensures { result ≡ line_token_of text.now end (lexeme_of token) }
+    ensures { result ≡ line_token_of text.now end (lexeme_of token.entry) }
 {
     let kind = kind_of(&token.kind);
     let later = has_line_feed(&text[end..token.at as usize]);
@@ -113,14 +108,14 @@ fn line_token(text: &[u8], end: usize, token: Token) -> LineToken
 
 /// The tokens of the bytes of a text.
 #[tactic(auto, unfolding(module_semantics::specs::Lines::line_tokens))]
-fn line_tokens_of(
+fn line_tokens_of<'a>(
     alloc: Global,
     text: &[u8],
-    tokens: Vec<Token>,
-) -> Result<Vec<LineToken>, AllocError>
+    tokens: Vec<Token<'a>>,
+) -> Result<Vec<LineToken<'a>>, AllocError>
     requires short { length text.now < 2 ^ 32 }
     requires order { AreBetween 0 (length text.now) (lexemes_of tokens.items) }
-    ensures { IfOk result (λ made. made.items ≡ line_tokens text.now (lexemes_of tokens.items)) }
+    ensures { IfOk result (λ made. made.items ≡ line_tokens text.now (lexemes_of tokens.entry.items)) }
 {
     let mut made = Vec::new(alloc);
     let mut end = 0;
@@ -136,15 +131,15 @@ fn line_tokens_of(
 /// The tokens of a text, each with its kind and with whether it begins a line.
 ///
 /// `tokens` are those of `text`, as the lexer gives them. It fails only where there is no memory. The
-/// time is linear in the text, and the memory in the tokens; their names and texts are moved.
-pub fn line_tokens(
+/// time is linear in the text, and the memory in the tokens; their texts are moved.
+pub fn line_tokens<'a>(
     alloc: Global,
     text: &str,
-    tokens: Vec<Token>,
-) -> Result<Vec<LineToken>, AllocError>
+    tokens: Vec<Token<'a>>,
+) -> Result<Vec<LineToken<'a>>, AllocError>
     requires short { length text.now < 2 ^ 32 }
     requires order { AreBetween 0 (length text.now) (lexemes_of tokens.items) }
-    ensures exact { IfOk result (λ made. made.items ≡ line_tokens text.now (lexemes_of tokens.items)) }
+    ensures exact { IfOk result (λ made. made.items ≡ line_tokens text.now (lexemes_of tokens.entry.items)) }
 {
     line_tokens_of(alloc, text.as_bytes(), tokens)
 }

@@ -34,7 +34,7 @@ fn read_all(
 
 /// The items of a whole module.
 #[tactic(auto, unfolding(module_semantics::specs::Reading::reading, module_semantics::specs::Reading::module_reader))]
-fn read_module(alloc: Global, tokens: &[LineToken]) -> Result<Vec<RawItem>, GrammarFault>
+fn read_module(alloc: Global, tokens: &[LineToken<'_>]) -> Result<Vec<RawItem>, GrammarFault>
     ensures { Gives (λ items. raw_items_of items.items) result (reading DEPTH tokens.now) }
 {
     let mut left = Tokens::new(tokens);
@@ -48,7 +48,7 @@ fn read_module(alloc: Global, tokens: &[LineToken]) -> Result<Vec<RawItem>, Gram
 /// `Ok`, [`GrammarFault::Unexpected`] and [`GrammarFault::TooDeep`] come exactly where the definition
 /// `reading` gives them. The stack grows with what stands in one another, at most 64 deep, and not with
 /// the number of tokens; the time is linear in it, and so is the memory.
-pub fn read_items(alloc: Global, tokens: &[LineToken]) -> Result<Vec<RawItem>, GrammarFault>
+pub fn read_items(alloc: Global, tokens: &[LineToken<'_>]) -> Result<Vec<RawItem>, GrammarFault>
     ensures exact { Gives (λ items. raw_items_of items.items) result (reading DEPTH tokens.now) }
     ensures place { IfErr result (λ fault. left_of fault ≤ length tokens.now) }
 {

@@ -70,11 +70,11 @@ fn punct_kind(punct: Punct) -> Kind
 }
 
 /// The kind of a token.
-pub(crate) fn kind_of(token: &TokenKind) -> Kind
+pub(crate) fn kind_of(token: &TokenKind<'_>) -> Kind
     ensures { code_of result ≡ kind (token_of token.now) }
 {
     match token {
-        TokenKind::Name(name) => word_kind(name.as_str()),
+        TokenKind::Name(name) => word_kind(name),
         TokenKind::Number(_) => Kind::Number,
         TokenKind::Text(_) => Kind::Text,
         TokenKind::Punct(punct) => punct_kind(*punct),

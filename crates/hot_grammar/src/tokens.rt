@@ -18,7 +18,7 @@ use std::marker::Model;
 /// The tokens that are left.
 #[derive(Drop)]
 pub(crate) struct Tokens<'a> {
-    left: &'a [LineToken],
+    left: &'a [LineToken<'a>],
 }
 
 impl<'a> Model for Tokens<'a> {
@@ -31,7 +31,7 @@ impl<'a> Model for Tokens<'a> {
 }
 
 impl<'a> Tokens<'a> {
-    pub(crate) fn new(left: &'a [LineToken]) -> Self
+    pub(crate) fn new<'t: 'a>(left: &'a [LineToken<'t>]) -> Self
         ensures { result ≡ left.now }
     {
         Tokens { left }
@@ -75,7 +75,7 @@ impl<'a> Tokens<'a> {
 
     /// Takes the next one, which must be of one of these kinds.
     #[tactic(auto, unfolding(module_semantics::specs::Readers::taken))]
-    fn take(&mut self, kinds: &[Kind]) -> Result<&'a LineToken, GrammarFault>
+    fn take(&mut self, kinds: &[Kind]) -> Result<&'a LineToken<'a>, GrammarFault>
         ensures passed { Gives (λ _. past self.new) result (passed (map code_of kinds.now) self.old) }
         ensures name { Gives (λ t. (name_at t.now, self.new)) result (taken (map code_of kinds.now) name_at self.old) }
         ensures characters { Gives (λ t. (bytes_of t.now.token, self.new)) result (taken (map code_of kinds.now) (λ t. bytes_of t.token) self.old) }

@@ -1,13 +1,10 @@
 -- What the outcomes of lexing mean by the rules on whole texts.
-use Rattle.std.proofs.Common.{◌≡◌, ℕ, List, inl, inr, Ok, refl, sym, ap, ◌∙◌, subst}
-use Rattle.module_semantics.specs.Token.{Lexeme}
+use Rattle.std.proofs.Common.{◌≡◌, ℕ, List, inl, inr, refl, subst}
 use Rattle.module_semantics.specs.Lexing.{lexing}
-use Rattle.module_semantics.specs.Pieces.{IsLexing}
 use Rattle.module_semantics.specs.LexFaults.{Wrong, WrongPiece, IsFirstLexFault}
 use Rattle.module_semantics.specs.declared.tokens.After.{After}
 use Rattle.module_semantics.specs.declared.tokens.LexFault.{LexFault}
-use Rattle.module_semantics.specs.declared.tokens.LexKind.{LexKind}
-use Rattle.module_semantics.specs.declared.tokens.LexKind.TheVariants.{BadByte, OpenString, OpenComment, BadEscape, NumberTooLarge, TooManyTokens, NoMemory}
+use Rattle.module_semantics.specs.declared.tokens.LexKind.TheVariants.{NoMemory}
 use Rattle.module_semantics.proofs.FailedLex.{was_faulted}
 use Rattle.hot_lexer.specs.Stop.{Stops, fault_of}
 use Rattle.hot_lexer.specs.declared.stop.Stop.{Stop}

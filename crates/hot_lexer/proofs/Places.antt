@@ -1,8 +1,8 @@
 -- Tokens stand in order and within their text.
-use Rattle.std.proofs.Common.{◌≡◌, ℕ, suc, ◌+◌, ◌≤◌, List, [], ◌∷◌, ◌++◌, length, Option, Some, None, Ok, refl, sym, ap, arith, length-append, subst}
+use Rattle.std.proofs.Common.{◌≡◌, ℕ, ◌+◌, ◌≤◌, List, [], ◌∷◌, length, Option, Some, None, Ok, refl, sym, ap, arith, length-append, subst}
 use Rattle.module_semantics.specs.Token.{Token, Lexeme}
 use Rattle.module_semantics.specs.Lexing.{lexing}
-use Rattle.module_semantics.specs.Pieces.{Part, plain, escaped, Piece, blank, line, block, word, nought, digits, quoted, mark, pair, spelled_parts, parts_size, more, spelled, size, token_of, spelled_all, size_all, with_token, tokens_from, IsLexing}
+use Rattle.module_semantics.specs.Pieces.{Part, plain, escaped, Piece, blank, line, block, word, nought, digits, quoted, mark, pair, spelled_parts, parts_size, spelled, size, token_of, spelled_all, size_all, with_token, tokens_from}
 use Rattle.module_semantics.proofs.PiecesLex.{size_pos}
 use Rattle.module_semantics.proofs.LexedPieces.{was_lexed}
 use Rattle.hot_lexer.specs.Order.{AreBetween}

@@ -1,10 +1,12 @@
 -- Parts of a text are UTF-8, since each byte of ASCII is a character of its own.
-use Rattle.std.proofs.Common.{◌≡◌, ℕ, suc, ◌+◌, ◌-◌, ◌<◌, ◌≤◌, List, [], ◌∷◌, ◌++◌, drop, take, length, get_or, Bool, true, false, cond, refl, sym, arith, append_assoc, length-append, subst}
-use Rattle.std.proofs.Math.Seq.{drop-cons, take-append_seam, drop-append_seam, drop-append-add, get_or-append_seam}
+use Rattle.std.proofs.Common.{◌≡◌, ℕ, suc, ◌+◌, ◌-◌, ◌<◌, List, [], ◌∷◌, ◌++◌, drop, take, length, get_or, Bool, true, false, cond, refl, sym, arith, append_assoc, length-append, length-drop, add-zero, ap, ◌∙◌, subst}
+use Rattle.std.proofs.lemmas.List.{get_or-drop}
+use Rattle.std.proofs.Math.Seq.{drop-cons, take-append_seam, drop-append-add, get_or-append_seam}
 use Rattle.std.proofs.lemmas.Str.{IsUtf8-take, IsUtf8-drop, IsUtf8-append, IsUtf8-from_ascii, IsCharBoundary-before_ascii, IsCharBoundary-after_ascii}
 use Rattle.std.proofs.lemmas.Str.Ascii.{IsAscii-nil, IsAscii-cons}
-use Rattle.std.specs.Str.{IsUtf8, IsAscii}
-use Rattle.module_semantics.specs.Bytes.{is_digit, is_name_start, is_name_byte, span}
+use Rattle.std.specs.Str.{IsCharBoundary, IsUtf8}
+use Rattle.hot_lexer.proofs.Runs.{few}
+use Rattle.module_semantics.specs.Bytes.{is_digit, is_name_start, is_name_byte, is_quote, is_escape, unescape, span}
 
 name_start_small : (b : ℕ) → is_name_start b ≡ true → b < 128
 unfolding is_name_start
@@ -14,19 +16,44 @@ name_byte_small : (b : ℕ) → is_name_byte b ≡ true → b < 128
 unfolding is_name_byte is_name_start is_digit
 name_byte_small b h = grind arith
 
-run_one : (b : ℕ) (bs : List ℕ) (t : Bool) → is_name_byte b ≡ t → IsAscii (take (span is_name_byte bs) bs) → IsAscii (take (cond t (suc (span is_name_byte bs)) 0) (b ∷ bs))
-run_one b bs true h rest = IsAscii-cons b (take (span is_name_byte bs) bs) (name_byte_small b h) rest
-run_one b bs false h rest = IsAscii-nil
+-- what a quote is
+pub quote_small : (b : ℕ) → is_quote b ≡ true → b < 128
+unfolding is_quote
+quote_small b h = grind arith
 
--- the bytes of a name
-run_ascii : (bs : List ℕ) → IsAscii (take (span is_name_byte bs) bs)
+-- what an escape is, and what it stands for
+pub escape_small : (b : ℕ) → is_escape b ≡ true → (b < 128) × (unescape b < 128)
+unfolding is_escape unescape
+escape_small b h = (grind arith, grind arith)
+
+last_one : (b c : ℕ) (bs : List ℕ) (t : Bool) → is_name_byte c ≡ t → b < 128 → (c < 128 → get_or (c ∷ bs) (span is_name_byte bs) 0 < 128)
+    → get_or (b ∷ c ∷ bs) (cond t (suc (span is_name_byte bs)) 0) 0 < 128
+last_one b c bs true h small rest = rest (name_byte_small c h)
+last_one b c bs false h small rest = small
+
+-- the last byte of a name
+last_small : (b : ℕ) (bs : List ℕ) → b < 128 → get_or (b ∷ bs) (span is_name_byte bs) 0 < 128
 unfolding span
-run_ascii [] = IsAscii-nil
-run_ascii (b ∷ bs) = run_one b bs (is_name_byte b) refl (run_ascii bs)
+last_small b [] small = small
+last_small b (c ∷ bs) small = last_one b c bs (is_name_byte c) refl small (last_small c bs)
 
--- a name is UTF-8
-pub name_utf8 : (b : ℕ) (bs name : List ℕ) → is_name_start b ≡ true → name ≡ b ∷ take (span is_name_byte bs) bs → IsUtf8 name
-name_utf8 b bs name h is = subst IsUtf8 (sym is) (IsUtf8-from_ascii _ (IsAscii-cons b _ (name_start_small b h) (run_ascii bs)))
+-- a name begins and ends between characters
+pub name_bounds : (text : List ℕ) (at first : ℕ) (rest : List ℕ) → IsUtf8 text → drop at text ≡ first ∷ rest → is_name_start first ≡ true
+    → IsCharBoundary text at × IsCharBoundary text (at + span is_name_byte rest + 1)
+name_bounds text at first rest u stands start =
+    let long : length (drop at text) ≡ suc (length rest) = ap length stands in
+    let n = span is_name_byte rest in
+    let here : get_or text at 0 ≡ first = ap (λ i. get_or text i 0) (sym (add-zero at)) ∙ sym (get_or-drop at text 0 0) ∙ ap (λ l. get_or l 0 0) stands in
+    let last : get_or text (at + n) 0 ≡ get_or (first ∷ rest) n 0 = sym (get_or-drop at text n 0) ∙ ap (λ l. get_or l n 0) stands in (
+      IsCharBoundary-before_ascii text at (omega (arith, long, length-drop at text)) (omega (arith, here, name_start_small first start)),
+      IsCharBoundary-after_ascii text (at + n) u (omega (arith, long, length-drop at text, few is_name_byte rest)) (omega (arith, last, last_small first rest (name_start_small first start))),
+    )
+
+-- the characters of a name, as the code cuts them
+pub name_cut : (text : List ℕ) (at first n : ℕ) (rest : List ℕ) → drop at text ≡ first ∷ rest → take (at + n + 1 - at) (drop at text) ≡ first ∷ take n rest
+name_cut text at first n rest stands =
+    let long : at + n + 1 - at ≡ suc n = omega arith in
+    ap (λ k. take k (drop at text)) long ∙ ap (take (suc n)) stands
 
 -- what follows a byte of ASCII
 pub after_ascii : (bs : List ℕ) (i : ℕ) → IsUtf8 bs → i < length bs → get_or bs i 0 < 128 → IsUtf8 (drop (suc i) bs)

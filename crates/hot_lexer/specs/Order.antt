@@ -1,5 +1,5 @@
 -- Where tokens stand.
-use Rattle.std.specs.Prelude.{ℕ, ◌+◌, ◌<◌, ◌≤◌, List, [], ◌∷◌}
+use Rattle.std.specs.Prelude.{ℕ, ◌+◌, ◌≤◌, List, [], ◌∷◌}
 use Rattle.module_semantics.specs.Token.{Lexeme}
 
 -- each token has a byte or more, and stands between two places and after the token before it

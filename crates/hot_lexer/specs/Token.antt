@@ -31,7 +31,7 @@ place_of puncts.Nullish = 17
 
 -- what a token is
 abbrev pub token_of : TokenKind → plain.Token
-token_of (kinds.Name name) = plain.name name
+token_of (kinds.Name name) = plain.name name.now
 token_of (kinds.Number n) = plain.number n
 token_of (kinds.Text text) = plain.text text
 token_of (kinds.Punct p) = plain.punct (place_of p)

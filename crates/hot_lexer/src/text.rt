@@ -1,12 +1,14 @@
 // Texts: what stands between two quotes of one kind, where a backslash and a byte stand for another
 // byte. What a text stands for is UTF-8, since the whole is and each quote, backslash and escape is
 // one byte of ASCII.
-ghost use Rattle.std.specs.Prelude.{◌≡◌, ◌+◌, ◌^◌, ◌<◌, ◌≤◌, [], false, IfOk, length, IsUtf8};
+ghost use Rattle.std.specs.Prelude.{◌≡◌, ◌+◌, ◌^◌, ◌<◌, ◌≤◌, [], false, true, IfOk, length, IsUtf8};
+ghost use Rattle.module_semantics.specs.Bytes.{is_quote};
 ghost use Rattle.module_semantics.specs.Lexing.{text_from};
 ghost use Rattle.hot_lexer.specs.Stop.{Reads};
 
 use crate::bytes;
 use crate::stop::{Stop, fault};
+use byte_lanes::{Class, first_of};
 use hmr_types::Text;
 use module_semantics::LexKind;
 use std::alloc::Global;
@@ -15,38 +17,34 @@ use std::alloc::Global;
 #[tactic(auto, unfolding(module_semantics::specs::Lexing::text_from))]
 fn read_quoted(alloc: Global, at: usize, quote: u8, rest: &[u8]) -> Result<(Vec<u8>, usize), Stop>
     requires room { at + 1 + length rest.now < 2 ^ 32 }
-    requires ascii { quote < 128 }
+    requires quote { is_quote quote ≡ true }
     requires utf8 { IsUtf8 rest.now }
     ensures exact { Reads (λ x. (x.0.items, x.1)) result (text_from at quote [] 0 false rest.now) }
     ensures utf8 { IfOk result (λ x. IsUtf8 x.0.items) }
     ensures within { IfOk result (λ x. x.1 ≤ 1 + length rest.now) }
 {
     let mut out = Vec::new(alloc);
-    let mut escaped = false;
-    for i in 0..rest.len() {
-        let b = rest[i];
-        if escaped {
-            if !bytes::is_escape(b) {
-                return Err(fault(LexKind::BadEscape, at + i));
-            }
-            out.push(bytes::unescape(b))?;
-            escaped = false;
-            continue;
-        }
+    let mut start = 0;
+    while let Some(plain) = first_of(&rest[start..], Class::StringStop) {
+        let stop = start + plain;
+        out.extend_from_slice(&rest[start..stop])?;
+        let b = rest[stop];
         if b == quote {
-            return Ok((out, i + 2));
+            return Ok((out, stop + 2));
         }
         if bytes::is_line_end(b) {
             return Err(fault(LexKind::OpenString, at));
         }
-        if b == b'\\' {
-            escaped = true;
+        if b != b'\\' {
+            out.push(b)?;
+            start = stop + 1;
             continue;
         }
-        out.push(b)?;
-    }
-    if escaped {
-        return Err(fault(LexKind::BadEscape, at + rest.len()));
+        if stop + 1 == rest.len() || !bytes::is_escape(rest[stop + 1]) {
+            return Err(fault(LexKind::BadEscape, at + stop + 1));
+        }
+        out.push(bytes::unescape(rest[stop + 1]))?;
+        start = stop + 2;
     }
     Err(fault(LexKind::OpenString, at))
 }
@@ -59,7 +57,7 @@ pub(crate) fn read_text(
     rest: &[u8],
 ) -> Result<(Text, usize), Stop>
     requires room { at + 1 + length rest.now < 2 ^ 32 }
-    requires ascii { quote < 128 }
+    requires quote { is_quote quote ≡ true }
     requires utf8 { IsUtf8 rest.now }
     ensures exact { Reads (λ x. x) result (text_from at quote [] 0 false rest.now) }
     ensures within { IfOk result (λ x. x.1 ≤ 1 + length rest.now) }

@@ -3,9 +3,10 @@
 //! A text is lexed, then read by the grammar, then the rules on names are asked, and then each name
 //! gets its meaning. [`print`], the way back, is handed on from `hot_printer`.
 //!
-//! Stands on `hmr_types`, for trees and faults, on `module_semantics`, whose `parsing` it computes, and
-//! on `hot_lexer` and `hot_grammar`, for the tokens and what the grammar tells of them. Keeps: the fault
-//! told is the first of the text. Knows nothing of files, of specifiers or of evaluation.
+//! Stands on `hmr_types`, for trees and faults, on `module_semantics`, whose `parsing` it computes, on
+//! `hot_lexer` and `hot_grammar`, for the tokens and what the grammar tells of them, and on `byte_lanes`,
+//! for the line of a fault. Keeps: the fault told is the first of the text. Knows nothing of files, of
+//! specifiers or of evaluation.
 #![tactic(auto)]
 
 mod alone;

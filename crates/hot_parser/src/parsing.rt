@@ -81,7 +81,7 @@ fn lex_fault(text: &str, fault: LexFault) -> SyntaxFault
     }
 }
 
-fn parse_tokens(alloc: Global, text: &str, tokens: &[LineToken]) -> Result<Module, SyntaxFault>
+fn parse_tokens(alloc: Global, text: &str, tokens: &[LineToken<'_>]) -> Result<Module, SyntaxFault>
     requires { length text.now ≤ 4294967294 }
     ensures { Parses module_of result (read_items text.now tokens.now (reading DEPTH tokens.now)) }
 {
@@ -98,7 +98,7 @@ fn parse_tokens(alloc: Global, text: &str, tokens: &[LineToken]) -> Result<Modul
 }
 
 /// A fault at the place at which so many of the tokens are left.
-fn fault_left(text: &str, tokens: &[LineToken], left: usize, kind: SyntaxKind) -> SyntaxFault
+fn fault_left(text: &str, tokens: &[LineToken<'_>], left: usize, kind: SyntaxKind) -> SyntaxFault
     requires few { left ≤ length tokens.now }
     requires short { length text.now ≤ 4294967294 }
     ensures told { text_fault_of result ≡ option_map (fault_at text.now (place_left text.now tokens.now left)) (word_of kind) }
@@ -108,7 +108,7 @@ fn fault_left(text: &str, tokens: &[LineToken], left: usize, kind: SyntaxKind) -
 }
 
 /// The place of the first of the tokens that are left, or the end of the text.
-fn place_left(text: &str, tokens: &[LineToken], left: usize) -> usize
+fn place_left(text: &str, tokens: &[LineToken<'_>], left: usize) -> usize
     requires { left ≤ length tokens.now }
     ensures { result ≡ place_left text.now tokens.now left }
 {

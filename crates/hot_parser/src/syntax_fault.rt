@@ -1,10 +1,11 @@
 // The first fault of a module text, with its line and column.
 ghost use Rattle.std.specs.Prelude.{◌≡◌, ◌≤◌, length, take};
 ghost use Rattle.std.specs.Option.{option_map};
-ghost use Rattle.module_semantics.specs.Lines.{line_feeds, since_line_feed};
+ghost use Rattle.module_semantics.specs.Lines.{since_line_feed};
 ghost use Rattle.module_semantics.specs.ModuleText.{fault_at};
 ghost use Rattle.hot_parser.specs.Syntax.{no_memory, text_fault_of, word_of};
 
+use byte_lanes::count_newlines;
 use hmr_types::{FaultWord, TextFault};
 use hot_lexer::LexKind;
 
@@ -91,7 +92,7 @@ pub(crate) fn fault_at(text: &[u8], place: usize, kind: SyntaxKind) -> SyntaxFau
 {
     let before = front(text, place);
     SyntaxFault {
-        line: line_feeds(before) + 1,
+        line: count_newlines(before) as u32 + 1,
         col: since_line_feed(before) + 1,
         kind,
     }
@@ -107,22 +108,6 @@ fn front(text: &[u8], place: usize) -> &[u8]
     } else {
         text
     }
-}
-
-/// How many line feeds stand in these bytes.
-#[tactic(auto, unfolding(module_semantics::specs::Lines::line_feeds))]
-fn line_feeds(bytes: &[u8]) -> u32
-    requires { length bytes.now ≤ 4294967294 }
-    ensures exact { result ≡ line_feeds bytes.now }
-    ensures small { result ≤ 4294967294 }
-{
-    let mut feeds = 0u32;
-    for byte in bytes {
-        if *byte == b'\n' {
-            feeds += 1;
-        }
-    }
-    feeds
 }
 
 /// How many bytes stand after the last line feed.

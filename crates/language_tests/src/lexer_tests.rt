@@ -13,16 +13,16 @@ enum Expected<'a> {
 }
 
 /// The tokens of a text that is short enough for `lex`, or its fault.
-fn lexed(alloc: Global, text: &str) -> Option<Result<Vec<Token>, LexFault>> {
+fn lexed(alloc: Global, text: &str) -> Option<Result<Vec<Token<'_>>, LexFault>> {
     if text.len() > 131_072 {
         return None;
     }
     Some(lex(alloc, text))
 }
 
-fn is_token(token: &Token, expected: &Expected<'_>, at: u32, len: u32) -> bool {
+fn is_token(token: &Token<'_>, expected: &Expected<'_>, at: u32, len: u32) -> bool {
     let is_kind = match (&token.kind, expected) {
-        (TokenKind::Name(name), Expected::Name(text)) => name.as_str() == *text,
+        (TokenKind::Name(name), Expected::Name(text)) => *name == *text,
         (TokenKind::Number(number), Expected::Number(value)) => number == value,
         (TokenKind::Text(text), Expected::Text(value)) => text.as_str() == *value,
         (TokenKind::Punct(punct), Expected::Punct(mark)) => punct == mark,

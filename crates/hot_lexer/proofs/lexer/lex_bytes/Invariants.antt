@@ -5,9 +5,9 @@ use Rattle.hot_lexer.proofs.lexer.lex_bytes.Given as goal
 
 abbrev pub invariant-loop-at : goal.invariant-loop-at
 invariant-loop-at l = record {
-  going : Going l.at l.last (lexemes_of l.tokens.items) l.text;
-  within : l.at ≤ length l.text;
+  going : Going l.at l.last (lexemes_of l.tokens.items) l.bytes;
+  within : l.at ≤ length l.bytes;
 }
 
 abbrev pub decreases-loop-at : goal.decreases-loop-at
-decreases-loop-at l = length l.text - l.at
+decreases-loop-at l = length l.bytes - l.at
