@@ -3,14 +3,14 @@
 ghost use Rattle.std.specs.Prelude.{◌≡◌, ◌≤◌, ◌∷◌, [], ◌++◌, List, ℕ, Option, Some, None, true, false, IfSome, IfOk, OnOk, IfNone, IsNone, MatchOption, is_some, map, string_bytes};
 ghost use Rattle.std.specs.List.{list_any};
 ghost use Rattle.std.specs.Option.{option_map, option_copied};
-ghost use Rattle.outside_calls.specs.Plans.{faults_of, fresh_plan, plan_of};
+ghost use Rattle.hmr_base.specs.Plans.{faults_of, fresh_plan, plan_of};
 ghost use Rattle.folders.specs.Entries.{IsListed, has_slash, is_there, leads_to, path_of};
 ghost use Rattle.folders.specs.Files.{HasRead, below, files_after, has_file, next_files, rest_after, text_at};
 ghost use Rattle.folders.specs.Memory.{IfDir, IfFile, IsEntryFor, IsOneMore, dir_path_of, file_path_of, files_to_come, held_by, open_files, told_file};
 ghost use Rattle.hmr_types.specs.ModName.{is_text};
 
 use crate::{Entry, Node, OutFault, Tree};
-use outside_calls::FaultPlan;
+use hmr_base::FaultPlan;
 use std::alloc::{AllocError, Global};
 use std::collections::VecDeque;
 
@@ -132,7 +132,7 @@ impl Tree for MemTree {
     ) -> Result<Option<Vec<u8>>, OutFault> {
         self.plan.begin()?;
         match find(self.files(), &file.path) {
-            None => Err(self.plan.fail()),
+            None => Err(OutFault::from(self.plan.fail())),
             Some(text) if text.len() > limit => Ok(None),
             Some(text) => Ok(Some(Vec::from_slice(alloc, text)?)),
         }

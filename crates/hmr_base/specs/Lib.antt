@@ -1,3 +1,5 @@
 pub mod Causes
 pub mod Fronts
+pub mod Plans
+pub mod Pieces
 pub mod Memory

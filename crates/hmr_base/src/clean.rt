@@ -28,6 +28,10 @@ impl Source for CleanSource {
 
     ghost faults = { λ _. 0 };
 
+    ghost plan = { λ _. None };
+
+    ghost most = { λ _. None };
+
     fn read(&mut self, into: &mut [u8]) -> Result<usize, Failed> {
         let rest = &self.bytes[self.at..];
         let count = rest.len().min(into.len());
@@ -58,6 +62,14 @@ impl Sink for CleanSink {
     ghost written = { λ _. None };
 
     ghost faults = { λ _. 0 };
+
+    ghost plan = { λ _. None };
+
+    ghost most = { λ _. None };
+
+    ghost taken = { λ s. Some s.count };
+
+    ghost room = { λ _. None };
 
     fn write(&mut self, piece: &[u8]) -> Result<usize, Failed> {
         self.count = self.count.saturating_add(piece.len() as u64);

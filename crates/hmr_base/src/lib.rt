@@ -3,14 +3,16 @@
 //! A [`Source`] gives bytes and a [`Sink`] takes them. Each keeps a count of its faults that never
 //! falls, and each of its calls may fail only where that count rises, so a function over them can
 //! say that it answers a fault only where the outside failed. [`read_all`] and [`write_all`] are the
-//! two loops that every program over them needs. There are forms in memory, whose calls fail where a
-//! test wants it, forms that never fail, and adapters of std's readers and writers.
+//! two loops that every program over them needs. There are forms in memory, whose calls fail exactly
+//! where a test's [`FaultPlan`] says or the room ends, forms that never fail, and adapters of std's
+//! readers and writers.
 //!
-//! Stands on nothing but std. Keeps: a count rises with each fault, and what a form in memory holds
-//! is told to contracts. Knows nothing of modules, scripts or messages.
+//! Stands on nothing but std. Keeps: a count rises with each fault and with nothing else, and what a
+//! form in memory holds is told to contracts. Knows nothing of modules, scripts or messages.
 #![tactic(auto)]
 
 mod clean;
+mod fault_plan;
 mod mem_sink;
 mod mem_source;
 mod outside;
@@ -19,6 +21,7 @@ mod std_streams;
 mod write;
 
 pub use clean::{CleanSink, CleanSource};
+pub use fault_plan::FaultPlan;
 pub use mem_sink::MemSink;
 pub use mem_source::MemSource;
 pub use outside::{Failed, Sink, Source};

@@ -1,8 +1,9 @@
 // A sink in memory. Its room is set aside when it is made, so that a write wants no memory; beside
 // its bytes it holds the numbers of the calls that are to fail.
-ghost use Rattle.std.specs.Prelude.{◌≡◌, ◌≤◌, [], Some, IfOk, vec_len, vec_capacity};
+ghost use Rattle.std.specs.Prelude.{◌≡◌, ◌≤◌, [], Some, IfOk, max, vec_len, vec_capacity};
+ghost use Rattle.hmr_base.specs.Plans.{faults_of, fresh_plan, plan_of};
 
-use crate::{Failed, Sink};
+use crate::{Failed, FaultPlan, Sink};
 use std::alloc::{AllocError, Global};
 
 /// A sink that keeps its bytes in memory, whose calls fail where a test wants it.
@@ -11,15 +12,13 @@ pub struct MemSink {
     bytes: Vec<u8>,
     room: usize,
     piece: usize,
-    call: u64,
-    failing: Vec<u64>,
-    faults: u64,
+    plan: FaultPlan,
     ghost within: { vec_len bytes ≤ room },
     ghost reserved: { room ≤ vec_capacity bytes },
 }
 
 impl MemSink {
-    ghost use Rattle.hmr_base.specs.Memory.{taken_by, refusals_of, room_of, planned_of};
+    ghost use Rattle.hmr_base.specs.Memory.{taken_by, refusals_of, room_of};
 
     /// An empty sink with room for `room` bytes, which takes at most `piece` of them in a call (0
     /// counts as 1). The calls whose numbers, from 0, stand in `failing` fail, and so does each call
@@ -33,15 +32,14 @@ impl MemSink {
         ensures taken { IfOk result (λ sink. taken_by sink ≡ []) }
         ensures faults { IfOk result (λ sink. refusals_of sink ≡ 0) }
         ensures room { IfOk result (λ sink. room_of sink ≡ room) }
-        ensures planned { IfOk result (λ sink. planned_of sink ≡ failing.items) }
+        ensures piece { IfOk result (λ sink. sink.piece ≡ piece) }
+        ensures plan { IfOk result (λ sink. plan_of sink.plan ≡ fresh_plan failing.items) }
     {
         Ok(MemSink {
             bytes: Vec::with_capacity(alloc, room)?,
             room,
             piece,
-            call: 0,
-            failing,
-            faults: 0,
+            plan: FaultPlan::new(failing),
         })
     }
 
@@ -56,23 +54,26 @@ impl MemSink {
 impl Sink for MemSink {
     ghost written = { λ s. Some s.bytes.items };
 
-    ghost faults = { λ s. s.faults };
+    ghost faults = { λ s. faults_of s.plan };
+
+    ghost plan = { λ s. Some (plan_of s.plan) };
+
+    ghost most = { λ s. Some (max s.piece 1) };
+
+    ghost taken = { λ s. Some (vec_len s.bytes) };
+
+    ghost room = { λ s. Some s.room };
 
     fn write(&mut self, piece: &[u8]) -> Result<usize, Failed> {
-        let call = self.call;
-        self.call = self.call.saturating_add(1);
+        self.plan.begin()?;
         let count = piece.len().min(self.piece.max(1));
-        if self.failing.contains(&call) || count > self.room - self.bytes.len() {
-            self.faults = self.faults.saturating_add(1);
-            return Err(Failed);
+        if count > self.room - self.bytes.len() {
+            return Err(self.plan.fail());
         }
         let (front, _) = piece.split_at(count);
         match self.bytes.extend_from_slice(front) {
             Ok(()) => Ok(count),
-            Err(_) => {
-                self.faults = self.faults.saturating_add(1);
-                Err(Failed)
-            }
+            Err(_) => Err(self.plan.fail()),
         }
     }
 }

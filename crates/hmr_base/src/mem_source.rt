@@ -1,8 +1,9 @@
 // A source in memory. It holds its bytes, the place up to which they were read, and the numbers of
 // the calls that are to fail, so that a test can break the input at any point.
-ghost use Rattle.std.specs.Prelude.{◌≡◌, ◌≤◌, Some, drop, vec_len};
+ghost use Rattle.std.specs.Prelude.{◌≡◌, ◌≤◌, Some, drop, max, vec_len};
+ghost use Rattle.hmr_base.specs.Plans.{faults_of, fresh_plan, plan_of};
 
-use crate::{Failed, Source};
+use crate::{Failed, FaultPlan, Source};
 
 /// A source of bytes in memory, whose calls fail where a test wants it.
 #[derive(Drop)]
@@ -10,9 +11,7 @@ pub struct MemSource {
     bytes: Vec<u8>,
     at: usize,
     piece: usize,
-    call: u64,
-    failing: Vec<u64>,
-    faults: u64,
+    plan: FaultPlan,
     ghost within: { at ≤ vec_len bytes },
 }
 
@@ -23,15 +22,15 @@ impl MemSource {
     /// calls whose numbers, from 0, stand in `failing` fail. It takes no memory.
     pub fn new(bytes: Vec<u8>, piece: usize, failing: Vec<u64>) -> Self
         ensures left { left_of result ≡ bytes.items }
+        ensures piece { result.piece ≡ piece }
+        ensures plan { plan_of result.plan ≡ fresh_plan failing.items }
         ensures faults { failures_of result ≡ 0 }
     {
         MemSource {
             bytes,
             at: 0,
             piece,
-            call: 0,
-            failing,
-            faults: 0,
+            plan: FaultPlan::new(failing),
         }
     }
 }
@@ -39,15 +38,14 @@ impl MemSource {
 impl Source for MemSource {
     ghost left = { λ s. Some (drop s.at s.bytes.items) };
 
-    ghost faults = { λ s. s.faults };
+    ghost faults = { λ s. faults_of s.plan };
+
+    ghost plan = { λ s. Some (plan_of s.plan) };
+
+    ghost most = { λ s. Some (max s.piece 1) };
 
     fn read(&mut self, into: &mut [u8]) -> Result<usize, Failed> {
-        let call = self.call;
-        self.call = self.call.saturating_add(1);
-        if self.failing.contains(&call) {
-            self.faults = self.faults.saturating_add(1);
-            return Err(Failed);
-        }
+        self.plan.begin()?;
         let rest = &self.bytes[self.at..];
         let count = rest.len().min(into.len()).min(self.piece.max(1));
         let (front, _) = rest.split_at(count);

@@ -3,6 +3,7 @@
 ghost use Rattle.std.specs.Prelude.{◌≡◌, ◌<◌, ◌≤◌, length, vec_len, IfOk, OnOk, IfSome, IsErrOf};
 ghost use Rattle.std.specs.Io.KnownBytes.{IsAtEnd};
 ghost use Rattle.hmr_base.specs.Causes.{Rose};
+ghost use Rattle.hmr_base.specs.Pieces.{LeavesEnd};
 ghost use Rattle.hmr_base.specs.declared.read.ReadFault.TheVariants.{Failed, NoMemory};
 
 use crate::{Failed, Source};
@@ -42,7 +43,7 @@ const PIECE: usize = 4096;
 ///
 /// `Failed` comes only where the source's count of faults rose in this call, `TooLong` exactly where
 /// more than `limit` bytes come before the end or a fault, and `NoMemory` where memory ran out. After
-/// a refusal some bytes are taken. The time is linear in the bytes read.
+/// a refusal some bytes are taken, from the front. The time is linear in the bytes read.
 pub fn read_all<S: Source>(
     alloc: Global,
     source: &mut S,
@@ -52,8 +53,10 @@ pub fn read_all<S: Source>(
     ensures end { OnOk result (IsAtEnd (S.left source.new)) }
     ensures limit { IfOk result (λ text. vec_len text ≤ limit) }
     ensures too_long { IsErrOf result ReadFault.TooLong → IfSome (S.left source.old) (λ bytes. limit < length bytes) }
+    ensures rest { LeavesEnd (S.left source.old) (S.left source.new) }
     ensures failed { IsErrOf result ReadFault.Failed → Rose (S.faults source.old) (S.faults source.new) }
     ensures later { S.faults source.old ≤ S.faults source.new }
+    ensures same { OnOk result (S.faults source.new ≡ S.faults source.old) }
 {
     let mut text = Vec::new(alloc);
     let mut piece = [0; PIECE];

@@ -1,6 +1,6 @@
 // Any reader and writer of std as a source and a sink. Their bytes are told where std's type tells
 // them; a terminal's and a pipe's never are.
-ghost use Rattle.std.specs.Prelude.{◌≡◌};
+ghost use Rattle.std.specs.Prelude.{◌≡◌, None};
 
 use crate::{Failed, Sink, Source};
 use std::io::{Read, Write};
@@ -26,6 +26,10 @@ impl<R: Read + Drop> Source for StdSource<R> {
     ghost left = { λ s. R.remaining s.inner };
 
     ghost faults = { λ s. s.faults };
+
+    ghost plan = { λ _. None };
+
+    ghost most = { λ _. None };
 
     fn read(&mut self, into: &mut [u8]) -> Result<usize, Failed> {
         match self.inner.read(into) {
@@ -59,6 +63,14 @@ impl<W: Write + Drop> Sink for StdSink<W> {
     ghost written = { λ s. W.contents s.inner };
 
     ghost faults = { λ s. s.faults };
+
+    ghost plan = { λ _. None };
+
+    ghost most = { λ _. None };
+
+    ghost taken = { λ _. None };
+
+    ghost room = { λ _. None };
 
     fn write(&mut self, piece: &[u8]) -> Result<usize, Failed> {
         match self.inner.write(piece) {

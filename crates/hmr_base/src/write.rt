@@ -24,6 +24,7 @@ pub fn write_all<K: Sink>(sink: &mut K, text: &[u8]) -> Result<(), WriteFault>
     ensures bound { IfErr result (λ fault. fault.written ≤ length text.now) }
     ensures failed { OnErr result (Rose (K.faults sink.old) (K.faults sink.new)) }
     ensures later { K.faults sink.old ≤ K.faults sink.new }
+    ensures same { OnOk result (K.faults sink.new ≡ K.faults sink.old) }
 {
     let mut at = 0;
     while at < text.len() {

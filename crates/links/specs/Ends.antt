@@ -1,6 +1,6 @@
 -- Which calls of the ends to come are to fail.
 use Rattle.std.specs.Prelude.{ℕ, List, [], ◌∷◌, map, Option, Some, None}
-use Rattle.outside_calls.specs.Plans.{Plan, fresh_plan}
+use Rattle.hmr_base.specs.Plans.{Plan, fresh_plan}
 use Rattle.links.specs.declared.port.Port.{Port}
 
 -- the calls of the next end: those of the first list, and none where there is no list

@@ -2,7 +2,7 @@
 // them, the messages that are left to receive and those that were sent.
 ghost use Rattle.std.specs.Prelude.{◌≡◌, ◌≤◌, ◌∷◌, [], List, ℕ, Option, false, None, vec_len, length, IfOk, IfSome, OnOk, OnErr};
 ghost use Rattle.outside_calls.specs.Causes.{HasOutCause, is_failed};
-ghost use Rattle.outside_calls.specs.Plans.{AsPlanned, Plan};
+ghost use Rattle.hmr_base.specs.Plans.{AsPlanned, Plan};
 ghost use Rattle.links.specs.declared.link.Phase.{Phase};
 ghost use Rattle.links.specs.Messages.{is_first_long, is_long, message_bytes};
 ghost use Rattle.links.specs.Told.{IsNoneLeft, told_and, told_front};

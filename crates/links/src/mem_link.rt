@@ -1,15 +1,15 @@
 // A link in memory. What moves its messages is its feed, and which of its calls fail is its plan. It holds
 // the runtime by which a pipe waits, so that the calls of the trait need none.
 ghost use Rattle.std.specs.Prelude.{◌≡◌, ◌≤◌, ◌∷◌, [], Option, Some, None, IfSome, map};
-ghost use Rattle.outside_calls.specs.Plans.{faults_of, fresh_plan, plan_of};
+ghost use Rattle.hmr_base.specs.Plans.{faults_of, fresh_plan, plan_of};
 ghost use Rattle.links.specs.declared.link.Phase.{Phase};
 ghost use Rattle.links.specs.Feeds.{left_of, sent_of};
 ghost use Rattle.links.specs.Told.{IsNoneLeft, told_and, told_front};
 
 use crate::feed::Feed;
 use crate::{Link, OutFault, Phase};
+use hmr_base::FaultPlan;
 use hmr_types::limits::MESSAGE_BYTES;
-use outside_calls::FaultPlan;
 use std::alloc::Global;
 use std::sync::Wait;
 
@@ -75,7 +75,7 @@ impl<R: Wait + Drop> Link for MemLink<R> {
     fn send(&mut self, alloc: Global, message: &[u8]) -> Result<(), OutFault> {
         self.plan.begin()?;
         if message.len() > MESSAGE_BYTES {
-            return Err(self.plan.fail());
+            return Err(OutFault::from(self.plan.fail()));
         }
         let message = Vec::from_slice(alloc, message)?;
         self.feed.put(&self.rt, message)?;
@@ -86,7 +86,7 @@ impl<R: Wait + Drop> Link for MemLink<R> {
         self.plan.begin()?;
         match self.feed.take(&self.rt) {
             Ok(got) => Ok(got),
-            Err(_) => Err(self.plan.fail()),
+            Err(_) => Err(OutFault::from(self.plan.fail())),
         }
     }
 

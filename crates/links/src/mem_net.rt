@@ -1,7 +1,7 @@
 // A net in memory: pairs of pipes, from one thread to another. Who connects leaves the two pipes at the
 // door and goes on; who accepts waits there for the first.
 ghost use Rattle.std.specs.Prelude.{◌≡◌, ◌≢◌, ◌≤◌, ℕ, Option, Some, None, IfOk, IsSome, map};
-ghost use Rattle.outside_calls.specs.Plans.{faults_of, fresh_plan, plan_of};
+ghost use Rattle.hmr_base.specs.Plans.{faults_of, fresh_plan, plan_of};
 ghost use Rattle.links.specs.declared.link.Phase.{Phase};
 ghost use Rattle.links.specs.Ends.{ends_of};
 ghost use Rattle.links.specs.Feeds.{left_of};

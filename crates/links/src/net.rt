@@ -3,7 +3,7 @@
 ghost use Rattle.std.specs.Prelude.{◌≡◌, ◌≢◌, ◌≤◌, ℕ, List, Option, Some, None, false, IfOk, OnOk, OnErr, IsSome};
 ghost use Rattle.hmr_base.specs.Causes.{Rose};
 ghost use Rattle.outside_calls.specs.Causes.{HasOutCause, is_failed};
-ghost use Rattle.outside_calls.specs.Plans.{AsPlanned, Plan};
+ghost use Rattle.hmr_base.specs.Plans.{AsPlanned, Plan};
 ghost use Rattle.links.specs.declared.link.Phase.{Phase};
 ghost use Rattle.links.specs.declared.net.Asked.{Asked};
 ghost use Rattle.links.specs.Asks.{MayConnect, first_asked};

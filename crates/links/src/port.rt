@@ -3,14 +3,14 @@
 ghost use Rattle.std.specs.Prelude.{◌≡◌, ◌≢◌, ◌≤◌, Some, None, false, IfErr, IfOk};
 ghost use Rattle.hmr_base.specs.Causes.{Rose};
 ghost use Rattle.outside_calls.specs.Causes.{HasOutCause, is_failed};
-ghost use Rattle.outside_calls.specs.Plans.{AsPlanned, faults_of, fresh_plan, plan_of};
+ghost use Rattle.hmr_base.specs.Plans.{AsPlanned, faults_of, fresh_plan, plan_of};
 ghost use Rattle.outside_calls.specs.declared.out_fault.OutFault.{OutFault};
 ghost use Rattle.links.specs.declared.net.Asked.{Asked};
 ghost use Rattle.links.specs.Asks.{first_asked};
 ghost use Rattle.links.specs.Ends.{ends_after, ends_of, failing_next};
 
 use crate::{Asked, OutFault};
-use outside_calls::FaultPlan;
+use hmr_base::FaultPlan;
 use std::alloc::Global;
 use std::collections::VecDeque;
 
@@ -63,7 +63,7 @@ impl Port {
         ensures planned { AsPlanned (Some (plan_of self.old.plan)) (Some (plan_of self.new.plan)) (is_failed result) false }
         ensures only { IfErr result (λ fault. fault ≡ OutFault.Failed) }
     {
-        self.plan.begin()
+        Ok(self.plan.begin()?)
     }
 
     pub(crate) fn begin_connect(&mut self, port: u16) -> Result<(), OutFault>
@@ -76,7 +76,7 @@ impl Port {
         if self.asked.is_none() {
             self.asked = Some(Asked::Connect(port));
         }
-        self.plan.begin()
+        Ok(self.plan.begin()?)
     }
 
     /// The numbers of the calls that are to fail of the end that comes now.

@@ -1,6 +1,6 @@
 // A net in memory whose next end has its messages from the start, and tells them.
 ghost use Rattle.std.specs.Prelude.{◌≡◌, ◌≢◌, ◌≤◌, ℕ, List, Option, Some, None, IfOk, IsSome, map, []};
-ghost use Rattle.outside_calls.specs.Plans.{faults_of, fresh_plan, plan_of};
+ghost use Rattle.hmr_base.specs.Plans.{faults_of, fresh_plan, plan_of};
 ghost use Rattle.links.specs.declared.link.Phase.{Phase};
 ghost use Rattle.links.specs.Ends.{ends_after, ends_of, failing_next};
 ghost use Rattle.links.specs.Feeds.{left_of};

@@ -1,5 +1,5 @@
 -- When a call of the outside may answer that it failed.
-use Rattle.std.specs.Prelude.{◌≡◌, ℕ, ◌≤◌, Bool, true, false, Result, Ok, Err}
+use Rattle.std.specs.Prelude.{◌≡◌, ℕ, ◌≤◌, Bool, true, false, Result, Ok, Err, OnOk}
 use Rattle.hmr_base.specs.Causes.{Rose}
 use Rattle.outside_calls.specs.declared.out_fault.OutFault.{OutFault}
 use Rattle.outside_calls.specs.declared.out_fault.OutFault.TheVariants.{Failed, NoMemory}
@@ -10,7 +10,8 @@ is_failed (Ok value) = false
 is_failed (Err Failed) = true
 is_failed (Err NoMemory) = false
 
--- the count does not fall, and it rose where the answer is Failed
+-- the count does not fall: it rose where the answer is Failed, and stays at an Ok
 pub record HasOutCause {T : Type 0} (before now : ℕ) (result : Result T OutFault) : Type 0 where
   pub later : before ≤ now
   pub failed : is_failed result ≡ true → Rose before now
+  pub same : OnOk result (now ≡ before)

@@ -1,7 +1,8 @@
 // Why a call of the outside is refused.
 ghost use Rattle.std.specs.Prelude.{◌≡◌};
-ghost use Rattle.outside_calls.specs.declared.out_fault.OutFault.TheVariants.{NoMemory};
+ghost use Rattle.outside_calls.specs.declared.out_fault.OutFault.TheVariants as faults;
 
+use hmr_base::Failed;
 use std::alloc::AllocError;
 
 /// Why a call of a folder, a net or a link is refused.
@@ -14,9 +15,17 @@ pub enum OutFault {
 }
 
 impl From<AllocError> for OutFault {
-    ghost from_gives = { λ _ fault. fault ≡ NoMemory };
+    ghost from_gives = { λ _ fault. fault ≡ faults.NoMemory };
 
     fn from(_: AllocError) -> Self {
         OutFault::NoMemory
+    }
+}
+
+impl From<Failed> for OutFault {
+    ghost from_gives = { λ _ fault. fault ≡ faults.Failed };
+
+    fn from(_: Failed) -> Self {
+        OutFault::Failed
     }
 }

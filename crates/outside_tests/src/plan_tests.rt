@@ -1,7 +1,7 @@
 // Calls fail exactly where the plan says.
 use crate::{end_trial, net_trial};
+use hmr_base::{Failed, FaultPlan};
 use links::{Net, TellNet};
-use outside_calls::{FaultPlan, OutFault};
 use std::alloc::{AllocError, Global};
 use std::collections::VecDeque;
 use std::test::Fail;
@@ -18,7 +18,7 @@ fn the_calls_of_a_plan_fail(rt: HostRuntime) -> Result<(), Fail> {
     let alloc = rt.alloc();
     let mut plan = FaultPlan::new(Vec::from_slice(alloc, &[1, 3])?);
     for fails in [false, true, false, true, false] {
-        assert_eq!(rt; plan.begin() == Err(OutFault::Failed), fails);
+        assert_eq!(rt; plan.begin() == Err(Failed), fails);
     }
     assert_eq!(rt; plan.faults(), 2);
     Ok(())

@@ -1,4 +1,4 @@
-use Rattle.std.proofs.Common.{◌≤◌, ◌-◌, vec_len}
+use Rattle.std.proofs.Common.{◌≡◌, ◌≤◌, ◌-◌, vec_len}
 use Rattle.std.specs.Io.KnownBytes.{Consumes}
 use Rattle.hmr_base.proofs.read.read_all.Given as goal
 
@@ -10,7 +10,7 @@ invariant-loop-text g l =
     record {
       front : Consumes (left l.fn.source) (left l.source) l.text.items;
       within : vec_len l.text ≤ l.limit;
-      later : faults l.fn.source ≤ faults l.source;
+      same : faults l.source ≡ faults l.fn.source;
     }
 
 abbrev pub decreases-loop-text : goal.decreases-loop-text

@@ -1,4 +1,4 @@
-use Rattle.std.proofs.Common.{arith, take, drop}
+use Rattle.std.proofs.Common.{arith, take, drop, ◌∙◌}
 use Rattle.std.proofs.KnownBytes.{Appends-trans, Appends-kept}
 use Rattle.std.proofs.Math.Seq.{take-add}
 use Rattle.std.proofs.lemmas.List.{take_rest, take-append-drop}
@@ -11,7 +11,7 @@ loop-at-preserved g c =
     record {
       out = rw (take-add c.loop-at.at c.in-Ok.count c.args.text.now, ← take_rest c.args.text.now c.loop-at.at) w;
       within = omega (arith, h.bound);
-      later = omega (arith, h.cause.later);
+      same = h.cause.same ∙ c.loop-at.invariant.same;
     }
 
 pub returns-in-Err-clause-front : goal.returns-in-Err-clause-front

@@ -1,4 +1,4 @@
-use Rattle.std.proofs.Common.{length, ◌-◌, ◌≤◌, take}
+use Rattle.std.proofs.Common.{◌≡◌, length, ◌-◌, ◌≤◌, take}
 use Rattle.std.specs.Io.KnownBytes.{Appends}
 use Rattle.hmr_base.proofs.write.write_all.Given as goal
 
@@ -10,7 +10,7 @@ invariant-loop-at g l =
     record {
       out : Appends (written l.fn.sink) (written l.sink) (take l.at l.text);
       within : l.at ≤ length l.text;
-      later : faults l.fn.sink ≤ faults l.sink;
+      same : faults l.sink ≡ faults l.fn.sink;
     }
 
 abbrev pub decreases-loop-at : goal.decreases-loop-at

@@ -1,7 +1,7 @@
 -- Which calls of a form in memory are to fail.
 use Rattle.std.specs.Prelude.{◌≡◌, ℕ, ◌+◌, ◌-◌, ◌^◌, min, List, Bool, ◌||◌, ◌==◌, Option, Some, None}
 use Rattle.std.specs.List.{list_any}
-use Rattle.outside_calls.specs.declared.fault_plan.FaultPlan.{FaultPlan}
+use Rattle.hmr_base.specs.declared.fault_plan.FaultPlan.{FaultPlan}
 
 -- the number of the next call, and the numbers of the calls that are to fail
 pub record Plan : Type 0 where

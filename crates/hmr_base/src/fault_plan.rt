@@ -1,11 +1,9 @@
 // Which calls of a form in memory fail. The calls are numbered from 0 as they come, a call fails where
 // its number stands in a list that a test wrote, and each fault is counted.
-ghost use Rattle.std.specs.Prelude.{◌≡◌, ◌≤◌, IfErr};
-ghost use Rattle.hmr_base.specs.Causes.{Rose};
-ghost use Rattle.outside_calls.specs.Causes.{HasOutCause, is_failed};
-ghost use Rattle.outside_calls.specs.declared.out_fault.OutFault.{OutFault};
+ghost use Rattle.std.specs.Prelude.{◌≡◌, ◌≤◌, is_err};
+ghost use Rattle.hmr_base.specs.Causes.{HasCause, Rose};
 
-use crate::OutFault;
+use crate::Failed;
 
 /// Which calls of a form in memory fail, and how many have.
 #[derive(Debug, Drop)]
@@ -16,7 +14,7 @@ pub struct FaultPlan {
 }
 
 impl FaultPlan {
-    ghost use Rattle.outside_calls.specs.Plans.{after_call, faults_of, fresh_plan, is_to_fail, plan_of};
+    ghost use Rattle.hmr_base.specs.Plans.{after_call, faults_of, fresh_plan, is_to_fail, plan_of};
 
     /// The plan by which the calls fail whose numbers, from 0, stand in `failing`. It takes no memory.
     pub fn new(failing: Vec<u64>) -> Self
@@ -30,13 +28,12 @@ impl FaultPlan {
         }
     }
 
-    /// Begins a call. `Failed` comes exactly where its number stands in the list, and is counted. It takes
+    /// Begins a call. [`Failed`] comes exactly where its number stands in the list, and is counted. It takes
     /// no memory, and time in proportion to the list.
-    pub fn begin(&mut self) -> Result<(), OutFault>
+    pub fn begin(&mut self) -> Result<(), Failed>
         ensures plan { plan_of self.new ≡ after_call (plan_of self.old) }
-        ensures planned { is_failed result ≡ is_to_fail (plan_of self.old) }
-        ensures only { IfErr result (λ fault. fault ≡ OutFault.Failed) }
-        ensures cause { HasOutCause (faults_of self.old) (faults_of self.new) result }
+        ensures planned { is_err result ≡ is_to_fail (plan_of self.old) }
+        ensures cause { HasCause (faults_of self.old) (faults_of self.new) result }
     {
         let call = self.call;
         self.call = self.call.saturating_add(1);
@@ -46,15 +43,14 @@ impl FaultPlan {
         Ok(())
     }
 
-    /// Counts a fault that the call now under way has for a cause of its own. The answer is `Failed`.
-    pub fn fail(&mut self) -> OutFault
-        ensures failed { result ≡ OutFault.Failed }
+    /// Counts a fault that the call now under way has for a cause of its own.
+    pub fn fail(&mut self) -> Failed
         ensures plan { plan_of self.new ≡ plan_of self.old }
         ensures later { faults_of self.old ≤ faults_of self.new }
         ensures rose { Rose (faults_of self.old) (faults_of self.new) }
     {
         self.faults = self.faults.saturating_add(1);
-        OutFault::Failed
+        Failed
     }
 
     /// How many calls failed, up to the largest `u64`.

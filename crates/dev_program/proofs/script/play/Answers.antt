@@ -1,0 +1,10 @@
+use Rattle.std.proofs.Common.{map}
+use Rattle.handler_table.specs.Shelf.{marks_of}
+use Rattle.dev_program.specs.Outputs.{output_of_play, whole}
+use Rattle.dev_program.proofs.Answering.{nothing_yet}
+use Rattle.dev_program.proofs.script.play.Goals as goal
+
+pub returns-in-Err-clause-front : goal.returns-in-Err-clause-front
+returns-in-Err-clause-front g c =
+    nothing_yet (g.S.Source.left c.args.input.now)
+    (λ bytes. whole (output_of_play (map marks_of c.args.shelves.items) bytes)) (g.K.Sink.written c.args.out.now)
