@@ -1,0 +1,5 @@
+pub mod Shortness
+pub mod Makings
+pub mod Causes
+pub mod Works
+pub mod Serving

@@ -1,0 +1,391 @@
+-- The steps of a server, put together.
+use Rattle.std.proofs.Common.{◌≡◌, ◌≢◌, ◌⊎◌, ◌≤◌, ℕ, Bool, true, false, List, [], ◌∷◌, ◌++◌, map, refl, ap, sym, ◌∙◌, subst, inl, inr, append_assoc, arith}
+use Rattle.std.specs.Prelude.{All, Option, Some, None, Result, Ok, Err, OnOk, OnErr, IsOk, IfErr, flat_map, if◌then◌else◌}
+use Prim.{⊥}
+use Rattle.std.specs.Option.{option_map}
+use Rattle.std.specs.Io.KnownBytes.{Appends}
+use Rattle.std.proofs.KnownBytes.{Appends-trans}
+use Rattle.std.proofs.lemmas.List.{append-nil}
+use Rattle.std.proofs.lemmas.List.Elements.{All-weaker, All-head, All-tail}
+use Rattle.hmr_base.specs.Causes.{Rose}
+use Rattle.hmr_base.specs.Fronts.{WritesFront}
+use Rattle.hmr_base.proofs.Fronts.{front_all, front_more, front_none}
+use Rattle.core_model.specs.Names.{Name}
+use Rattle.folders.specs.Files.{files_after}
+use Rattle.turn_lock.specs.Histories.{calls, has}
+use Rattle.turn_lock.proofs.Histories.{calls_append}
+use Rattle.transform_pool.specs.Tasks.{Task}
+use Rattle.hmr_hub.specs.declared.pass.Pass.{Pass}
+use Rattle.hmr_hub.specs.Calls.{IsFirst, SameKnower}
+use Rattle.hmr_hub.specs.Passes.{HasTranscript, all_given, known_of, number_of, roots_of, seen_of}
+use Rattle.hub_moves.specs.Fullness.{IsNearlyFull}
+use Rattle.hub_moves.specs.Moves.{KnowsOwn, Moved}
+use Rattle.hub_moves.proofs.Answers.{answered_moved}
+use Rattle.hub_moves.proofs.Fullness.{nearly_full_longer}
+use Rattle.hub_moves.proofs.Moves.{knows_first, moved_no_more, moved_none}
+use Rattle.hub_editor.specs.Edits.{Edit, Made, edit_entry, edit_event, edit_of, reply_of}
+use Rattle.hub_editor.specs.Editing.{HaveLastResults, IsAnswered, entries_of}
+use Rattle.hub_editor.specs.Openings.{jobs_after, opening}
+use Rattle.hub_editor.specs.Results.{HasOwnResults, result_entry}
+use Rattle.hub_editor.proofs.Steps.{edited_none, own_moved, result_moved}
+use Rattle.serve_crew.specs.declared.gathered.Gathered.{Gathered}
+use Rattle.serve_crew.specs.Gathers.{SomeFull}
+use Rattle.serve_reports.specs.Within.{IsWithin}
+use Rattle.serve_reports.specs.declared.log.Log.{Log}
+use Rattle.serve_reports.specs.Logs.{log_lines}
+use Rattle.serve_reports.specs.Texts.{report_text}
+use Rattle.hmr_hub.specs.Reports.{report_of}
+use Rattle.hmr_hub.specs.declared.report_line.ReportLine.{ReportLine}
+use Rattle.hmr_hub.specs.declared.report_line.ReportLine.TheVariants.{Line}
+use Rattle.folder_server.specs.declared.stop.Limit.TheVariants.{Transcript}
+use Rattle.folder_server.specs.declared.stop.ServeStop.{ServeStop}
+use Rattle.folder_server.specs.declared.stop.ServeStop.TheVariants.{Unwritten, Tree, Fault, NoMemory}
+use Rattle.folder_server.specs.declared.stop.ServeStop.TheVariants.{Limit as AtLimit}
+use Rattle.outside_calls.specs.declared.out_fault.OutFault.{OutFault}
+use Rattle.folder_server.specs.Causes.{IsCause, IsEditCause, IsWorkCause}
+use Rattle.folder_server.specs.Openings.{Opens}
+use Rattle.folder_server.specs.Rounds.{Files, MakesEdits}
+use Rattle.folder_server.specs.Running.{Finds, Later}
+use Rattle.folder_server.specs.Serving.{End, HasCause, IsReported, Reported, Served, StopsEarly, WroteEarly, WroteReport, Wrote, header, report_with, status_after}
+use Rattle.folder_server.specs.Stops.{last_text, stop_outside}
+use Rattle.folder_server.proofs.Causes.{Passes, edit_written, err_is, first_cause, outside_cause, outside_written, rose_later, work_cause, work_written}
+
+-- the first edits are all under the editor's number
+edits_mine : (edits : List Edit) → calls (0 ∷ []) (map edit_entry edits) ≡ map edit_entry edits
+edits_mine [] = refl
+edits_mine (e ∷ edits) = ap (λ es. edit_entry e ∷ es) (edits_mine edits)
+
+results_mine : (jobs : List Task) → calls (0 ∷ []) (map result_entry jobs) ≡ map result_entry jobs
+results_mine [] = refl
+results_mine (work ∷ jobs) = ap (λ es. result_entry work ∷ es) (results_mine jobs)
+
+opening_mine : (edits : List Edit) → calls (0 ∷ []) (opening edits) ≡ opening edits
+opening_mine edits =
+    calls_append (0 ∷ []) (map edit_entry edits) (map result_entry (jobs_after [] edits))
+    ∙ (ap (λ es. es ++ calls (0 ∷ []) (map result_entry (jobs_after [] edits))) (edits_mine edits)
+    ∙ ap (λ es. map edit_entry edits ++ es) (results_mine (jobs_after [] edits)))
+
+-- what was made, told of another end
+makes_ended : (coming : Option (List Files)) (listing : Files) (script : List Edit) (many : ℕ) (made : List Made) (ended result : End)
+    → MakesEdits coming listing script many [] made ended → OnOk result (IsOk ended) → MakesEdits coming listing script many [] made result
+makes_ended coming listing script many made (Ok x) (Ok y) h ok = record { rounds = h.rounds; are = h.are; rest = h.rest; front = h.front; all = h.all; many_are = h.many_are }
+makes_ended coming listing script many made (Err x) (Ok y) h ok = absurd (let z : false ≡ true = ok in cc)
+makes_ended coming listing script many made ended (Err y) h ok = record { rounds = h.rounds; are = h.are; rest = h.rest; front = h.front; all = tt; many_are = tt }
+
+results_ended : (p q : Pass) (made : List Made) (ended result : End) → Moved p q [] → OnOk ended (HaveLastResults p made) → OnOk result (IsOk ended) → OnOk result (HaveLastResults q made)
+results_ended p q made (Ok x) (Ok y) m h ok = λ work last. result_moved p q [] work m (h work last)
+results_ended p q made (Err x) (Ok y) m h ok = absurd (let z : false ≡ true = ok in cc)
+results_ended p q made ended (Err y) m h ok = tt
+
+-- all that a server did, by its passes: the first, that after the opening, that after the work, and the last
+pub served_end : (roots : List Name) (coming : Option (List Files)) (listing : Files) (script : List Edit) (many : ℕ) (made : List Made) (ended result : End) (p o w q : Pass)
+    → IsFirst roots p → SameKnower p o → Opens coming listing (seen_of o) → Later (option_map files_after coming) listing script many o w made ended
+    → OnOk result (IsOk ended) → Moved w q [] → HasTranscript q → HasCause coming q result → Served roots coming script many result q
+served_end roots coming listing script many made ended result p o w q first same opens later ok m transcript cause =
+    let all = moved_no_more o w q _ later.edited.moved m in
+    let zero : number_of o ≡ 0 = same.number ∙ first.number in
+    record {
+      transcript = transcript;
+      roots_are = all.roots ∙ (same.roots ∙ first.roots_are);
+      listing = listing;
+      first = opens.first;
+      scanned = opens.round;
+      later = all.more;
+      begins = all.longer ∙ ap (λ es. es ++ all.more) opens.opening_is;
+      made = made;
+      makes = makes_ended (option_map files_after coming) listing script many made ended result later.makes ok;
+      settled = later.edited.settled;
+      mine =
+          ap (λ n. calls (n ∷ []) (seen_of q)) (sym (all.number ∙ zero))
+          ∙ (all.own ∙ ap (λ es. es ++ (flat_map entries_of made ++ map result_entry later.edited.settled))
+          (ap (λ n. calls (n ∷ []) (seen_of o)) zero ∙ (ap (calls (0 ∷ [])) opens.opening_is ∙ opening_mine opens.first)));
+      each = later.edited.each;
+      answered = All-weaker (IsAnswered w) (IsAnswered q) (λ x h. answered_moved w q [] 0 (edit_event (edit_of x)) (reply_of x.answer) m h) made later.edited.answered;
+      results = All-weaker (HasOwnResults (seen_of w)) (HasOwnResults (seen_of q)) (λ x h. own_moved w q [] x m h) made later.edited.results;
+      last_results = results_ended w q made ended result m later.results ok;
+      cause = cause;
+    }
+
+-- it was stopped before the work
+pub served_start : (roots : List Name) (coming : Option (List Files)) (listing : Files) (script : List Edit) (many : ℕ) (stop : ServeStop) (p o : Pass)
+    → IsFirst roots p → SameKnower p o → Opens coming listing (seen_of o) → HasTranscript o → IsCause coming o stop → Served roots coming script many (Err stop) o
+served_start roots coming listing script many stop p o first same opens transcript cause =
+    served_end roots coming listing script many [] (Err stop) (Err stop) p o o o first same opens
+    (record { edited = edited_none o; makes = record { rounds = []; are = tt; rest = script; front = refl; all = tt; many_are = tt }; results = tt })
+    tt (moved_none o) transcript cause
+
+-- the editor's pass knows its own number, from the first on
+pub knows_opened : (roots : List Name) (p o : Pass) → IsFirst roots p → SameKnower p o → KnowsOwn o
+knows_opened roots p o first same =
+    subst (λ ks. has (number_of o) ks ≡ true) (sym same.known)
+    (subst (λ n. has n (known_of p) ≡ true) (sym same.number) (knows_first roots p first))
+
+-- how it ended, where nothing failed at the end
+pub status_ok : (gathered : Gathered) (ended result : End) → (result ≡ status_after gathered ended) ⊎ ((result ≡ Err Unwritten) ⊎ (result ≡ Err NoMemory)) → OnOk result (IsOk ended)
+status_ok gathered (Ok x) (Ok y) h = refl
+status_ok gathered (Err x) (Ok y) (inl h) = absurd (cc)
+status_ok gathered (Err x) (Ok y) (inr (inl h)) = absurd (cc)
+status_ok gathered (Err x) (Ok y) (inr (inr h)) = absurd (cc)
+status_ok gathered ended (Err y) h = tt
+
+-- how it ends by what the jobs left
+abbrev left_by : Bool → Bool → Bool → End
+left_by memory full fault = if memory then Err NoMemory else if full then Err (AtLimit Transcript) else if fault then Err Fault else Ok tt
+
+choose_ok : (memory full fault : Bool) (y : Unit {0}) → ◌≡◌ {A = End} (Ok y) (left_by memory full fault) → fault ≡ false
+choose_ok true full fault y h = absurd (cc)
+choose_ok false true fault y h = absurd (cc)
+choose_ok false false true y h = absurd (cc)
+choose_ok false false false y h = refl
+
+pub status_well : (A : Type 0) (gathered : Gathered) (ended result : End) → (result ≡ status_after gathered ended) ⊎ ((result ≡ Err Unwritten) ⊎ (result ≡ Err NoMemory))
+    → OnOk ended (gathered.fault ≡ false → A) → OnOk result A
+status_well A gathered (Ok x) (Ok y) (inl h) f = f (choose_ok gathered.memory gathered.full gathered.fault y h)
+status_well A gathered (Ok x) (Ok y) (inr (inl h)) f = absurd (cc)
+status_well A gathered (Ok x) (Ok y) (inr (inr h)) f = absurd (cc)
+status_well A gathered (Err x) (Ok y) (inl h) f = absurd (cc)
+status_well A gathered (Err x) (Ok y) (inr (inl h)) f = absurd (cc)
+status_well A gathered (Err x) (Ok y) (inr (inr h)) f = absurd (cc)
+status_well A gathered ended (Err y) h f = tt
+
+choose_fault : (memory full fault : Bool) → ◌≡◌ {A = End} (Err Fault) (left_by memory full fault) → fault ≡ true
+choose_fault true full fault h = absurd (cc)
+choose_fault false true fault h = absurd (cc)
+choose_fault false false true h = refl
+choose_fault false false false h = absurd (cc)
+
+fault_after : (gathered : Gathered) (ended : End) (n n' p p' : ℕ) → Err Fault ≡ status_after gathered ended → Finds gathered ended n n' p p' → Rose n n' ⊎ Rose p p'
+fault_after gathered (Ok x) n n' p p' h finds = finds.of_jobs (choose_fault gathered.memory gathered.full gathered.fault h)
+fault_after gathered (Err x) n n' p p' h finds = inl (finds.of_net (sym h))
+
+-- a fault at the end is one that was found
+pub status_fault : (gathered : Gathered) (ended result : End) (n n' p p' : ℕ) → (result ≡ status_after gathered ended) ⊎ ((result ≡ Err Unwritten) ⊎ (result ≡ Err NoMemory))
+    → Finds gathered ended n n' p p' → result ≡ Err Fault → Rose n n' ⊎ Rose p p'
+status_fault gathered ended result n n' p p' (inl h) finds f = fault_after gathered ended n n' p p' (sym f ∙ h) finds
+status_fault gathered ended result n n' p p' (inr (inl h)) finds f = absurd (let z : ◌≡◌ {A = End} (Err Unwritten) (Err Fault) = sym h ∙ f in cc)
+status_fault gathered ended result n n' p p' (inr (inr h)) finds f = absurd (let z : ◌≡◌ {A = End} (Err NoMemory) (Err Fault) = sym h ∙ f in cc)
+
+choose_tree : (memory full fault : Bool) → ◌≡◌ {A = End} (Err Tree) (left_by memory full fault) → ⊥
+choose_tree true full fault = λ h. cc
+choose_tree false true fault = λ h. cc
+choose_tree false false true = λ h. cc
+choose_tree false false false = λ h. cc
+
+tree_after : (gathered : Gathered) (ended : End) → Err Tree ≡ status_after gathered ended → ended ≡ Err Tree
+tree_after gathered (Ok x) h = absurd (choose_tree gathered.memory gathered.full gathered.fault h)
+tree_after gathered (Err x) h = sym h
+
+pub status_tree : (gathered : Gathered) (ended result : End) → (result ≡ status_after gathered ended) ⊎ ((result ≡ Err Unwritten) ⊎ (result ≡ Err NoMemory)) → result ≡ Err Tree → ended ≡ Err Tree
+status_tree gathered ended result (inl h) f = tree_after gathered ended (sym f ∙ h)
+status_tree gathered ended result (inr (inl h)) f = absurd (let z : ◌≡◌ {A = End} (Err Unwritten) (Err Tree) = sym h ∙ f in cc)
+status_tree gathered ended result (inr (inr h)) f = absurd (let z : ◌≡◌ {A = End} (Err NoMemory) (Err Tree) = sym h ∙ f in cc)
+
+choose_written : (memory full fault : Bool) → left_by memory full fault ≡ Err Unwritten → ⊥
+choose_written true full fault = λ h. cc
+choose_written false true fault = λ h. cc
+choose_written false false true = λ h. cc
+choose_written false false false = λ h. cc
+
+-- the work doesn't end by the output
+pub status_written : (coming : Option (List Files)) (p : Pass) (gathered : Gathered) (ended : End) → IfErr ended (IsWorkCause coming p) → status_after gathered ended ≢ Err Unwritten
+status_written coming p gathered (Ok x) h = choose_written gathered.memory gathered.full gathered.fault
+status_written coming p gathered (Err stop) h = λ e. work_written coming p stop h (err_is (Err stop) stop Unwritten refl e)
+
+-- the cause of an end that the jobs left
+choose_cause : (coming : Option (List Files)) (q : Pass) (memory full fault : Bool) (result : End) → result ≡ left_by memory full fault
+    → (result ≡ Err (AtLimit Transcript) → full ≡ true → IsNearlyFull (seen_of q)) → HasCause coming q result
+choose_cause coming q true full fault result h nearly = subst (HasCause coming q) (sym h) tt
+choose_cause coming q false true fault result h nearly = subst (HasCause coming q) (sym h) (nearly h refl)
+choose_cause coming q false false true result h nearly = subst (HasCause coming q) (sym h) tt
+choose_cause coming q false false false result h nearly = subst (HasCause coming q) (sym h) tt
+
+cause_after : (coming : Option (List Files)) (w q : Pass) (gathered : Gathered) (ended result : End) → result ≡ status_after gathered ended → IfErr ended (IsWorkCause (option_map files_after coming) w)
+    → Moved w q [] → (all_given w ≡ true → all_given q ≡ true) → (result ≡ Err (AtLimit Transcript) → gathered.full ≡ true → IsNearlyFull (seen_of q)) → HasCause coming q result
+cause_after coming w q gathered (Ok x) result h cause m given nearly = choose_cause coming q gathered.memory gathered.full gathered.fault result h nearly
+cause_after coming w q gathered (Err stop) result h cause m given nearly = subst (HasCause coming q) (sym h) (work_cause coming w q stop m given cause)
+
+pub status_cause : (coming : Option (List Files)) (w q : Pass) (gathered : Gathered) (ended result : End)
+    → (result ≡ status_after gathered ended) ⊎ ((result ≡ Err Unwritten) ⊎ (result ≡ Err NoMemory)) → IfErr ended (IsWorkCause (option_map files_after coming) w)
+    → Moved w q [] → (all_given w ≡ true → all_given q ≡ true) → (result ≡ Err (AtLimit Transcript) → gathered.full ≡ true → IsNearlyFull (seen_of q)) → HasCause coming q result
+status_cause coming w q gathered ended result (inl h) cause m given nearly = cause_after coming w q gathered ended result h cause m given nearly
+status_cause coming w q gathered ended result (inr (inl h)) cause m given nearly = subst (HasCause coming q) (sym h) tt
+status_cause coming w q gathered ended result (inr (inr h)) cause m given nearly = subst (HasCause coming q) (sym h) tt
+
+-- a pass of the jobs that is nearly full lies within the last
+all_middle : {X : Type 0} (P : X → Type 0) (front back : List X) (x : X) → All P (front ++ x ∷ back) → P x
+all_middle P [] back x h = All-head P x back h
+all_middle P (f ∷ front) back x h = all_middle P front back x (All-tail P f (front ++ x ∷ back) h)
+
+pub full_within : (passes : List Pass) (q : Pass) → SomeFull passes → All (λ p. IsWithin p q) passes → IsNearlyFull (seen_of q)
+full_within passes q f h =
+    let w = all_middle (λ p. IsWithin p q) f.front f.back f.pass (subst (All (λ p. IsWithin p q)) f.whole h) in
+    subst IsNearlyFull (sym w.whole) (nearly_full_longer (seen_of f.pass) w.more f.full)
+
+-- writing
+pub front_longer : (a b : Option (List ℕ)) (text more : List ℕ) → WritesFront a b text → WritesFront a b (text ++ more)
+front_longer a b text more w = record {
+  front = w.front;
+  rest = w.rest ++ more;
+  whole = sym (append_assoc w.front w.rest more) ∙ ap (λ x. x ++ more) w.whole;
+  out = w.out;
+}
+
+-- the text of a report is that of the transcript of the pass that has gone on
+report_is : (p q : Pass) (logs : List Log) (lines : List ReportLine) (text : List ℕ) → Moved p q [] → text ≡ report_text lines
+    → lines ≡ report_of (roots_of p) (seen_of q) ++ map Line (flat_map log_lines logs) → text ≡ report_with q logs
+report_is p q logs lines text m is all =
+    is ∙ (ap report_text all ∙ ap (λ roots. report_text (report_of roots (seen_of q) ++ map Line (flat_map log_lines logs))) (sym m.roots))
+
+pub reported_all : (p q : Pass) (logs : List Log) (lines : List ReportLine) (text : List ℕ) (ended : End) (old new : Option (List ℕ)) → Moved p q [] → text ≡ report_text lines
+    → lines ≡ report_of (roots_of p) (seen_of q) ++ map Line (flat_map log_lines logs) → Appends old new text → Reported q ended old new
+reported_all p q logs lines text ended old new m is all w =
+    let whole = subst (Appends old new) (report_is p q logs lines text m is all) w in
+    record { logs = logs; front = front_all old new (report_with q logs) whole; whole = λ _. whole }
+
+pub reported_front : (p q : Pass) (logs : List Log) (lines : List ReportLine) (text : List ℕ) (old new : Option (List ℕ)) → Moved p q [] → text ≡ report_text lines
+    → lines ≡ report_of (roots_of p) (seen_of q) ++ map Line (flat_map log_lines logs) → WritesFront old new text → Reported q (Err Unwritten) old new
+reported_front p q logs lines text old new m is all w =
+    record { logs = logs; front = subst (WritesFront old new) (report_is p q logs lines text m is all) w; whole = λ h. absurd h }
+
+-- nothing of the report was written
+pub reported_none : (p : Pass) (old : Option (List ℕ)) → Reported p (Err NoMemory) old old
+reported_none p old = record { logs = []; front = front_none old (report_with p []); whole = λ h. absurd h }
+
+pub reported_memory : (p : Pass) (r : End) (old : Option (List ℕ)) → r ≡ Err NoMemory → Reported p r old old
+reported_memory p r old e = subst (λ x. Reported p x old old) (sym e) (reported_none p old)
+
+pub reported_cut : (p q : Pass) (logs : List Log) (lines : List ReportLine) (text : List ℕ) (r : End) (old new : Option (List ℕ)) → r ≡ Err Unwritten → Moved p q [] → text ≡ report_text lines
+    → lines ≡ report_of (roots_of p) (seen_of q) ++ map Line (flat_map log_lines logs) → WritesFront old new text → Reported q r old new
+reported_cut p q logs lines text r old new e m is all w = subst (λ x. Reported q x old new) (sym e) (reported_front p q logs lines text old new m is all w)
+
+-- the line of the port was written, or a front of it
+pub wrote_header : (port : ℕ) (p : Pass) (stop : ServeStop) (old new : Option (List ℕ)) → WritesFront old new (header port) → ¬ IsReported (Err stop) → WroteReport port p (Err stop) old new
+wrote_header port p stop old new w never = record { logs = []; front = front_longer old new (header port) (report_with p []) w; whole = λ h. absurd (never h) }
+
+-- and the report
+pub wrote_report : (port : ℕ) (p : Pass) (result : End) (a b c : Option (List ℕ)) → Appends a b (header port) → Reported p result b c → WroteReport port p result a c
+wrote_report port p result a b c head r = record {
+  logs = r.logs;
+  front = front_more a b c (header port) (report_with p r.logs) [] (header port ++ report_with p r.logs) head r.front (ap (λ x. header port ++ x) (append-nil (report_with p r.logs)));
+  whole = λ h. Appends-trans a b c (header port) (report_with p r.logs) head (r.whole h);
+}
+
+later_appends : (port : ℕ) (p : Pass) (logs : List Log) (a b c : Option (List ℕ)) (last : List ℕ) → Appends a b (header port ++ report_with p logs) → Appends b c last
+    → Appends a c (header port ++ (report_with p logs ++ last))
+later_appends port p logs a b c last w l =
+    subst (Appends a c) (append_assoc (header port) (report_with p logs) last) (Appends-trans a b c (header port ++ report_with p logs) last w l)
+
+appends_none : (old : Option (List ℕ)) → Appends old old []
+appends_none None = tt
+appends_none (Some xs) = sym (append-nil xs)
+
+none_front : (xs ys : List ℕ) → xs ++ ys ≡ [] → xs ≡ []
+none_front [] ys e = refl
+none_front (x ∷ xs) ys e = absurd (cc)
+
+-- a front of nothing is nothing
+nothing_more : (b c : Option (List ℕ)) → WritesFront b c [] → Appends b c []
+nothing_more b c w = subst (Appends b c) (none_front w.front w.rest w.whole) w.out
+
+-- a front of a text, and then nothing
+front_still : (a b c : Option (List ℕ)) (text : List ℕ) → WritesFront a b text → Appends b c [] → WritesFront a c text
+front_still a b c text w l = record {
+  front = w.front;
+  rest = w.rest;
+  whole = w.whole;
+  out = subst (Appends a c) (append-nil w.front) (Appends-trans a b c w.front [] w.out l);
+}
+
+as_last : (port : ℕ) (p : Pass) (logs : List Log) → header port ++ report_with p logs ≡ header port ++ (report_with p logs ++ [])
+as_last port p logs = ap (λ x. header port ++ x) (sym (append-nil (report_with p logs)))
+
+no_last : (port : ℕ) (p : Pass) (stop : ServeStop) (a b c : Option (List ℕ)) (before now : ℕ) → last_text {T = Unit {0}} (Err stop) ≡ [] → ¬ IsReported (Err stop)
+    → WroteReport port p (Err stop) a b → WritesFront b c (last_text {T = Unit {0}} (Err stop)) → Wrote port p (Err stop) a c before now
+no_last port p stop a b c before now none never w l = record {
+  logs = w.logs;
+  front =
+      subst (WritesFront a c) (as_last port p w.logs ∙ ap (λ x. header port ++ (report_with p w.logs ++ x)) (sym none))
+      (front_still a b c (header port ++ report_with p w.logs) w.front (nothing_more b c (subst (WritesFront b c) none l)));
+  whole = λ h _. absurd (never h);
+}
+
+with_last : (port : ℕ) (p : Pass) (result : End) (a b c : Option (List ℕ)) (before mid now : ℕ) → IsReported result
+    → WroteReport port p result a b → WroteEarly result b c mid now → before ≤ mid → mid ≤ now → Wrote port p result a c before now
+with_last port p result a b c before mid now is w l less more = record {
+  logs = w.logs;
+  front =
+      front_more a b c (header port ++ report_with p w.logs) (last_text result) [] (header port ++ (report_with p w.logs ++ last_text result)) (w.whole is) l.front
+      (ap (λ x. (header port ++ report_with p w.logs) ++ x) (append-nil (last_text result)) ∙ append_assoc (header port) (report_with p w.logs) (last_text result));
+  whole = λ _ not_risen. later_appends port p w.logs a b c (last_text result) (w.whole is) (l.whole (λ r. not_risen (rose_later before mid now now less (omega arith) r)));
+}
+
+-- and the line of a limit
+pub wrote_last : (port : ℕ) (p : Pass) (result : End) (a b c : Option (List ℕ)) (before mid now : ℕ)
+    → WroteReport port p result a b → WroteEarly result b c mid now → before ≤ mid → mid ≤ now → Wrote port p result a c before now
+wrote_last port p (Ok x) a b c before mid now w l less more = with_last port p (Ok x) a b c before mid now tt w l less more
+wrote_last port p (Err Unwritten) a b c before mid now w l less more = no_last port p Unwritten a b c before now refl (λ h. h) w l.front
+wrote_last port p (Err Tree) a b c before mid now w l less more = with_last port p (Err Tree) a b c before mid now tt w l less more
+wrote_last port p (Err Fault) a b c before mid now w l less more = with_last port p (Err Fault) a b c before mid now tt w l less more
+wrote_last port p (Err (AtLimit limit)) a b c before mid now w l less more = with_last port p (Err (AtLimit limit)) a b c before mid now tt w l less more
+wrote_last port p (Err NoMemory) a b c before mid now w l less more = no_last port p NoMemory a b c before now refl (λ h. h) w l.front
+
+pub early_last : (result : End) (a b c : Option (List ℕ)) (before mid now : ℕ) → b ≡ a → before ≤ mid → WroteEarly result b c mid now → WroteEarly result a c before now
+early_last result a b c before mid now same less w = record {
+  front = subst (λ x. WritesFront x c (last_text result)) same w.front;
+  whole = λ not_risen. subst (λ x. Appends x c (last_text result)) same (w.whole (λ r. not_risen (rose_later before mid now now less (omega arith) r)));
+}
+
+-- a line was written, or a front of it
+wrote_whole : {E : Type 0} (r : Result (Unit {0}) E) (old new : Option (List ℕ)) (text : List ℕ) (k k' : ℕ) → OnOk r (Appends old new text) → OnErr r (Rose k k') → ¬ Rose k k' → Appends old new text
+wrote_whole (Ok x) old new text k k' done failed not_risen = done
+wrote_whole (Err x) old new text k k' done failed not_risen = absurd (not_risen failed)
+
+pub wrote_line : {E : Type 0} (result : End) (r : Result (Unit {0}) E) (old new : Option (List ℕ)) (text : List ℕ) (k k' : ℕ) → text ≡ last_text result → WritesFront old new text
+    → OnOk r (Appends old new text) → OnErr r (Rose k k') → WroteEarly result old new k k'
+wrote_line result r old new text k k' is w done failed = record {
+  front = subst (WritesFront old new) is w;
+  whole = λ not_risen. subst (Appends old new) is (wrote_whole r old new text k k' done failed not_risen);
+}
+
+-- all that the call says it wrote
+pub serve_wrote : (roots : List Name) (coming : Option (List Files)) (script : List Edit) (many : ℕ) (result : End) (heard : Option ℕ) (a b c : Option (List ℕ)) (before mid now : ℕ)
+    → ((port : ℕ) × (p : Pass) × (heard ≡ Some port) × Served roots coming script many result p × WroteReport port p result a b) ⊎ (StopsEarly coming result × (b ≡ a))
+    → WroteEarly result b c mid now → before ≤ mid → mid ≤ now
+    → ((port : ℕ) × (p : Pass) × (heard ≡ Some port) × Served roots coming script many result p × Wrote port p result a c before now) ⊎ (StopsEarly coming result × WroteEarly result a c before now)
+serve_wrote roots coming script many result heard a b c before mid now (inl (port, p, h, s, w)) l x y = inl (port, p, h, s, wrote_last port p result a b c before mid now w l x y)
+serve_wrote roots coming script many result heard a b c before mid now (inr (s, e)) l x y = inr (s, early_last result a b c before mid now e x l)
+
+-- it stopped before it listened
+pub stops_memory : (coming : Option (List Files)) (r : End) → r ≡ Err NoMemory → StopsEarly coming r
+stops_memory coming r e = record {
+  cause = inl e;
+  stopped = subst (λ x. OnOk x ⊥) (sym e) tt;
+  written = λ u. let z : ◌≡◌ {A = End} (Err NoMemory) (Err Unwritten) = sym e ∙ u in cc;
+}
+
+pub stops_at : (coming : Option (List Files)) (p : Pass) (r : End) (stop : ServeStop) → r ≡ Err stop → IsCause coming p stop → stop ≢ Unwritten → StopsEarly coming r
+stops_at coming p r stop e cause never = record {
+  cause = inr (p, subst (HasCause coming p) (sym e) cause);
+  stopped = subst (λ x. OnOk x ⊥) (sym e) tt;
+  written = λ u. never (err_is r stop Unwritten e u);
+}
+
+pub stops_edit : (coming : Option (List Files)) (p : Pass) (r : End) (stop : ServeStop) → Passes r stop → IsEditCause coming p stop → StopsEarly coming r
+stops_edit coming p r stop told h = stops_at coming p r stop (told.1 ∙ ap Err told.2) (first_cause coming p stop h) (edit_written coming p stop h)
+
+pub stops_outside : (coming : Option (List Files)) (p : Pass) (r : End) (fault : OutFault) → Passes r (stop_outside fault) → StopsEarly coming r
+stops_outside coming p r fault told = stops_at coming p r (stop_outside fault) (told.1 ∙ ap Err told.2) (outside_cause coming p fault) (outside_written fault)
+
+-- an end, by what it was made of
+pub end_as : {X : Type 0} (result ended other : End) → (result ≡ ended) ⊎ X → ended ≡ other → (result ≡ other) ⊎ X
+end_as result ended other (inl e) f = inl (e ∙ f)
+end_as result ended other (inr x) f = inr x
+
+-- it stopped when it had listened, and before the work
+pub served_early : (roots : List Name) (coming : Option (List Files)) (listing : Files) (script : List Edit) (many port : ℕ) (stop : ServeStop) (r : End) (p o : Pass) (old new : Option (List ℕ))
+    → r ≡ Err stop → IsFirst roots p → SameKnower p o → Opens coming listing (seen_of o) → HasTranscript o → IsCause coming o stop → ¬ IsReported (Err stop) → WritesFront old new (header port)
+    → Served roots coming script many r o × WroteReport port o r old new
+served_early roots coming listing script many port stop r p o old new e first same opens transcript cause never w = (
+  subst (λ x. Served roots coming script many x o) (sym e) (served_start roots coming listing script many stop p o first same opens transcript cause),
+  subst (λ x. WroteReport port o x old new) (sym e) (wrote_header port o stop old new w never),
+)

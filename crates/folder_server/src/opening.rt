@@ -1,0 +1,71 @@
+// The beginning of a server, before it listens: its folder is scanned, and the modules are the first edits.
+ghost use Rattle.std.specs.Prelude.{◌≡◌, ◌≤◌, [], All, Err, IfErr, IfOk, IsErrOf, OnOk, Some, true};
+ghost use Rattle.hmr_base.specs.Causes.{Rose};
+ghost use Rattle.folders.specs.Files.{MayOpen, files_after};
+ghost use Rattle.std.specs.Option.{option_map};
+ghost use Rattle.hmr_hub.specs.Calls.{IsFirst, SameKnower};
+ghost use Rattle.hmr_hub.specs.Passes.{HasTranscript, IsPassOf, is_alone, number_of, seen_of};
+ghost use Rattle.core_model.specs.Roots.{AreRoots};
+ghost use Rattle.folder_server.specs.Causes.{IsEditCause};
+ghost use Rattle.folder_server.specs.Openings.{Opens};
+
+use crate::changes::changes_between;
+use crate::stop::ServeStop;
+use folder_watch::{Listing, scan};
+use folders::Tree;
+use hmr_hub::{Hub, HubFault, Pass};
+use hmr_types::ModName;
+use hub_editor::open_sources;
+use std::alloc::Global;
+use std::sync::Wait;
+use std::thread::Threads;
+
+/// The hub of roots that are those of a page. Only want of memory refuses.
+pub(crate) fn new_hub(alloc: Global, roots: Vec<ModName>) -> Result<(Hub, Pass), ServeStop>
+    requires roots { AreRoots roots.items }
+    ensures pass { IfOk result (λ made. IsPassOf made.0 made.1) }
+    ensures first { IfOk result (λ made. IsFirst roots.items made.1) }
+    ensures transcript { IfOk result (λ made. HasTranscript made.1) }
+    ensures memory { IfErr result (λ stop. stop ≡ ServeStop.NoMemory) }
+{
+    match Hub::new(alloc, roots) {
+        Ok(made) => Ok(made),
+        Err(HubFault::Roots(_)) => unreachable!(),
+        Err(HubFault::NoMemory) => Err(ServeStop::NoMemory),
+    }
+}
+
+/// Scans the folder for the first time, makes the edits that bring its modules in order of their names, and
+/// settles them by so many workers. It gives what it listed.
+pub(crate) fn open_folder<T: Tree, R: Threads + Wait + Sync>(
+    rt: &R,
+    alloc: Global,
+    hub: &Hub,
+    pass: &mut Pass,
+    tree: &mut T,
+    folder: &str,
+    workers: u32,
+) -> Result<Listing, ServeStop>
+    requires of { IsPassOf hub.now pass.old }
+    requires number { number_of pass.old ≡ 0 }
+    requires alone { is_alone pass.old ≡ true }
+    requires fresh { seen_of pass.old ≡ [] }
+    requires transcript { HasTranscript pass.old }
+    requires may { MayOpen (T.asked tree.old) folder.now }
+    ensures of { IsPassOf hub.now pass.new }
+    ensures same { SameKnower pass.old pass.new }
+    ensures transcript { HasTranscript pass.new }
+    ensures opens { IfOk result (λ listing. Opens (T.coming tree.old) listing (seen_of pass.new)) }
+    ensures no_other { MayOpen (T.asked tree.new) folder.now }
+    ensures asked { OnOk result (T.asked tree.new ≡ Some folder.now) }
+    ensures coming { OnOk result (T.coming tree.new ≡ option_map files_after (T.coming tree.old)) }
+    ensures later { T.faults tree.old ≤ T.faults tree.new }
+    ensures tree_fault { IsErrOf result ServeStop.Tree → Rose (T.faults tree.old) (T.faults tree.new) }
+    ensures cause { IfErr result (IsEditCause (T.coming tree.old) pass.new) }
+{
+    let listing = scan(alloc, tree, folder)?;
+    let none = Listing::new(alloc);
+    let edits = changes_between(alloc, &none, &listing)?;
+    open_sources(rt, alloc, hub, pass, edits, workers as usize)?;
+    Ok(listing)
+}

@@ -1,0 +1,22 @@
+use Rattle.serve_crew.proofs.Counts.{begun_in_all}
+use Rattle.serve_crew.proofs.Faults.{unfaulted}
+use Rattle.serve_crew.proofs.Passes.{divided_then, given_ok, on_ok}
+use Rattle.serve_crew.proofs.crew.Crew.begin_all.Goals as goal
+
+pub returns-in_err-begin_pairs-clause-divided : goal.returns-in_err-begin_pairs-clause-divided
+returns-in_err-begin_pairs-clause-divided g c = divided_then _ _ _ c.begin_workers.ensures.divided c.begin_pairs.ensures.divided
+
+pub returns-clause-divided : goal.returns-clause-divided
+returns-clause-divided g c = divided_then _ _ _ (divided_then _ _ _ c.begin_workers.ensures.divided c.begin_pairs.ensures.divided) c.begin_sessions.ensures.divided
+
+pub returns-clause-begun : goal.returns-clause-begun
+returns-clause-begun g c =
+    on_ok c.begin_sessions.result
+    (λ begun well.
+    let before = unfaulted _ _ _ _ _ _ c.begin_sessions.ensures.gathers well in
+    begun_in_all _ _ _ _ _ _ _ c.requires.none (c.in_ok-begin_workers.ensures.begun (unfaulted _ _ _ _ _ _ c.begin_pairs.ensures.gathers before)) (c.in_ok-begin_pairs.ensures.begun before) (begun well))
+    c.begin_sessions.ensures.begun
+
+pub returns-clause-spent : goal.returns-clause-spent
+returns-clause-spent g c =
+    λ h. c.begin_sessions.ensures.spent (given_ok _ _ _ c.in_ok-begin_pairs.ensures.spent (given_ok _ _ _ c.in_ok-begin_workers.ensures.spent h))

@@ -1,0 +1,30 @@
+use Rattle.std.proofs.Common.{◌∙◌, arith}
+use Rattle.serve_crew.proofs.Counts.{begun_then}
+use Rattle.serve_crew.proofs.Faults.{gathers_then, unfaulted}
+use Rattle.serve_crew.proofs.Passes.{divided_then, given_ok}
+use Rattle.serve_crew.proofs.crew.Crew.begin_sessions.Goals as goal
+
+pub returns-in_err-begin_outside-clause-gathers : goal.returns-in_err-begin_outside-clause-gathers
+returns-in_err-begin_outside-clause-gathers g c = gathers_then _ _ _ _ _ _ _ _ _ c.loop.invariant.gathers c.begin_outside.ensures.gathers
+
+pub returns-in_err-begin_outside-clause-divided : goal.returns-in_err-begin_outside-clause-divided
+returns-in_err-begin_outside-clause-divided g c = divided_then _ _ _ c.loop.invariant.divided c.begin_outside.ensures.divided
+
+pub loop-preserved : goal.loop-preserved
+loop-preserved g c =
+    let i = c.loop.invariant in
+    let b = c.begin_outside.ensures in
+    let ok = c.in_ok-begin_outside.ensures in
+    record {
+      hub = b.hub ∙ i.hub;
+      crew = b.crew;
+      of = b.of;
+      divided = divided_then _ _ _ i.divided b.divided;
+      gathers = gathers_then _ _ _ _ _ _ _ _ _ i.gathers b.gathers;
+      asked = (b.asked.0 ∙ i.asked.0, b.asked.1 ∙ i.asked.1);
+      given = λ h. given_ok _ _ _ ok.spent (i.given h);
+      begun = λ well. begun_then _ _ _ _ _ _ _ _ _ (i.begun (unfaulted _ _ _ _ _ _ b.gathers well)) (ok.begun well);
+      few = omega (arith, i.few, b.few);
+      kept = omega (arith, i.kept, ok.kept);
+      logs = b.logs ∙ i.logs;
+    }

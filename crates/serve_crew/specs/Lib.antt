@@ -1,0 +1,5 @@
+pub mod Ends
+pub mod Gathers
+pub mod Crews
+pub mod Begun
+pub mod Splits

@@ -1,0 +1,32 @@
+// What a crew is to begin.
+ghost use Rattle.std.specs.Prelude.{◌≡◌, All};
+ghost use Rattle.std.specs.Arc.{arc_value};
+ghost use Rattle.transform_pool.specs.Passes.{IsPassOf, role_of};
+ghost use Rattle.transform_pool.specs.Roles.{taking};
+
+use std::alloc::Global;
+use std::sync::Arc;
+use transform_pool::{JobPass, JobQueue};
+
+/// The workers that are to be begun: one for each taking pass of a queue, each behind a gate.
+#[derive(Drop)]
+pub struct Workers<G: Drop> {
+    pub queue: Arc<JobQueue, Global>,
+    pub takers: Vec<JobPass>,
+    pub gate: G,
+    ghost of: { All (IsPassOf (arc_value queue)) takers.items },
+    ghost take: { All (λ p. role_of p ≡ taking) takers.items },
+}
+
+/// The clients whose sessions are to be begun.
+#[derive(Clone, Copy, Debug)]
+pub struct Clients {
+    /// How many clients of its own the program has, each with a session.
+    pub own: u32,
+    /// How many requests each of these makes.
+    pub turns: u32,
+    /// The port that the net listens at.
+    pub port: u16,
+    /// How many clients from outside get a session.
+    pub outside: u32,
+}

@@ -1,0 +1,22 @@
+use Rattle.std.proofs.Common.{◌≡◌, false, true, sym, subst}
+use Rattle.std.specs.Prelude.{Some}
+use Rattle.sessions.specs.declared.ended.Ended.TheVariants.{LinkFault, Stopped}
+use Rattle.hub_desks.specs.Desks.{SameDesk}
+use Rattle.serve_jobs.specs.Outs.{HasLeft, IsShut, OutOf}
+use Rattle.serve_jobs.specs.declared.job.ServeOut.TheVariants as outs
+use Rattle.serve_jobs.proofs.Clients.{rose_some}
+use Rattle.serve_jobs.proofs.Outs.{session_served}
+use Rattle.serve_jobs.proofs.work.ServeJobJob.work.Goals as goal
+
+pub returns-in-Session : goal.returns-in-Session
+returns-in-Session g c =
+    let j = c.in-Session.field-0 in
+    let served = c.serve_session-ended.new.desk in
+    let link = c.serve_session-ended.new.link in
+    let ended = c.serve_session-ended.result in
+    let out = outs.Session c.leave.new.self link (Some ended) in
+    let same : SameDesk j.desk served = c.serve_session-ended.ensures.stays in
+    let stopped : ended ≡ Stopped → served.full ≡ true = c.serve_session-ended.ensures.stopped.0 in
+    let shut : IsShut g.L.Link link (Some ended) =
+    record { shut = c.serve_session-ended.ensures.shut; faulty = λ e. let failed : ended ≡ LinkFault = cc in rose_some _ _ (c.serve_session-ended.ensures.failed failed) } in
+    subst (λ job. OutOf g.L.Link job out × (false ≡ false) × HasLeft g.L.Link job out) (sym c.in-Session.is) (session_served g.row.G.Denot g.L.Link j served c.leave.new.self link ended same c.leave.ensures.left stopped shut)
