@@ -17,12 +17,12 @@ use Rattle.core_model.specs.Page.{new_plan}
 use Rattle.page_deeds.proofs.Following.{lines_then}
 use Rattle.page_plan.specs.Plans.{IsSamePlan}
 use Rattle.page_plan.specs.Walking.{IsAt}
+use Rattle.plan_under_way.specs.UnderWay.{IsNext, cause_of}
+use Rattle.plan_under_way.specs.declared.under_way.UnderWay.{UnderWay}
+use Rattle.plan_under_way.specs.Telling.{accept_lines, batch_lines}
 use Rattle.hot_runtime.specs.Standing.{IsSound, Keeps}
-use Rattle.hot_runtime.specs.UnderWay.{IsNext, cause_of}
 use Rattle.hot_runtime.specs.declared.runtime.HotRuntime.{HotRuntime}
-use Rattle.hot_runtime.specs.declared.under_way.UnderWay.{UnderWay}
 use Rattle.hot_runtime.proofs.Keeping.{plan_kept, plan_sound, with_under_way}
-use Rattle.hot_runtime.specs.Telling.{accept_lines, batch_lines}
 
 batch_step : (b : Bool) (batch : ℕ) (triggered : List Name) (r : Runtime) → (if b then nothing r else write (line.Batch r.client batch (in_order triggered)) r).0 ≡ r
 batch_step true batch triggered r = refl

@@ -13,26 +13,17 @@ use Rattle.client_model.specs.Requesting.{carry_on, cause_by, hello, request, re
 use Rattle.client_model.specs.Runtime as model
 use Rattle.client_model.specs.Runtime.{Runtime}
 use Rattle.module_language.specs.ModuleLanguage.{module_language}
+use Rattle.plan_under_way.specs.Planned.{IsPlanned}
+use Rattle.plan_under_way.specs.Telling.{cause_lines}
+use Rattle.plan_under_way.specs.UnderWay.{IsUnderWay, cause_of, is_aborted, with_cause_of}
+use Rattle.plan_under_way.specs.declared.cause.Cause.{Cause}
+use Rattle.plan_under_way.specs.declared.under_way.UnderWay.{UnderWay}
 use Rattle.hot_runtime.specs.Becoming.{Becomes}
-use Rattle.hot_runtime.specs.Standing.{IsPlan, IsPlanned, IsPlannedWell, IsSound, Keeps}
-use Rattle.hot_runtime.specs.Telling.{cause_lines}
-use Rattle.hot_runtime.specs.UnderWay.{IsNext, IsUnderWay, cause_of, is_aborted, with_cause_of}
-use Rattle.hot_runtime.specs.declared.cause.Cause.{Cause}
+use Rattle.hot_runtime.specs.Standing.{IsPlan, IsPlannedWell, IsSound, Keeps}
 use Rattle.hot_runtime.specs.declared.runtime.HotRuntime.{HotRuntime}
-use Rattle.hot_runtime.specs.declared.under_way.Next.{Next}
-use Rattle.hot_runtime.specs.declared.under_way.Next.TheVariants.{Fetch, Finish}
-use Rattle.hot_runtime.specs.declared.under_way.UnderWay.{UnderWay}
 use Rattle.hot_runtime.proofs.Keeping.{becomes_of, plan_kept, plan_sound, run_with, with_under_way}
 
-next_caused : (r : Runtime) (p : Plan) (cause : model.Cause) (next : Next) → IsNext r p next → IsNext (with_cause_of cause r) p next
-next_caused r p cause (Fetch n) i = i
-next_caused r p cause (Finish ready) i = record { none_needed = i.none_needed; view = i.view; table = i.table; names = i.names; link = i.link }
-
--- a plan with a cause that was found
-pub caused : (r : Runtime) (p : Plan) (cause : Cause) (u : UnderWay) → IsUnderWay r p u → IsUnderWay (with_cause_of (cause_of cause) r) p (record u { cause = Some cause })
-caused r p cause u i = record { plan = i.plan; walk = i.walk; next = next_caused r p (cause_of cause) u.next i.next; texts = i.texts; pairs = i.pairs; cause = refl }
-
--- its client
+-- the client of a plan for which a cause was found
 pub caused_becomes : {F : Type 0} (cause : model.Cause) (r : Runtime) (h : HotRuntime F) (u v : UnderWay) (tells : List OutLine) → Keeps r h → IsSound h → h.plan ≡ Some u
     → ((p : Plan) → IsUnderWay r p u → IsUnderWay (with_cause_of cause r) p v) → (IsPlanned h.loaded u → IsPlanned h.loaded v) → tells ≡ [] → Becomes (with_cause cause r) (with_under_way h (Some v)) tells
 caused_becomes cause r h u v tells k s is f planned silent = record {

@@ -20,16 +20,16 @@ use Rattle.page_deeds.specs.Standing as deeds
 use Rattle.page_deeds.specs.Standing.{Follows, Orderly, StaysElsewhere}
 use Rattle.page_deeds.specs.declared.page.Page.{Page}
 use Rattle.page_deeds.proofs.Gone.{none_meant, none_stays}
+use Rattle.plan_under_way.specs.declared.under_way.UnderWay.{UnderWay}
+use Rattle.plan_under_way.proofs.Counting.{IsCounted}
+use Rattle.plan_under_way.proofs.Living.{heard_counts, live_apart, live_there, pruned_counts, there_reversed}
+use Rattle.plan_under_way.proofs.Sounding.{counted_of, unsent_of, versions_of}
 use Rattle.hot_runtime.specs.Becoming.{Becomes}
 use Rattle.hot_runtime.specs.Standing.{IsPlan, IsSound, Keeps}
 use Rattle.hot_runtime.specs.declared.runtime.HotRuntime.{HotRuntime}
-use Rattle.hot_runtime.specs.declared.under_way.UnderWay.{UnderWay}
-use Rattle.hot_runtime.proofs.Counting.{IsCounted}
 use Rattle.hot_runtime.proofs.Keeping.{still}
 use Rattle.hot_runtime.proofs.Leaving.{heard_live, not_left, prune_loses, was_there}
-use Rattle.hot_runtime.proofs.Living.{heard_counts, live_apart, live_there, pruned_counts, there_reversed}
 use Rattle.hot_runtime.proofs.Moving.{plan_moved}
-use Rattle.hot_runtime.proofs.Sounding.{counted_of, unsent_of, versions_of}
 
 -- the runtime with another page
 abbrev pub with_page : {F : Type 0} → HotRuntime F → Page F → HotRuntime F

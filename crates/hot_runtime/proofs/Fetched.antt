@@ -20,12 +20,12 @@ use Rattle.client_model.specs.Requesting.{abort_message, apply_or_abort, carry_o
 use Rattle.client_model.specs.Runtime as model
 use Rattle.client_model.specs.Runtime.{Runtime, broken}
 use Rattle.module_language.specs.ModuleLanguage.{module_language}
+use Rattle.plan_under_way.specs.Planned.{IsPlanned}
+use Rattle.plan_under_way.specs.UnderWay.{IsFetched, IsUnderWay, plan_with, with_cause_of}
+use Rattle.plan_under_way.specs.declared.under_way.UnderWay.{UnderWay}
 use Rattle.hot_runtime.specs.Becoming.{Becomes}
-use Rattle.hot_runtime.specs.Reads.{IsBad}
-use Rattle.hot_runtime.specs.Standing.{IsPlan, IsPlanned, IsPlannedWell, IsSound, Keeps}
-use Rattle.hot_runtime.specs.UnderWay.{IsFetched, IsUnderWay, plan_with, with_cause_of}
+use Rattle.hot_runtime.specs.Standing.{IsPlan, IsPlannedWell, IsSound, Keeps}
 use Rattle.hot_runtime.specs.declared.runtime.HotRuntime.{HotRuntime}
-use Rattle.hot_runtime.specs.declared.under_way.UnderWay.{UnderWay}
 use Rattle.hot_runtime.proofs.Keeping.{plan_kept, plan_sound, run_with, with_under_way}
 
 module _ (loaded : Bool) (n : Name) (version : ℕ) (text : Text) where
@@ -63,12 +63,7 @@ module _ (loaded : Bool) (n : Name) (version : ℕ) (text : Text) where
       by true t = absurd (false≢true t)
       by false t = carried_by r.cause p r (subst (λ o. is_answer loaded (request_by o module_language r) (msg.Text n version text) ≡ true) is t)
 
--- a text that can't be read
-pub bad_fetched : (o : Outcome) (r : Runtime) (p : Plan) (n : Name) (version : ℕ) (text : Text) (u : UnderWay) → IsBad o → IsUnderWay (with_cause_of (broken n) r) p u → IsFetched o r p n version text u
-bad_fetched (Good a) r p n version text u b i = absurd b
-bad_fetched (Bad fault) r p n version text u b i = i
-
--- its client
+-- the client of a plan for which a text came
 pub staged_becomes : {F : Type 0} (n : Name) (version : ℕ) (text : Text) (r : Runtime) (h : HotRuntime F) (u v : UnderWay) (tells : List OutLine) → Keeps r h → IsSound h → h.plan ≡ Some u
     → is_answer h.loaded (request module_language r) (msg.Text n version text) ≡ true
     → ((p : Plan) → IsUnderWay r p u → entry_at p r.page.view n ≡ None → IsFetched (module_language.transformed n text) r p n version text v)

@@ -30,19 +30,21 @@ use Rattle.page_deeds.specs.declared.page.Page.{Page}
 use Rattle.page_deeds.specs.Live.{number_of}
 use Rattle.page_deeds.specs.Standing as deeds
 use Rattle.page_deeds.proofs.Following.{lines_then}
-use Rattle.hot_runtime.specs.Applying.{AreCountedIn, AreMade, AreNumbers, HasChanged, IsMadeOf, IsToApply, page_done, planless}
+use Rattle.plan_under_way.specs.Changing.{AreCountedIn, AreMade, AreNumbers, HasChanged, IsMadeOf, page_done}
+use Rattle.plan_under_way.specs.Planned.{count_in, AreCounted, IsPlanned}
+use Rattle.plan_under_way.specs.UnderWay.{IsNext, IsUnderWay, is_applied_told}
+use Rattle.plan_under_way.specs.declared.under_way.Next.TheVariants.{Fetch, Finish}
+use Rattle.plan_under_way.specs.declared.under_way.Ready.{Ready}
+use Rattle.plan_under_way.specs.declared.under_way.UnderWay.{UnderWay}
+use Rattle.plan_under_way.proofs.Altering.{names_once}
+use Rattle.plan_under_way.proofs.Making.{all_births, all_named, names_made}
+use Rattle.plan_under_way.proofs.Orders.{CountsFrom, places_count}
+use Rattle.plan_under_way.proofs.Paging.{entries_counted, new_paged, new_there, page_counted}
+use Rattle.hot_runtime.specs.Applying.{IsToApply, planless}
 use Rattle.hot_runtime.specs.Becoming.{Becomes}
-use Rattle.hot_runtime.specs.Standing.{HasRoom, count_in, count_of, AreCounted, IsPlan, IsPlanned, IsPlannedWell, IsSound, Keeps}
-use Rattle.hot_runtime.specs.UnderWay.{IsNext, IsUnderWay, is_applied_told}
-use Rattle.hot_runtime.specs.declared.under_way.Next.TheVariants.{Fetch, Finish}
+use Rattle.hot_runtime.specs.Standing.{HasRoom, count_of, IsPlan, IsPlannedWell, IsSound, Keeps}
 use Rattle.hot_runtime.specs.declared.runtime.HotRuntime.{HotRuntime}
-use Rattle.hot_runtime.specs.declared.under_way.Ready.{Ready}
-use Rattle.hot_runtime.specs.declared.under_way.UnderWay.{UnderWay}
-use Rattle.hot_runtime.proofs.Altering.{names_once}
 use Rattle.hot_runtime.proofs.Keeping.{still}
-use Rattle.hot_runtime.proofs.Making.{all_births, all_named, names_made}
-use Rattle.hot_runtime.proofs.Orders.{CountsFrom, places_count}
-use Rattle.hot_runtime.proofs.Paging.{entries_counted, new_paged, new_there, page_counted}
 
 -- A client that tells that a plan is applied.
 

@@ -13,13 +13,13 @@ use Rattle.client_model.specs.Firing.{Firing, fire, heard, hear_all}
 use Rattle.client_model.specs.Past.{Past, event, runtime_after}
 use Rattle.client_model.specs.Runtime.{Runtime, Opening}
 use Rattle.module_language.specs.ModuleLanguage.{module_language}
+use Rattle.plan_under_way.specs.declared.under_way.UnderWay.{UnderWay}
 use Rattle.hot_runtime.specs.Answers.{IsFired, UnlessNoMemory}
 use Rattle.hot_runtime.specs.Becoming.{Becomes, Stands}
 use Rattle.hot_runtime.specs.Standing.{IsPlan, IsSound, Keeps, StandsFor}
 use Rattle.hot_runtime.specs.declared.fault.RuntimeFault.{RuntimeFault}
 use Rattle.hot_runtime.specs.declared.fault.RuntimeFault.TheVariants.{Stopped}
 use Rattle.hot_runtime.specs.declared.runtime.HotRuntime.{HotRuntime}
-use Rattle.hot_runtime.specs.declared.under_way.UnderWay.{UnderWay}
 use Rattle.hot_runtime.proofs.Taken.{unless_map}
 
 -- with a plan under way a page is busy

@@ -12,10 +12,10 @@ use Rattle.client_model.specs.Runtime.{Runtime, Cause, Did}
 use Rattle.handler_table.specs.Held.{Answers}
 use Rattle.page_deeds.specs.Standing as deeds
 use Rattle.page_deeds.specs.declared.page.Page.{Page}
+use Rattle.plan_under_way.specs.declared.under_way.UnderWay.{UnderWay}
 use Rattle.hot_runtime.specs.Becoming.{Becomes}
 use Rattle.hot_runtime.specs.Standing.{IsPlan, IsPlannedWell, IsSound, Keeps, KeepsWords}
 use Rattle.hot_runtime.specs.declared.runtime.HotRuntime.{HotRuntime}
-use Rattle.hot_runtime.specs.declared.under_way.UnderWay.{UnderWay}
 
 -- the runtime with this plan under way
 abbrev pub run_with : Runtime → Option Plan → List (Name × Text) → List (Name × Name) → Option Cause → Runtime

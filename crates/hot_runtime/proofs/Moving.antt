@@ -7,11 +7,11 @@ use Rattle.core_model.specs.Page.{Plan}
 use Rattle.client_model.specs.Instance.{Instance}
 use Rattle.client_model.specs.Language.{Bag}
 use Rattle.client_model.specs.Runtime.{Runtime, Invalidation}
-use Rattle.hot_runtime.specs.UnderWay.{IsNext, IsUnderWay}
+use Rattle.plan_under_way.specs.UnderWay.{IsNext, IsUnderWay}
+use Rattle.plan_under_way.specs.declared.under_way.Next.{Next}
+use Rattle.plan_under_way.specs.declared.under_way.Next.TheVariants.{Fetch, Finish}
+use Rattle.plan_under_way.specs.declared.under_way.UnderWay.{UnderWay}
 use Rattle.hot_runtime.specs.Standing.{IsPlan}
-use Rattle.hot_runtime.specs.declared.under_way.Next.{Next}
-use Rattle.hot_runtime.specs.declared.under_way.Next.TheVariants.{Fetch, Finish}
-use Rattle.hot_runtime.specs.declared.under_way.UnderWay.{UnderWay}
 
 module _ (r : Runtime) (loaded : Bool) (forced : List Name) (plan : Option Plan) (instances : List Instance) (bags : List (Name × Bag)) (unsent : List Invalidation) (shelf : List (Text × ℕ)) (stopped : Bool) where
   -- the runtime with these

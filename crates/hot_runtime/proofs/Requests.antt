@@ -9,10 +9,10 @@ use Rattle.core_model.specs.Page.{Plan}
 use Rattle.client_model.specs.Requesting.{request, request_by, carry_on, hello}
 use Rattle.client_model.specs.Runtime.{Runtime}
 use Rattle.module_language.specs.ModuleLanguage.{module_language}
-use Rattle.hot_runtime.specs.UnderWay.{IsUnderWay}
+use Rattle.plan_under_way.specs.UnderWay.{IsUnderWay}
+use Rattle.plan_under_way.specs.declared.under_way.UnderWay.{UnderWay}
 use Rattle.hot_runtime.specs.Standing.{Keeps, IsPlan}
 use Rattle.hot_runtime.specs.declared.runtime.HotRuntime.{HotRuntime}
-use Rattle.hot_runtime.specs.declared.under_way.UnderWay.{UnderWay}
 
 else_is : {X : Type 0} (b : Bool) (x y : X) → (b ≡ true → ⊥) → y ≡ (if b then x else y)
 else_is true x y f = absurd (f refl)

@@ -3,9 +3,9 @@ use Rattle.std.proofs.Common.{◌≡◌, ap, sym}
 use Rattle.std.specs.Prelude.{OnOk, Option, Result, Ok, Err}
 use Rattle.std.proofs.Math.Path.{subst}
 use Rattle.handler_table.specs.Held.{Answers}
+use Rattle.plan_under_way.specs.declared.under_way.UnderWay.{UnderWay}
 use Rattle.hot_runtime.specs.Standing.{KeepsWords}
 use Rattle.hot_runtime.specs.declared.runtime.HotRuntime.{HotRuntime}
-use Rattle.hot_runtime.specs.declared.under_way.UnderWay.{UnderWay}
 use Rattle.hot_runtime.proofs.Keeping.{with_under_way}
 
 -- what holds anyway holds where all went well

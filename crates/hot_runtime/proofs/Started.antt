@@ -10,9 +10,9 @@ use Rattle.output_lines.specs.declared.out_line.OutLine.TheVariants as line
 use Rattle.core_model.specs.Names.{Name, in_order}
 use Rattle.client_model.specs.Answering.{begin, connect, start_reload, start_update, write_batch}
 use Rattle.client_model.specs.Runtime.{Runtime, and_then}
+use Rattle.plan_under_way.specs.Telling.{accept_lines, batch_lines}
 use Rattle.hot_runtime.specs.Becoming.{Becomes}
 use Rattle.hot_runtime.specs.Standing.{IsSound, Keeps}
-use Rattle.hot_runtime.specs.Telling.{accept_lines, batch_lines}
 use Rattle.hot_runtime.specs.declared.runtime.HotRuntime.{HotRuntime}
 use Rattle.hot_runtime.proofs.Begun.{batch_lines_then, batch_then, update_begins, update_told}
 use Rattle.hot_runtime.proofs.Keeping.{becomes_of}

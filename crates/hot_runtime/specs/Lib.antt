@@ -1,9 +1,5 @@
-pub mod UnderWay
-pub mod Reads
-pub mod Unlinked
 pub mod Standing
 pub mod Answers
 pub mod Showing
 pub mod Becoming
-pub mod Telling
 pub mod Applying

@@ -1,13 +1,11 @@
 -- What a runtime stands for: the definitions' runtime after the messages and events that it took.
-use Rattle.std.specs.Prelude.{◌≡◌, ◌+◌, ℕ, Bool, false, ⊤, length, nat_lt, Option, Some, None, is_some}
+use Rattle.std.specs.Prelude.{◌≡◌, ◌+◌, ℕ, Bool, false, ⊤, length, nat_lt, Option, Some, None}
 use Rattle.std.specs.List.{All}
 use Prim.{⊥}
 use Rattle.update_msgs.specs.Writable.{IsFormat, IsVersion}
 use Rattle.hmr_types.specs.declared.limits.TheConstants.{INSTANCES}
-use Rattle.hmr_types.specs.declared.words.PlanKind.TheVariants.{Load}
 use Rattle.core_model.specs.Names.{Name, at}
 use Rattle.core_model.specs.Page.{Plan}
-use Rattle.core_model.specs.View.{Entry, View}
 use Rattle.client_model.specs.Past.{Past, runtime_after}
 use Rattle.client_model.specs.Runtime.{Runtime, Opening}
 use Rattle.module_language.specs.ModuleLanguage.{module_language}
@@ -15,10 +13,9 @@ use Rattle.handler_table.specs.Held.{Answers}
 use Rattle.page_deeds.specs.Live.{number_of}
 use Rattle.page_deeds.specs.Standing as deeds
 use Rattle.page_deeds.specs.Standing.{KeepWords}
-use Rattle.hot_runtime.specs.UnderWay.{IsUnderWay}
-use Rattle.hot_runtime.specs.declared.under_way.Next.{Next}
-use Rattle.hot_runtime.specs.declared.under_way.Next.TheVariants.{Fetch, Finish}
-use Rattle.hot_runtime.specs.declared.under_way.UnderWay.{UnderWay}
+use Rattle.plan_under_way.specs.Planned.{AreCounted, IsPlanned, count_in}
+use Rattle.plan_under_way.specs.UnderWay.{IsUnderWay}
+use Rattle.plan_under_way.specs.declared.under_way.UnderWay.{UnderWay}
 use Rattle.hot_runtime.specs.declared.runtime.HotRuntime.{HotRuntime}
 
 -- both have a plan, and it is the same; or neither has one
@@ -40,18 +37,7 @@ pub record Keeps {F : Type 0} (r : Runtime) (h : HotRuntime F) : Type 0 where
   pub page : deeds.StandsFor r h.page
   pub stopped : r.stopped ≡ h.stopped
 
--- each entry has the version of a counted edit
-abbrev pub AreCounted : View → Type 0
-AreCounted view = (n : Name) (e : Entry) → at view n ≡ Some e → IsVersion e.version
-
--- what holds of a plan under way: what was fetched has counted versions and is kept as trees, and a load is
--- of a page that isn't loaded
-pub record IsPlanned (loaded : Bool) (u : UnderWay) : Type 0 where
-  pub staged : AreCounted u.plan.staged
-  pub trees : (n : Name) → is_some (at u.trees.entries n) ≡ is_some (at u.plan.staged n)
-  pub loads : u.plan.kind ≡ Load → loaded ≡ false
-
--- and where there is none, nothing
+-- what holds of the plan under way; where there is none, nothing
 abbrev pub IsPlannedWell : Bool → Option UnderWay → Type 0
 IsPlannedWell loaded None = ⊤
 IsPlannedWell loaded (Some u) = IsPlanned loaded u
@@ -69,12 +55,7 @@ pub record IsSound {F : Type 0} (h : HotRuntime F) : Type 0 where
   pub unloaded : h.loaded ≡ false → (n : Name) → number_of h.page.live n ≡ None
   pub unnumbered : h.page.client ≡ 0 → h.loaded ≡ false
 
--- how many instances a plan makes, once all is fetched
-abbrev pub count_in : Next → ℕ
-count_in (Fetch n) = 0
-count_in (Finish ready) = length ready.names.items
-
--- and where there is no plan, none
+-- how many instances the plan under way makes, once all is fetched; where there is no plan, none
 abbrev pub count_of : Option UnderWay → ℕ
 count_of None = 0
 count_of (Some u) = count_in u.next

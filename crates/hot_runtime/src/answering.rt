@@ -9,20 +9,19 @@ ghost use Rattle.client_model.specs.Requesting.{request};
 ghost use Rattle.client_model.specs.Runtime.{Runtime, nothing, write};
 ghost use Rattle.client_model.specs.Taking.{is_applied};
 ghost use Rattle.module_language.specs.ModuleLanguage.{module_language};
+ghost use Rattle.plan_under_way.specs.Telling.{cause_lines};
+ghost use Rattle.plan_under_way.specs.UnderWay.{cause_of, is_aborted, is_applied_told};
 ghost use Rattle.hot_runtime.specs.Becoming.{Becomes};
-ghost use Rattle.hot_runtime.specs.Telling.{cause_lines};
 ghost use Rattle.hot_runtime.specs.Standing.{HasRoom, IsSound, Keeps, KeepsWords};
-ghost use Rattle.hot_runtime.specs.UnderWay.{cause_of, is_aborted, is_applied_told};
 
-use crate::cause::{Cause, copy_name};
 use crate::expecting::{is_done, is_note};
 use crate::forcing::put_name;
 use crate::runtime::HotRuntime;
-use crate::telling::one_line;
 use const_eval::Ran;
 use hmr_types::{ModName, Text, Ver};
 use output_lines::{AbortWord, OutLine};
 use page_deeds::Invalidation;
+use plan_under_way::{Cause, copy_name, one_line};
 use retained_data::Bag;
 use std::alloc::AllocError;
 use update_msgs::{ClientMsg, ServerMsg};
@@ -130,9 +129,9 @@ impl<F: FnOnce(Bag) -> Result<Ran, AllocError> + Drop> HotRuntime<F> {
         ensures rest { self.new ≡ record self.old { plan = self.new.plan } }
     {
         let alloc = self.allocator();
-        match self.plan.take() {
+        match &mut self.plan {
             Some(plan) => {
-                self.plan = Some(plan.with_cause(cause));
+                plan.cause = Some(cause);
                 Ok(Vec::new(alloc))
             }
             None => Ok(Vec::new(alloc)),

@@ -1,5 +1,5 @@
 // The plan under way is applied.
-ghost use Rattle.std.specs.Prelude.{◌≡◌, ◌+◌, ◌≤◌, false, length, true, Some, IfOk, OnOk};
+ghost use Rattle.std.specs.Prelude.{◌≡◌, ◌+◌, ◌≤◌, ◌<◌, ◌^◌, false, length, true, Some, IfOk, OnOk};
 ghost use Rattle.hmr_types.specs.declared.limits.TheConstants.{INSTANCES};
 ghost use Rattle.core_model.specs.Page.{Plan};
 ghost use Rattle.client_model.specs.Answering.{apply_in};
@@ -7,23 +7,27 @@ ghost use Rattle.client_model.specs.Applying.{apply};
 ghost use Rattle.client_model.specs.Requesting.{request};
 ghost use Rattle.client_model.specs.Runtime.{Runtime};
 ghost use Rattle.module_language.specs.ModuleLanguage.{module_language};
-ghost use Rattle.hot_runtime.specs.Applying.{CanChange, IsFound, IsToApply, planless};
+ghost use Rattle.page_deeds.specs.Standing.{KeepWords, StandsFor};
+ghost use Rattle.plan_under_way.specs.Changing.{CanChange};
+ghost use Rattle.plan_under_way.specs.Planned.{IsPlanned, count_in};
+ghost use Rattle.plan_under_way.specs.UnderWay.{IsUnderWay, is_applied_told};
+ghost use Rattle.hot_runtime.specs.Applying.{IsApplied, IsFound, IsToApply, planless};
 ghost use Rattle.hot_runtime.specs.Becoming.{Becomes};
-ghost use Rattle.hot_runtime.specs.Standing.{HasRoom, IsPlanned, IsSound, Keeps, KeepsWords, count_in};
-ghost use Rattle.hot_runtime.specs.UnderWay.{IsUnderWay, is_applied_told};
+ghost use Rattle.hot_runtime.specs.Standing.{HasRoom, IsSound, Keeps, KeepsWords};
 
-use crate::births::{births_of, numbers_of};
-use crate::changing::{Change, change_of, change_page};
 use crate::runtime::HotRuntime;
-use crate::under_way::{Next, Ready, UnderWay};
 use const_eval::Ran;
-use hmr_types::ModName;
+use hmr_types::{ModName, PlanKind};
+use module_graph::View;
 use module_tree::Module;
 use output_lines::OutLine;
-use page_deeds::Birth;
+use page_deeds::{Birth, Page};
 use page_plan::Plan;
+use plan_under_way::{
+    Change, Next, Ready, UnderWay, births_of, change_of, change_page, numbers_of,
+};
 use retained_data::Bag;
-use std::alloc::AllocError;
+use std::alloc::{AllocError, Global};
 use std::collections::BTreeMap;
 
 /// What is found before a page changes: what the plan does with the instances that are there, and what it
@@ -75,39 +79,38 @@ impl<F: FnOnce(Bag) -> Result<Ran, AllocError> + Drop> HotRuntime<F> {
         } = under_way;
         match next {
             Next::Fetch(_) => Ok(Vec::new(self.allocator())),
-            Next::Finish(ready) => self.finish(plan, ready, trees, pairs),
+            Next::Finish(ready) => {
+                let Ready { view, names, .. } = ready;
+                self.finish(&plan, view, &names, trees, &pairs)
+            }
         }
     }
 
-    // A plan is carried out for which all is fetched, and the page is then the plan's.
+    // A plan is carried out for which all is fetched, where these names get new instances, these trees were
+    // fetched, and these boundaries are to be told. The page then has the modules of this view.
     fn finish(
         &mut self,
-        plan: Plan,
-        ready: Ready,
+        plan: &Plan,
+        view: View,
+        names: &[ModName],
         trees: BTreeMap<ModName, Module>,
-        pairs: Vec<(ModName, ModName)>,
+        pairs: &[(ModName, ModName)],
     ) -> Result<Vec<OutLine>, AllocError>
         requires running { self.old.stopped ≡ false }
-        requires room { length self.old.page.instances.items + length ready.names.items ≤ INSTANCES }
+        requires room { length self.old.page.instances.items + length names.now ≤ INSTANCES }
         requires callable { (f : F) → F.IsAlwaysCallable f }
         requires words { KeepsWords F.post self.old }
-        ensures becomes { (r : Runtime) (p : Plan) → Keeps (planless r) self.old → IsSound self.old
-            → IsToApply r p plan ready trees.entries pairs.items
+        ensures becomes { (r : Runtime) (p : Plan) (ready : Ready) → Keeps (planless r) self.old
+            → IsSound self.old → IsToApply r p plan.now ready trees.entries pairs.now
+            → view ≡ ready.view → names.now ≡ ready.names.items
             → IfOk result (λ lines. Becomes (apply module_language p r) self.new lines.items) }
         ensures words { OnOk result (KeepsWords F.post self.new) }
         ensures format { self.new.format ≡ self.old.format }
         ensures stopped { self.new.stopped ≡ self.old.stopped }
     {
         let alloc = self.allocator();
-        let Ready { view, names, .. } = ready;
-        let found = self.found(&plan, &names, trees, &pairs)?;
-        let Found { change, births } = found;
-        let mut lines = Vec::new(alloc);
-        change_page(&mut self.page, alloc, change, births, &mut lines)?;
-        lines.push(OutLine::Applied {
-            client: self.page.client,
-            plan: plan.kind(),
-        })?;
+        let found = self.found(plan, names, trees, pairs)?;
+        let lines = apply_to(&mut self.page, alloc, plan.kind(), found)?;
         self.view = view;
         self.loaded = true;
         self.forced = Vec::new(alloc);
@@ -138,4 +141,30 @@ impl<F: FnOnce(Bag) -> Result<Ran, AllocError> + Drop> HotRuntime<F> {
         let change = change_of(alloc, &self.page, plan, numbers, names, pairs, forced)?;
         Ok(Found { change, births })
     }
+}
+
+// A page becomes what a plan of this kind makes of it, by what was found before, and the last line tells that
+// the plan is applied.
+fn apply_to<F: FnOnce(Bag) -> Result<Ran, AllocError> + Drop>(
+    page: &mut Page<F>,
+    alloc: Global,
+    kind: PlanKind,
+    found: Found,
+) -> Result<Vec<OutLine>, AllocError>
+    requires can { CanChange page.old found.change }
+    requires room { length page.old.instances.items + length found.births.items < 2 ^ 32 }
+    requires callable { (f : F) → F.IsAlwaysCallable f }
+    requires words { KeepWords F.post page.old }
+    ensures words { OnOk result (KeepWords F.post page.new) }
+    ensures applied { (r : Runtime) (p : Plan) → StandsFor r page.old → IsFound r p page.old found
+        → IfOk result (λ lines. IsApplied r p kind page.old page.new lines.items) }
+{
+    let Found { change, births } = found;
+    let mut lines = Vec::new(alloc);
+    change_page(page, alloc, change, births, &mut lines)?;
+    lines.push(OutLine::Applied {
+        client: page.client,
+        plan: kind,
+    })?;
+    Ok(lines)
 }

@@ -1,26 +1,25 @@
 // A plan begins: a load, a reload or an update.
-ghost use Rattle.std.specs.Prelude.{◌≡◌, false, List, map, IfOk, OnOk};
+ghost use Rattle.std.specs.Prelude.{◌≡◌, ◌∷◌, ◌++◌, false, List, map, IfOk, OnOk};
 ghost use Rattle.hmr_types.specs.declared.words.PlanKind.{PlanKind};
 ghost use Rattle.hmr_types.specs.declared.words.PlanKind.TheVariants.{Load};
 ghost use Rattle.output_lines.specs.declared.out_line.OutLine.TheVariants as line;
-ghost use Rattle.core_model.specs.Names.{Name};
+ghost use Rattle.core_model.specs.Names.{Name, in_order};
 ghost use Rattle.core_model.specs.Page.{new_plan};
 ghost use Rattle.client_model.specs.Answering.{begin, connect, pair_of, start_reload, start_update, write_batch};
 ghost use Rattle.client_model.specs.Runtime.{Runtime, and_then};
 ghost use Rattle.page_plan.specs.Plans.{IsSamePlan};
+ghost use Rattle.plan_under_way.specs.Telling.{accept_lines, batch_lines};
 ghost use Rattle.hot_runtime.specs.Becoming.{Becomes};
 ghost use Rattle.hot_runtime.specs.Standing.{IsSound, Keeps, KeepsWords};
 
-use crate::planning::next_of;
 use crate::runtime::HotRuntime;
-use crate::telling::{batch_lines, in_order, pairs_of, tell_accepts};
-use crate::under_way::UnderWay;
 use const_eval::Ran;
 use hmr_types::{ClientId, ModName, PlanKind, ReloadCause, Sequence};
 use output_lines::OutLine;
 use page_plan::{Plan, Walker};
+use plan_under_way::{UnderWay, batch_lines, in_order, next_of, pairs_of, tell_accepts};
 use retained_data::Bag;
-use std::alloc::AllocError;
+use std::alloc::{AllocError, Global};
 use std::collections::BTreeMap;
 use update_msgs::JsUpdate;
 
@@ -83,12 +82,7 @@ impl<F: FnOnce(Bag) -> Result<Ran, AllocError> + Drop> HotRuntime<F> {
         let client = self.page.client;
         let pairs = pairs_of(alloc, updates.as_slice())?;
         let plan = Plan::update(alloc, replaced.as_slice())?;
-        let mut lines = batch_lines(alloc, client, batch, triggered)?;
-        lines.push(OutLine::Update {
-            client,
-            replaced: in_order(replaced)?,
-        })?;
-        tell_accepts(&mut lines, client, &pairs)?;
+        let lines = update_lines(alloc, client, batch, triggered, replaced, &pairs)?;
         self.begin(plan, pairs)?;
         Ok(lines)
     }
@@ -113,4 +107,25 @@ impl<F: FnOnce(Bag) -> Result<Ran, AllocError> + Drop> HotRuntime<F> {
         });
         Ok(())
     }
+}
+
+// The lines of an update: that of its batch, where it has one, its own, and that of each boundary.
+fn update_lines(
+    alloc: Global,
+    client: ClientId,
+    batch: u64,
+    triggered: Sequence<ModName>,
+    replaced: Sequence<ModName>,
+    pairs: &[(ModName, ModName)],
+) -> Result<Vec<OutLine>, AllocError>
+    ensures { IfOk result (λ lines. lines.items ≡ batch_lines client batch triggered
+        ++ line.Update client (in_order replaced) ∷ accept_lines client pairs.now) }
+{
+    let mut lines = batch_lines(alloc, client, batch, triggered)?;
+    lines.push(OutLine::Update {
+        client,
+        replaced: in_order(replaced)?,
+    })?;
+    tell_accepts(&mut lines, client, pairs)?;
+    Ok(lines)
 }

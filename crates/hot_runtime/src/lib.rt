@@ -1,34 +1,25 @@
 //! The client runtime: what a client asks of its server, and what each answer and each event does to its
 //! page.
 //!
-//! Stands on a page's plans and deeds, on the messages, and on the definitions of a client for the module
-//! language. Keeps: a [`HotRuntime`] stands for the list of the messages and events that it took, so
-//! that its requests, lines and tables are those of the definitions. Knows nothing of links, of bytes or
-//! of other clients.
+//! Stands on what a page keeps of a plan under way, on a page's deeds, on the messages, and on the
+//! definitions of a client for the module language. Keeps: a [`HotRuntime`] stands for the list of the
+//! messages and events that it took, so that its requests, lines and tables are those of the definitions.
+//! Knows nothing of links, of bytes or of other clients.
 #![tactic(auto)]
 
 mod answering;
 mod applying;
 mod beginning;
-mod births;
-mod cause;
-mod changing;
 mod events;
 mod expecting;
 mod fault;
 mod fetching;
 mod forcing;
-mod linking;
-mod planning;
 mod pruning;
-mod reading;
 mod requesting;
 mod runtime;
 mod showing;
-mod table;
 mod taking;
-mod telling;
-mod under_way;
 
 pub use fault::RuntimeFault;
 pub use runtime::HotRuntime;

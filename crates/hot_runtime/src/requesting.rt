@@ -10,11 +10,11 @@ ghost use Rattle.module_language.specs.ModuleLanguage.{module_language};
 ghost use Rattle.page_deeds.specs.Standing.{invalidation_as};
 ghost use Rattle.hot_runtime.specs.Standing.{StandsFor};
 
-use crate::cause::copy_name;
 use crate::runtime::HotRuntime;
 use hmr_types::{Sequence, Text};
 use module_graph::copy_of;
 use page_deeds::Invalidation;
+use plan_under_way::copy_name;
 use std::alloc::AllocError;
 use update_msgs::ClientMsg;
 

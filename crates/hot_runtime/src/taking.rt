@@ -7,11 +7,11 @@ ghost use Rattle.client_model.specs.Requesting.{request};
 ghost use Rattle.client_model.specs.Runtime.{Opening, Runtime};
 ghost use Rattle.client_model.specs.Taking.{is_applied, is_too_many, made_by_plan, take};
 ghost use Rattle.module_language.specs.ModuleLanguage.{module_language};
+ghost use Rattle.plan_under_way.specs.UnderWay.{is_applied_told};
 ghost use Rattle.hot_runtime.specs.declared.fault.RuntimeFault.TheVariants.{Stopped};
 ghost use Rattle.hot_runtime.specs.Answers.{IsTaken, OnRefusal, OnStop, UnlessNoMemory};
 ghost use Rattle.hot_runtime.specs.Becoming.{IsTaking};
 ghost use Rattle.hot_runtime.specs.Standing.{HasRoom, IsSound, Keeps, KeepsWords, StandsFor, count_of};
-ghost use Rattle.hot_runtime.specs.UnderWay.{is_applied_told};
 
 use crate::expecting::{answer_place, is_answer, request_place};
 use crate::fault::RuntimeFault;

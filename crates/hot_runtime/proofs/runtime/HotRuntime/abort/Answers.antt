@@ -5,9 +5,9 @@ use Rattle.std.proofs.lemmas.Result.{IfOk-weaker}
 use Rattle.output_lines.specs.declared.out_line.OutLine.{OutLine}
 use Rattle.client_model.specs.Answering.{abort_in}
 use Rattle.module_language.specs.ModuleLanguage.{module_language}
+use Rattle.plan_under_way.specs.Telling.{cause_lines}
+use Rattle.plan_under_way.specs.UnderWay.{cause_of}
 use Rattle.hot_runtime.specs.Becoming.{Becomes}
-use Rattle.hot_runtime.specs.Telling.{cause_lines}
-use Rattle.hot_runtime.specs.UnderWay.{cause_of}
 use Rattle.hot_runtime.proofs.Changed.{given_up_becomes, none_given_up}
 use Rattle.hot_runtime.proofs.Keeping.{with_under_way}
 use Rattle.hot_runtime.proofs.runtime.HotRuntime.abort.Goals as goal

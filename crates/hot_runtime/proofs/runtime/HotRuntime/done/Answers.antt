@@ -3,8 +3,8 @@ use Rattle.std.specs.Prelude.{IfOk}
 use Rattle.std.proofs.Math.Path.{subst}
 use Rattle.client_model.specs.Answering.{done}
 use Rattle.module_language.specs.ModuleLanguage.{module_language}
+use Rattle.plan_under_way.specs.UnderWay.{is_aborted, is_applied_told}
 use Rattle.hot_runtime.specs.Becoming.{Becomes}
-use Rattle.hot_runtime.specs.UnderWay.{is_aborted, is_applied_told}
 use Rattle.hot_runtime.proofs.runtime.HotRuntime.done.Goals as goal
 
 pub returns-in-Applied-clause-becomes : goal.returns-in-Applied-clause-becomes

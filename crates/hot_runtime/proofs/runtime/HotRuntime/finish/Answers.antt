@@ -1,17 +1,15 @@
-use Rattle.std.proofs.Common.{[], ◌∷◌, ◌++◌, refl, ap, sym, ◌∙◌}
-use Rattle.std.proofs.Math.Path.{subst}
+use Rattle.std.proofs.Common.{[], ◌∷◌, ◌++◌, ap, ◌∙◌}
 use Rattle.output_lines.specs.declared.out_line.OutLine.TheVariants as line
-use Rattle.hot_runtime.specs.Applying.{HasChanged, IsToApply, page_done}
+use Rattle.hot_runtime.specs.Applying.{IsApplied}
 use Rattle.hot_runtime.proofs.Finishing.{finished, stands_still}
 use Rattle.hot_runtime.proofs.runtime.HotRuntime.finish.Goals as goal
 
 pub returns-clause-becomes : goal.returns-clause-becomes
-returns-clause-becomes g c = λ r p k s t.
+returns-clause-becomes g c = λ r p ready k s t viewed named.
     let h = c.args.self.now in
-    let page = c.change_page.new.page in
-    let tells = c.change_page.new.lines.items in
-    let found = c.in_ok-found.ensures.found r p c.args.ready k s (subst (IsToApply r p c.args.plan c.args.ready c.args.trees.entries) (sym c.deref-2.ensures.value) t) c.deref.ensures.value in
-    finished r p c.args.plan h page c.args.ready.view _ c.args.ready c.args.trees.entries c.args.pairs.items tells c.push.new.self.items k s t
-    (subst (λ told. HasChanged (page_done p.kind p r) r p h.page page told tells) c.new-lines.ensures.items (c.in_ok-change_page.ensures.changed r p (stands_still r h k) found.changes found.made))
-    refl c.new.ensures.items
-    (c.in_ok-push.ensures.items ∙ ap (λ kind. tells ++ line.Applied page.client kind ∷ []) c.kind.ensures)
+    let page = c.apply_to.new.page in
+    let found = c.in_ok-found.ensures.found r p ready k s t named in
+    let applied : IsApplied r p c.kind.result h.page page c.in_ok-lines.lines.items = c.in_ok-lines.ensures.applied r p (stands_still r h k) found in
+    finished r p c.args.plan.now h page c.args.view _ ready c.args.trees.entries c.args.pairs.now applied.began c.in_ok-lines.lines.items k s t
+    applied.page viewed c.new.ensures.items
+    (applied.lines ∙ ap (λ kind. applied.began ++ line.Applied page.client kind ∷ []) c.kind.ensures)

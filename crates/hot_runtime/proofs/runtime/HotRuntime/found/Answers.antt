@@ -1,9 +1,9 @@
 use Rattle.std.proofs.Common.{sym, ◌∙◌}
 use Rattle.std.specs.List.{AllZip}
 use Rattle.std.proofs.Math.Path.{subst}
-use Rattle.hot_runtime.specs.Applying.{AreNumbers, IsMadeOf}
+use Rattle.plan_under_way.specs.Changing.{AreNumbers, IsMadeOf}
+use Rattle.plan_under_way.proofs.Gathering.{zip_length}
 use Rattle.hot_runtime.proofs.Finishing.{have_number, made_are, numbers_are, stands_still}
-use Rattle.hot_runtime.proofs.Gathering.{zip_length}
 use Rattle.hot_runtime.proofs.runtime.HotRuntime.found.Goals as goal
 
 pub change_of-requires : goal.change_of-requires

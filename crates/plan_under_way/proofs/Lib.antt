@@ -1,0 +1,16 @@
+pub mod InOrder
+pub mod Counting
+pub mod Ends
+pub mod Unlinking
+pub mod FirstUnlinked
+pub mod Sounding
+pub mod Living
+pub mod Readied
+pub mod Staged
+pub mod Caused
+pub mod Gathering
+pub mod Orders
+pub mod Making
+pub mod Paging
+pub mod Applied
+pub mod Altering

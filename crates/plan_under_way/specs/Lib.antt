@@ -1,0 +1,6 @@
+pub mod UnderWay
+pub mod Planned
+pub mod Reads
+pub mod Unlinked
+pub mod Telling
+pub mod Changing
