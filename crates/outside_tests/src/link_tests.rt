@@ -80,3 +80,33 @@ fn an_end_tells_what_was_sent(rt: HostRuntime) -> Result<(), Fail> {
     assert_eq!(rt; end.faults(), 1);
     Ok(())
 }
+
+#[test]
+fn the_first_end_accepted_receives_what_was_handed_in(rt: HostRuntime) -> Result<(), Fail> {
+    let alloc = rt.alloc();
+    let mut coming = VecDeque::new(alloc);
+    coming.push_back(Vec::from_slice(alloc, b"a")?)?;
+    let mut net = TellNet::new(rt, coming, Vec::new(alloc), VecDeque::new(alloc));
+    net.listen(alloc, 0)?;
+    let first = serve(alloc, &mut net, 9, &[])?;
+    assert_eq!(rt; first.as_slice(), b"a,.".as_slice());
+    let second = serve(alloc, &mut net, 9, &[])?;
+    assert_eq!(rt; second.as_slice(), b".".as_slice());
+    Ok(())
+}
+
+#[test]
+fn listening_answers_the_port_that_was_asked_for(rt: HostRuntime) -> Result<(), Fail> {
+    let alloc = rt.alloc();
+    for (asked, heard) in [(80, 80), (0, 5173)] {
+        let mut net = TellNet::new(
+            rt,
+            VecDeque::new(alloc),
+            Vec::new(alloc),
+            VecDeque::new(alloc),
+        );
+        let port = net.listen(alloc, asked)?;
+        assert_eq!(rt; port, heard);
+    }
+    Ok(())
+}

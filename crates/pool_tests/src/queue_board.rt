@@ -12,13 +12,14 @@ use transform_pool::{Board, JobPass, JobQueue, TextJob};
 use update_msgs::HubStop;
 
 /// Takes jobs from a queue, by a pass of its own, and keeps what is posted. It tells nothing of either. A
-/// post of version 2 sets a flag that boards share.
+/// post of version 2 sets a flag that boards share, and one of version 1 before that is noted.
 #[derive(Drop)]
 pub struct QueueBoard {
     queue: Arc<JobQueue, Global>,
     pass: JobPass,
     posted: Vec<(Transformed, Ver)>,
     second: Arc<AtomicBool, Global>,
+    is_early: bool,
     ghost of_queue: { IsPassOf (arc_value queue) pass },
     ghost takes: { (role_of pass).puts ≡ false },
 }
@@ -40,12 +41,18 @@ impl QueueBoard {
             pass,
             posted: Vec::new(alloc),
             second,
+            is_early: false,
         }
     }
 
     /// What was posted, in order.
     pub fn posted(&self) -> &[(Transformed, Ver)] {
         &self.posted
+    }
+
+    /// Whether version 1 was posted while the flag was not set.
+    pub fn is_early(&self) -> bool {
+        self.is_early
     }
 }
 
@@ -76,6 +83,9 @@ impl Board for QueueBoard {
     ) -> Result<(), HubStop> {
         if self.posted.push((done, ver)).is_err() {
             return Err(HubStop::NoMemory);
+        }
+        if ver == 1 && !self.second.load(Ordering::SeqCst) {
+            self.is_early = true;
         }
         if ver == 2 {
             self.second.store(true, Ordering::SeqCst);

@@ -120,6 +120,7 @@ fn a_gate_holds_a_result_back(rt: HostRuntime) -> Result<(), Fail> {
         !gave_up.load(Ordering::SeqCst),
         "version 1 went through before version 2"
     );
+    assert!(rt; !one.0.is_early() && !other.0.is_early());
     assert_eq!(rt; one.0.posted().len() + other.0.posted().len(), 2);
     Ok(())
 }

@@ -1,6 +1,6 @@
 -- What is left of a list of jobs when one more is taken.
 use Rattle.std.proofs.Common.{◌≡◌, ◌+◌, ◌-◌, List, [], ◌∷◌, ◌++◌, length, drop, take, sym, ap, ◌∙◌, subst, arith, length-append}
-use Rattle.std.proofs.lemmas.List.{take-append-drop}
+use Rattle.std.proofs.lemmas.List.{take-append-drop, take_all}
 use Rattle.std.proofs.Math.Seq.{drop-append-add, take-append-add}
 use Rattle.transform_pool.specs.Left.{IsLeft, taken_of}
 use Rattle.transform_pool.specs.Tasks.{Task}
@@ -28,3 +28,9 @@ pub none_taken : (all : List Task) → IsLeft all all × (taken_of all all ≡ [
 none_taken all =
     let n : length all - length all ≡ 0 = omega arith in
     (sym (ap (λ m. drop m all) n), ap (λ m. take m all) n)
+
+-- where nothing is left, all were taken
+pub all_taken : (all left : List Task) → left ≡ [] → taken_of all left ≡ all
+all_taken all left none =
+    let n : length all - length left ≡ length all = omega (arith, ap length none) in
+    ap (λ m. take m all) n ∙ take_all (length all) all (omega arith)

@@ -5,6 +5,10 @@ use Rattle.transform_pool.specs.Left.{taken_of}
 use Rattle.transform_pool.specs.Tasks.{Task}
 use Rattle.transform_pool.specs.declared.mem_board.MemBoard.{MemBoard}
 
+-- the jobs that it was made of
+abbrev pub jobs_of : MemBoard → List Task
+jobs_of board = board.all.value.items
+
 -- whether no job will come any more
 abbrev pub has_ended : MemBoard → Bool
 has_ended board = board.ended

@@ -1,5 +1,5 @@
 -- What a worker takes and posts.
-use Rattle.std.specs.Prelude.{◌≡◌, ℕ, ◌-◌, ◌^◌, min, List, [], ◌∷◌, ◌++◌, length, map, Option, Result, Ok, Err}
+use Rattle.std.specs.Prelude.{◌≡◌, ℕ, ◌-◌, ◌^◌, min, List, [], ◌∷◌, ◌++◌, length, map, All, Option, Result, Ok, Err}
 use Rattle.update_msgs.specs.declared.desk.HubStop.{HubStop}
 use Rattle.import_scan.specs.Transform.{Transform}
 use Rattle.transform_pool.specs.Boards.{told_more}
@@ -34,3 +34,9 @@ pub record Working
   pub taken_is : taken' ≡ told_more taken jobs
   pub posted_is : posted' ≡ told_more posted (map post_of jobs)
   pub count_is : count ≡ counted jobs
+
+-- what was posted since has passed the gate, each by its version
+pub record IsGated (passed : ℕ → Type 0) (posted posted' : Option (List (Transform × ℕ))) : Type 0 where
+  pub more : List (Transform × ℕ)
+  pub posted_is : posted' ≡ told_more posted more
+  pub gated : All (λ row. passed row.1) more

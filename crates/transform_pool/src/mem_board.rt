@@ -1,5 +1,5 @@
 // A board in memory, for tests: it holds its jobs, and keeps what is posted.
-ghost use Rattle.std.specs.Prelude.{◌≡◌, [], Some, false, refl};
+ghost use Rattle.std.specs.Prelude.{◌≡◌, [], Some, false, refl, true};
 ghost use Rattle.std.proofs.Common.{◌∙◌};
 ghost use Rattle.transform_pool.specs.Left.{IsLeft, taken_of};
 
@@ -20,14 +20,16 @@ pub struct MemBoard {
     posted: Vec<(Transformed, Ver)>,
     ended: bool,
     ghost left: { IsLeft all.value.items jobs.items },
+    ghost done: { ended ≡ true → jobs.items ≡ [] },
 }
 
 impl MemBoard {
-    ghost use Rattle.transform_pool.specs.MemBoards.{has_ended, posted_on, taken_from};
+    ghost use Rattle.transform_pool.specs.MemBoards.{has_ended, jobs_of, posted_on, taken_from};
 
     #[tactic(auto, using(crate::proofs::Lefts::none_taken))]
     /// A board of these jobs, which has not ended. It takes no memory.
     pub fn new(alloc: Global, jobs: VecDeque<TextJob>) -> MemBoard
+        ensures jobs { jobs_of result ≡ jobs.items }
         ensures ended { has_ended result ≡ false }
         ensures taken { taken_from result ≡ [] }
         ensures posted { posted_on result ≡ [] }
@@ -41,9 +43,12 @@ impl MemBoard {
         }
     }
 
-    /// The results that were posted, in order, with their versions.
+    #[tactic(auto, using(crate::proofs::Lefts::all_taken))]
+    /// The results that were posted, in order, with their versions. A board that has ended has given all of
+    /// its jobs.
     pub fn posted(&self) -> &[(Transformed, Ver)]
-        ensures { result.now ≡ posted_on self.now }
+        ensures posted { result.now ≡ posted_on self.now }
+        ensures whole { has_ended self.now ≡ true → taken_from self.now ≡ jobs_of self.now }
     {
         &self.posted
     }

@@ -2,7 +2,7 @@
 ghost use Rattle.std.specs.Prelude.{◌≡◌, ◌+◌, ◌≤◌, ◌∷◌, [], OnErr, OnOk, false, length, true};
 ghost use Rattle.hmr_types.specs.declared.limits.TheConstants.{MESSAGE_BYTES};
 ghost use Rattle.transform_pool.specs.Boards.{full_after, told_more};
-ghost use Rattle.transform_pool.specs.Working.{Worked};
+ghost use Rattle.transform_pool.specs.Working.{IsGated, Worked};
 
 use crate::Board;
 use hmr_types::Ver;
@@ -29,6 +29,7 @@ pub fn work<R: Wait, B: Board, G: Gate>(
     ensures full { B.full board.new ≡ full_after false result }
     ensures worked { Worked
         (B.taken board.old) (B.taken board.new) (B.posted board.old) (B.posted board.new) result }
+    ensures gated { IsGated (G.passed gate.now) (B.posted board.old) (B.posted board.new) }
     ensures stays { B.stays board.old board.new }
 {
     let mut count = 0u64;

@@ -1,6 +1,6 @@
 use Rattle.std.proofs.Common.{◌∙◌, rules}
 use Rattle.std.proofs.lemmas.Result.{err_from_is_err_and}
-use Rattle.transform_pool.proofs.Turns.{one_more, stopped}
+use Rattle.transform_pool.proofs.Turns.{gated_more, gated_same, one_more, stopped}
 use Rattle.transform_pool.proofs.worker.work.Goals as goal
 
 pub returns-in_err-done-clause-worked : goal.returns-in_err-done-clause-worked
@@ -18,6 +18,15 @@ returns-in_err-post_passed-clause-worked g c =
     stopped _ _ _ _ _ _ _ _ _ _ told.1 c.loop.invariant.4
     (refused.taken ∙ took.taken) (refused.unposted ∙ took.posted)
 
+pub returns-in_err-done-clause-gated : goal.returns-in_err-done-clause-gated
+returns-in_err-done-clause-gated g c =
+    gated_same _ _ _ _ c.loop.invariant.6 c.in-Some-take_job.ensures.posted
+
+pub returns-in_err-post_passed-clause-gated : goal.returns-in_err-post_passed-clause-gated
+returns-in_err-post_passed-clause-gated g c =
+    gated_same _ _ _ _ c.loop.invariant.6
+    (c.in_err-post_passed.ensures.unposted ∙ c.in-Some-take_job.ensures.posted)
+
 pub loop-preserved : goal.loop-preserved
 loop-preserved g c =
     let took = c.in-Some-take_job.ensures in
@@ -29,4 +38,5 @@ loop-preserved g c =
       one_more _ _ _ _ _ _ _ _ _ c.loop.invariant.4 (posted.taken ∙ took.taken)
           (cc (posted.posted, took.posted, c.in_ok-done.ensures.result)) c.saturating_add-count.ensures,
       g.met.B.Board.longer _ _ _ c.loop.invariant.5 (g.met.B.Board.longer _ _ _ took.stays posted.stays),
+      gated_more _ _ _ _ _ _ c.loop.invariant.6 took.posted posted.posted c.pass.ensures,
     )
