@@ -1,21 +1,23 @@
-// A server of a folder that has one module, whose calls fail as it is told.
-ghost use Rattle.std.specs.Prelude.{◌≡◌, ◌≤◌, IfOk, None};
-ghost use Rattle.core_model.specs.Roots.{AreRoots};
+// A server of a folder, whose calls fail as it is told.
+ghost use Rattle.std.specs.Prelude.{◌≡◌, ◌≤◌, None};
 
 use crate::counted_net::CountedNet;
+use crate::site::Site;
 use const_eval::Ran;
 use folder_server::{Plan, ServeStop, serve};
-use folders::{MemFile, MemTree};
+use folders::MemTree;
 use handler_table::Shelf;
 use hmr_base::MemSink;
-use hmr_types::ModName;
-use jobs::{CutSpawner, OpenGate, ThreadSpawner};
+use jobs::{CutSpawner, Gate, ThreadSpawner};
 use links::Net;
 use retained_data::Bag;
 use std::alloc::{AllocError, Global};
-use std::collections::VecDeque;
+use std::slice;
 use std::sync::Wait;
 use std::thread::Threads;
+
+/// The most bytes that a report has here.
+const ROOM: usize = 4_000_000;
 
 /// A server that is over.
 #[derive(Drop)]
@@ -51,17 +53,20 @@ pub fn only(alloc: Global, number: u64) -> Result<Vec<u64>, AllocError> {
     Ok(numbers)
 }
 
-/// Serves the folder over a net; of the calls of its tree, and of the starts of threads, those of these
-/// numbers fail. Closures are of the sample's type.
+/// Serves the folder over a net, with a gate for the workers; of the calls of its tree, and of the starts of
+/// threads, those of these numbers fail. Closures are of the sample's type.
 pub fn served<
     F: FnOnce(Bag) -> Result<Ran, AllocError> + Drop + Send + 'static,
     N: Net + Drop,
+    G: Gate + Clone + Drop + Send + 'static,
     R: Threads + Wait + Sync + Copy + Drop + Send + 'static,
 >(
     rt: &R,
     alloc: Global,
     _sample: F,
     plan: Plan,
+    site: Site,
+    gate: G,
     calls: Vec<u64>,
     starts: Vec<u64>,
     net: N,
@@ -70,17 +75,18 @@ where
     N::End: Drop + Send + 'static,
     requires callable { (f : F) → F.IsAlwaysCallable f }
     requires few { (plan.clients ≤ 32) × (plan.outside ≤ 32) }
-    requires workers { plan.workers ≡ 2 }
+    requires workers { (1 ≤ plan.workers) × (plan.workers ≤ 16) }
     requires unasked { N.asked net ≡ None }
     requires unheard { N.heard net ≡ None }
 {
-    let mut tree = MemTree::new(looks(alloc)?, calls);
+    let Site { looks, root } = site;
+    let mut tree = MemTree::new(looks, calls);
     let mut net = CountedNet::new(net);
     let mut spawner = CutSpawner::new(ThreadSpawner::new(), starts);
-    let mut out = MemSink::new(alloc, 10_000, 10_000, Vec::new(alloc))?;
-    let page = roots(alloc)?;
-    let shelf: Shelf<F> = Shelf::new(Vec::new(alloc));
-    let mut shelves = [shelf];
+    let mut out = MemSink::new(alloc, ROOM, ROOM, Vec::new(alloc))?;
+    let mut page = Vec::new(alloc);
+    page.push(root)?;
+    let mut shelf: Shelf<F> = Shelf::new(Vec::new(alloc));
     let ended = serve(
         rt,
         alloc,
@@ -92,39 +98,13 @@ where
         &mut tree,
         &mut net,
         &mut spawner,
-        OpenGate,
-        &mut shelves,
+        gate,
+        slice::from_mut(&mut shelf),
     );
-    let [shelf] = shelves;
     shelf.end();
     Ok(Over {
         ended,
         report: String::from_utf8_lossy(alloc, out.bytes())?,
         has_all_back: net.has_all_back(),
     })
-}
-
-// The files of the folder: one module, that is always the same.
-fn looks(alloc: Global) -> Result<VecDeque<Vec<MemFile>>, AllocError> {
-    let mut files = Vec::new(alloc);
-    files.push(MemFile {
-        path: String::from_str(alloc, "/m.js")?,
-        text: Vec::from_slice(alloc, b"export const n = 1;\n")?,
-    })?;
-    let mut looks = VecDeque::new(alloc);
-    match looks.push_back(files) {
-        Ok(()) => Ok(looks),
-        Err(_) => Err(AllocError),
-    }
-}
-
-fn roots(alloc: Global) -> Result<Vec<ModName>, AllocError>
-    ensures { IfOk result (λ roots. AreRoots roots.items) }
-{
-    let mut roots = Vec::new(alloc);
-    match ModName::read(alloc, b"/m.js") {
-        Ok(name) => roots.push(name)?,
-        Err(_) => return Err(AllocError),
-    }
-    Ok(roots)
 }
