@@ -1,14 +1,14 @@
 // The words of the command line, read.
-ghost use Rattle.std.specs.Prelude.{◌≡◌, ◌≢◌, ◌≤◌, [], true, IfOk, IfSome, IsErrOf, codes, map, option_map, string_bytes};
-ghost use Rattle.clap.specs.Words.{IsParsedFrom, app_of, found_of, is_simple, is_simple_and_free, rows_of};
-ghost use Rattle.hmr_types.specs.ModName.{is_text};
-ghost use Rattle.command_words.specs.Words.{Gives, HasNumber, HasRanges, check_app, check_of, checking, command_of, faults_of, found_in, make_app, make_of, making, named_command, number_of, play_app, play_of, word_of};
+ghost use Rattle.std.specs.Prelude.{◌≡◌, ◌≢◌, ◌≤◌, [], IfOk, IfSome, IsErrOf, codes, map, string_bytes};
+ghost use Rattle.clap.specs.Words.{found_of, rows_of};
+ghost use Rattle.command_words.specs.Words.{Gives, HasMakeNumbers, HasRanges, check_app, check_of, checking, command_of, faults_of, found_in, make_app, make_of, making, named_command, number_of, play_app, play_of};
 
 use crate::command::{Command, WordsFault};
+use crate::found::{is_text, number_in, taken, word_in};
 use crate::grammars::{check_grammar, make_grammar, play_grammar};
+use crate::roots::read_name;
+use crate::serving::{read_join, read_serve};
 use clap::ArgMatches;
-use clap::error::ErrorKind;
-use hmr_types::{ModName, NameFault};
 use std::alloc::Global;
 
 /// The command that the words are, of which the first names it. `NotACommand` comes exactly where they
@@ -36,13 +36,13 @@ fn read_named(alloc: Global, name: &[u8], words: &[String]) -> Result<Command, W
     if is_text(name, b"make") {
         return read_make(alloc, words);
     }
+    if is_text(name, b"serve") {
+        return read_serve(alloc, words);
+    }
+    if is_text(name, b"join") {
+        return read_join(alloc, words);
+    }
     Err(WordsFault::NotACommand)
-}
-
-fn is_text(name: &[u8], text: &[u8]) -> bool
-    ensures { result ≡ is_text name.now text.now }
-{
-    name == text
 }
 
 fn read_play(alloc: Global, words: &[String]) -> Result<Command, WordsFault>
@@ -68,17 +68,10 @@ fn read_check(alloc: Global, words: &[String]) -> Result<Command, WordsFault>
     ensures ranges { IfOk result HasRanges }
 {
     let matches = check_matches(alloc, words)?;
-    match name_in(&matches) {
+    match word_in(&matches, "NAME") {
         Some(name) => checking(alloc, name),
         None => Err(WordsFault::NotACommand),
     }
-}
-
-/// The name that `clap` found.
-fn name_in<'a>(matches: &ArgMatches<'a>) -> Option<&'a str>
-    ensures { option_map (λ s. s.now) result ≡ word_of (codes "NAME") (rows_of (found_of matches.now)) }
-{
-    matches.get_str("NAME")
 }
 
 /// The command that checks the module of this name.
@@ -86,11 +79,8 @@ fn checking(alloc: Global, name: &str) -> Result<Command, WordsFault>
     ensures exact { Gives result (checking name.now) }
     ensures ranges { IfOk result HasRanges }
 {
-    match ModName::read(alloc, name.as_bytes()) {
-        Ok(name) => Ok(Command::Check(name)),
-        Err(NameFault::NotAName) => Err(WordsFault::NotACommand),
-        Err(NameFault::NoMemory) => Err(WordsFault::NoMemory),
-    }
+    let name = read_name(alloc, name)?;
+    Ok(Command::Check(name))
 }
 
 /// What `clap` finds in the words of `check`.
@@ -110,8 +100,18 @@ fn read_make(alloc: Global, words: &[String]) -> Result<Command, WordsFault>
     ensures ranges { IfOk result HasRanges }
 {
     let matches = make_matches(alloc, words)?;
-    let count = count_in(&matches);
-    let seed = seed_in(&matches);
+    make_found(&matches)
+}
+
+/// The command that makes the modules that were found.
+fn make_found(matches: &ArgMatches<'_>) -> Result<Command, WordsFault>
+    requires { HasMakeNumbers (found_of matches.now) }
+    ensures exact { Gives result (making (number_of (codes "N") (rows_of (found_of matches.now)))
+        (number_of (codes "SEED") (rows_of (found_of matches.now)))) }
+    ensures ranges { IfOk result HasRanges }
+{
+    let count = number_in(matches, "N");
+    let seed = number_in(matches, "SEED");
     making(count, seed)
 }
 
@@ -129,60 +129,15 @@ fn making(count: Option<u32>, seed: Option<u32>) -> Result<Command, WordsFault>
     }
 }
 
-/// The number of modules that `clap` found.
-fn count_in(matches: &ArgMatches<'_>) -> Option<u32>
-    requires { HasNumber (found_of matches.now) (codes "N") 1 4096 }
-    ensures value { result ≡ number_of (codes "N") (rows_of (found_of matches.now)) }
-    ensures low { IfSome result (λ n. 1 ≤ n) }
-    ensures high { IfSome result (λ n. n ≤ 4096) }
-{
-    matches.get_one::<u32>("N")
-}
-
-/// The seed that `clap` found.
-fn seed_in(matches: &ArgMatches<'_>) -> Option<u32>
-    requires { HasNumber (found_of matches.now) (codes "SEED") 0 2147483647 }
-    ensures value { result ≡ number_of (codes "SEED") (rows_of (found_of matches.now)) }
-    ensures high { IfSome result (λ n. n ≤ 2147483647) }
-{
-    matches.get_one::<u32>("SEED")
-}
-
-/// What `clap` finds in the words of `make`: its two numbers are there and in their ranges.
+/// What `clap` finds in the words of `make`: its numbers are in their ranges.
 fn make_matches<'a>(alloc: Global, words: &'a [String]) -> Result<ArgMatches<'a>, WordsFault>
     ensures taken { IfOk result (λ _. faults_of make_app (map string_bytes words.entry.now) ≡ []) }
     ensures rows { IfOk result (λ m.
         rows_of (found_of m) ≡ found_in make_app (map string_bytes words.entry.now)) }
-    ensures count { IfOk result (λ m. HasNumber (found_of m) (codes "N") 1 4096) }
-    ensures seed { IfOk result (λ m. HasNumber (found_of m) (codes "SEED") 0 2147483647) }
+    ensures numbers { IfOk result (λ m. HasMakeNumbers (found_of m)) }
     ensures refused { IsErrOf result WordsFault.NotACommand
         → faults_of make_app (map string_bytes words.entry.now) ≢ [] }
 {
     let command = make_grammar(alloc)?;
     taken(command, words)
-}
-
-/// What `clap` finds in the words of a command.
-#[tactic(auto, unfolding(crate::specs::Words::faults_of, crate::specs::Words::found_in))]
-fn taken<'a>(command: clap::Command<'a>, words: &'a [String]) -> Result<ArgMatches<'a>, WordsFault>
-    requires simple { is_simple (app_of command) ≡ true }
-    requires free { is_simple_and_free (app_of command) ≡ true }
-    ensures taken { IfOk result (λ _.
-        faults_of (app_of command.entry) (map string_bytes words.entry.now) ≡ []) }
-    ensures rows { IfOk result (λ m.
-        rows_of (found_of m) ≡ found_in (app_of command.entry) (map string_bytes words.entry.now)) }
-    ensures parsed { IfOk result (λ m. IsParsedFrom command.entry m) }
-    ensures refused { IsErrOf result WordsFault.NotACommand
-        → faults_of (app_of command.entry) (map string_bytes words.entry.now) ≢ [] }
-{
-    match command.try_get_matches_from(words) {
-        Ok(matches) => Ok(matches),
-        Err(error) => {
-            if error.kind() == ErrorKind::OutOfMemory {
-                Err(WordsFault::NoMemory)
-            } else {
-                Err(WordsFault::NotACommand)
-            }
-        }
-    }
 }

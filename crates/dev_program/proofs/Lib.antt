@@ -1,10 +1,2 @@
-pub mod Playing
-pub mod Writing
-pub mod Stepping
-pub mod Commanding
-pub mod Answering
-pub mod Instances
-pub mod Summing
-pub mod Roots
-pub mod Ending
-pub mod Headline
+pub mod Shortness
+pub mod Apart

@@ -1,9 +1,2 @@
-pub mod Playing
-pub mod Instances
-pub mod Outputs
-pub mod Commands
-pub mod Standing
-pub mod Writing
-pub mod Summing
-pub mod Ends
-pub mod Headline
+pub mod Runs
+pub mod Outside

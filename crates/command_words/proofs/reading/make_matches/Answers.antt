@@ -3,12 +3,6 @@ use Rattle.std.proofs.lemmas.Result.{IfOk-weaker}
 use Rattle.command_words.proofs.Numbers.{make_numbers}
 use Rattle.command_words.proofs.reading.make_matches.Goals as goal
 
-pub returns-clause-count : goal.returns-clause-count
-returns-clause-count c =
-    IfOk-weaker c.taken.result _ _ (λ m h. (make_numbers _ m h c.in_ok-command.ensures).0)
-    c.taken.ensures.parsed
-
-pub returns-clause-seed : goal.returns-clause-seed
-returns-clause-seed c =
-    IfOk-weaker c.taken.result _ _ (λ m h. (make_numbers _ m h c.in_ok-command.ensures).1)
-    c.taken.ensures.parsed
+pub returns-clause-numbers : goal.returns-clause-numbers
+returns-clause-numbers c =
+    IfOk-weaker c.taken.result _ _ (λ m h. make_numbers _ m h c.in_ok-command.ensures) c.taken.ensures.parsed

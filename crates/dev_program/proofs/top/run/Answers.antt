@@ -1,80 +1,54 @@
-use Rattle.std.proofs.Common.{map, ◌∙◌}
+use Rattle.std.proofs.Common.{Some, ap, map, ◌∙◌}
 use Rattle.std.specs.Prelude.{string_bytes}
-use Rattle.std.proofs.Math.Path.{subst}
 use Rattle.handler_table.specs.Shelf.{marks_of}
-use Rattle.hmr_base.specs.Fronts.{WritesFront}
-use Rattle.text_check.specs.Checking.{limit_line}
-use Rattle.dev_program.specs.Outputs.{input_limit, instances_limit, output_of}
-use Rattle.dev_program.proofs.Answering.{ended_behind, ended_front, whole_unless}
-use Rattle.dev_program.proofs.Headline.{shows_at}
+use Rattle.command_words.specs.Words.{command_of}
+use Rattle.input_commands.proofs.Headline.{shows_at}
+use Rattle.input_commands.specs.Outputs.{output_of}
+use Rattle.dev_program.proofs.Apart.{join_gives_none, join_not_two, nothing_complete, nothing_written, serve_gives_none, serve_not_two, words_answered}
 use Rattle.dev_program.proofs.top.run.Goals as goal
 
-pub returns-in-Err-TooLong-clause-front : goal.returns-in-Err-TooLong-clause-front
-returns-in-Err-TooLong-clause-front g c =
-    let ended = rw c.in-Err-TooLong.field-0-is at c.in-Err-TooLong.ensures.stops in
-    ended_front (output_of (map marks_of c.args.shelves.items) (map string_bytes c.args.words.now)
-    (g.S.Source.left c.args.input.now)) 8 input_limit _ _ _ ended c.write_all-in-Err-TooLong.ensures.front
+pub returns-in-Ok-Serve-clause-words : goal.returns-in-Ok-Serve-clause-words
+returns-in-Ok-Serve-clause-words g c =
+    words_answered (command_of (map string_bytes c.args.words.now)) _ _ _ _ _ c.serve_folder.result c.in-Ok-Serve.ensures.exact
+    (serve_not_two c.serve_folder.result c.serve_folder.ensures.known)
 
-pub returns-in-Err-TooLong-clause-limit_whole : goal.returns-in-Err-TooLong-clause-limit_whole
-returns-in-Err-TooLong-clause-limit_whole g c = λ is well.
-    let ended = rw c.in-Err-TooLong.field-0-is at c.in-Err-TooLong.ensures.stops in
-    let call = c.write_all-in-Err-TooLong in
-    whole_unless (output_of (map marks_of c.args.shelves.items) (map string_bytes c.args.words.now)
-    (g.S.Source.left c.args.input.now)) 8 input_limit _ _ _ _ _ _ call.result ended call.ensures.done call.ensures.failed
-    c.in-Err-TooLong.ensures.later well
+pub returns-in-Ok-Serve-clause-output : goal.returns-in-Ok-Serve-clause-output
+returns-in-Ok-Serve-clause-output g c =
+    nothing_written (output_of (map marks_of c.args.shelves.items) (map string_bytes c.args.words.now)
+    (g.S.Source.left c.args.input.now)) _ _ _ _ c.serve_folder.result
+    (serve_gives_none (map marks_of c.args.shelves.items) (command_of (map string_bytes c.args.words.now)) c.in-Ok-Serve.plan
+    (g.S.Source.left c.args.input.now) (c.in-Ok-Serve.ensures.exact ∙ ap Some c.in-Ok-Serve.field-0-is))
 
-pub returns-in-Err-InstancesFull-clause-front : goal.returns-in-Err-InstancesFull-clause-front
-returns-in-Err-InstancesFull-clause-front g c =
-    let ended = rw c.in-Err-InstancesFull.field-0-is at c.in-Err-InstancesFull.ensures.stops in
-    ended_front (output_of (map marks_of c.args.shelves.items) (map string_bytes c.args.words.now)
-    (g.S.Source.left c.args.input.now)) 8 instances_limit _ _ _ ended c.write_all-in-Err-InstancesFull.ensures.front
+pub returns-in-Ok-Serve-clause-complete : goal.returns-in-Ok-Serve-clause-complete
+returns-in-Ok-Serve-clause-complete g c =
+    nothing_complete (output_of (map marks_of c.args.shelves.items) (map string_bytes c.args.words.now)
+    (g.S.Source.left c.args.input.now)) c.serve_folder.result
+    (serve_gives_none (map marks_of c.args.shelves.items) (command_of (map string_bytes c.args.words.now)) c.in-Ok-Serve.plan
+    (g.S.Source.left c.args.input.now) (c.in-Ok-Serve.ensures.exact ∙ ap Some c.in-Ok-Serve.field-0-is))
 
-pub returns-in-Err-InstancesFull-clause-limit_whole : goal.returns-in-Err-InstancesFull-clause-limit_whole
-returns-in-Err-InstancesFull-clause-limit_whole g c = λ is well.
-    let ended = rw c.in-Err-InstancesFull.field-0-is at c.in-Err-InstancesFull.ensures.stops in
-    let call = c.write_all-in-Err-InstancesFull in
-    whole_unless (output_of (map marks_of c.args.shelves.items) (map string_bytes c.args.words.now)
-    (g.S.Source.left c.args.input.now)) 8 instances_limit _ _ _ _ _ _ call.result ended call.ensures.done call.ensures.failed
-    c.in-Err-InstancesFull.ensures.later well
-
-pub returns-in-Err-TextTooLong-clause-limit_last : goal.returns-in-Err-TextTooLong-clause-limit_last
-returns-in-Err-TextTooLong-clause-limit_last g c = λ is.
-    let ended = rw c.in-Err-TextTooLong.field-0-is at c.in-Err-TextTooLong.ensures.stops in
-    let call = c.write_all-in-Err-TextTooLong in
-    let line = c.as_bytes-in-Err-TextTooLong.ensures.value ∙ c.limit_line.ensures in
-    ended_behind (output_of (map marks_of c.args.shelves.items) (map string_bytes c.args.words.now)
-    (g.S.Source.left c.args.input.now)) 8 limit_line _ _ _ ended
-    (subst (WritesFront (g.K.Sink.written c.carry_out.new.out) (g.K.Sink.written call.new.sink)) line
-    call.ensures.front)
-
-pub returns-in-Ok-clause-fresh_load : goal.returns-in-Ok-clause-fresh_load
-returns-in-Ok-clause-fresh_load g c =
+pub returns-in-Ok-Serve-clause-fresh_load : goal.returns-in-Ok-Serve-clause-fresh_load
+returns-in-Ok-Serve-clause-fresh_load g c =
     shows_at (map marks_of c.args.shelves.items) (g.S.Source.left c.args.input.now)
 
-pub returns-in-Err-NotACommand-clause-fresh_load : goal.returns-in-Err-NotACommand-clause-fresh_load
-returns-in-Err-NotACommand-clause-fresh_load g c =
-    shows_at (map marks_of c.args.shelves.items) (g.S.Source.left c.args.input.now)
+pub returns-in-Ok-Join-clause-words : goal.returns-in-Ok-Join-clause-words
+returns-in-Ok-Join-clause-words g c =
+    words_answered (command_of (map string_bytes c.args.words.now)) _ _ _ _ _ c.join_server.result c.in-Ok-Join.ensures.exact
+    (join_not_two c.join_server.result c.join_server.ensures.known)
 
-pub returns-in-Err-TooLong-clause-fresh_load : goal.returns-in-Err-TooLong-clause-fresh_load
-returns-in-Err-TooLong-clause-fresh_load g c =
-    shows_at (map marks_of c.args.shelves.items) (g.S.Source.left c.args.input.now)
+pub returns-in-Ok-Join-clause-output : goal.returns-in-Ok-Join-clause-output
+returns-in-Ok-Join-clause-output g c =
+    nothing_written (output_of (map marks_of c.args.shelves.items) (map string_bytes c.args.words.now)
+    (g.S.Source.left c.args.input.now)) _ _ _ _ c.join_server.result
+    (join_gives_none (map marks_of c.args.shelves.items) (command_of (map string_bytes c.args.words.now)) c.in-Ok-Join.port c.in-Ok-Join.roots c.in-Ok-Join.turns
+    (g.S.Source.left c.args.input.now) (c.in-Ok-Join.ensures.exact ∙ ap Some c.in-Ok-Join.field-0-is))
 
-pub returns-in-Err-TextTooLong-clause-fresh_load : goal.returns-in-Err-TextTooLong-clause-fresh_load
-returns-in-Err-TextTooLong-clause-fresh_load g c =
-    shows_at (map marks_of c.args.shelves.items) (g.S.Source.left c.args.input.now)
+pub returns-in-Ok-Join-clause-complete : goal.returns-in-Ok-Join-clause-complete
+returns-in-Ok-Join-clause-complete g c =
+    nothing_complete (output_of (map marks_of c.args.shelves.items) (map string_bytes c.args.words.now)
+    (g.S.Source.left c.args.input.now)) c.join_server.result
+    (join_gives_none (map marks_of c.args.shelves.items) (command_of (map string_bytes c.args.words.now)) c.in-Ok-Join.port c.in-Ok-Join.roots c.in-Ok-Join.turns
+    (g.S.Source.left c.args.input.now) (c.in-Ok-Join.ensures.exact ∙ ap Some c.in-Ok-Join.field-0-is))
 
-pub returns-in-Err-Unread-clause-fresh_load : goal.returns-in-Err-Unread-clause-fresh_load
-returns-in-Err-Unread-clause-fresh_load g c =
-    shows_at (map marks_of c.args.shelves.items) (g.S.Source.left c.args.input.now)
-
-pub returns-in-Err-Unwritten-clause-fresh_load : goal.returns-in-Err-Unwritten-clause-fresh_load
-returns-in-Err-Unwritten-clause-fresh_load g c =
-    shows_at (map marks_of c.args.shelves.items) (g.S.Source.left c.args.input.now)
-
-pub returns-in-Err-InstancesFull-clause-fresh_load : goal.returns-in-Err-InstancesFull-clause-fresh_load
-returns-in-Err-InstancesFull-clause-fresh_load g c =
-    shows_at (map marks_of c.args.shelves.items) (g.S.Source.left c.args.input.now)
-
-pub returns-in-Err-NoMemory-clause-fresh_load : goal.returns-in-Err-NoMemory-clause-fresh_load
-returns-in-Err-NoMemory-clause-fresh_load g c =
+pub returns-in-Ok-Join-clause-fresh_load : goal.returns-in-Ok-Join-clause-fresh_load
+returns-in-Ok-Join-clause-fresh_load g c =
     shows_at (map marks_of c.args.shelves.items) (g.S.Source.left c.args.input.now)

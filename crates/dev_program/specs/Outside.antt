@@ -1,0 +1,195 @@
+-- What `serve` and `join` answer and write.
+use Rattle.std.specs.Prelude.{◌≡◌, ◌≤◌, ◌<◌, ◌⊎◌, ℕ, ⊤, Bool, true, false, List, [], ◌∷◌, length, Option, Some, None, Result, Ok, Err, IfSome}
+use Rattle.std.specs.Io.KnownBytes.{Appends, Keeps}
+use Prim.{⊥}
+use Rattle.hmr_base.specs.Causes.{Rose}
+use Rattle.hmr_base.specs.Fronts.{WritesFront}
+use Rattle.hmr_types.specs.declared.limits.TheConstants.{SCRIPT_BYTES}
+use Rattle.core_model.specs.Sources.{Text}
+use Rattle.client_model.specs.Runtime.{Opening}
+use Rattle.play_script.specs.declared.fault.ScriptFault.{ScriptFault}
+use Rattle.play_script.specs.Edits.{Edit, edits_of}
+use Rattle.command_words.specs.declared.command.Command.{Command}
+use Rattle.command_words.specs.declared.command.Command.TheVariants as commands
+use Rattle.command_words.specs.declared.command.ServePlan.{ServePlan}
+use Rattle.folders.specs.Files.{MayOpen}
+use Rattle.links.specs.declared.net.Asked.{Asked}
+use Rattle.links.specs.declared.net.Asked.TheVariants.{Listen, Connect}
+use Rattle.hmr_hub.specs.declared.pass.Pass.{Pass}
+use Rattle.join_command.specs.declared.stop.JoinStop.{JoinStop}
+use Rattle.join_command.specs.declared.stop.JoinStop.TheVariants as joins
+use Rattle.join_command.specs.Joining.{JoinsAt}
+use Rattle.folder_server.specs.declared.stop.ServeStop.{ServeStop}
+use Rattle.folder_server.specs.declared.stop.ServeStop.TheVariants as stops
+use Rattle.folder_server.specs.Rounds.{Files}
+use Rattle.folder_server.specs.Serving.{Served, StopsEarly, Wrote, WroteEarly}
+use Rattle.input_commands.specs.declared.stop.Stop.{Stop}
+use Rattle.input_commands.specs.declared.stop.Stop.TheVariants.{NotACommand, TooLong, TextTooLong, Faulty, Unread, Unwritten, InstancesFull, NoMemory}
+use Rattle.input_commands.specs.Outputs.{fault_line, input_limit, instances_limit}
+
+-- the status of a server's end
+abbrev pub status_of_serve : Result (Unit {0}) ServeStop → ℕ
+status_of_serve (Ok done) = 0
+status_of_serve (Err stops.Unwritten) = 5
+status_of_serve (Err stops.Tree) = 6
+status_of_serve (Err stops.Fault) = 7
+status_of_serve (Err (stops.Limit limit)) = 8
+status_of_serve (Err stops.NoMemory) = 9
+
+-- the edits that the input has, where they are asked for
+abbrev pub HasScript : Bool → Option (List ℕ) → List Edit → Type 0
+HasScript false left script = script ≡ []
+HasScript true left script = IfSome left (λ bytes. edits_of bytes ≡ Ok script)
+
+-- The server was begun, with the edits of the input. What it did and wrote is of its one transcript.
+pub record IsServed (plan : ServePlan) (left : Option (List ℕ)) (coming : Option (List Files))
+    (heard : Option ℕ) (old new : Option (List ℕ)) (before now : ℕ) (status : ℕ) : Type 0 where
+  pub script : List Edit
+  pub read : HasScript plan.edits left script
+  pub ended : Result (Unit {0}) ServeStop
+  pub status_is : status ≡ status_of_serve ended
+  pub served : ((port : ℕ) × (p : Pass) × (heard ≡ Some port)
+      × Served plan.roots coming script plan.rounds ended p × Wrote port p ended old new before now)
+      ⊎ (StopsEarly coming ended × WroteEarly ended old new before now)
+
+-- the line is written, or a front of it where the count of the output's faults rose
+pub record WroteLine (old new : Option (List ℕ)) (before now : ℕ) (line : List ℕ) : Type 0 where
+  pub front : WritesFront old new line
+  pub whole : ¬ Rose before now → Appends old new line
+
+-- the bytes say no edits, by their first fault
+pub record IsFaulty (bytes : List ℕ) (old new : Option (List ℕ)) (before now : ℕ) : Type 0 where
+  pub fault : ScriptFault
+  pub is : edits_of bytes ≡ Err fault
+  pub wrote : WroteLine old new before now (fault_line fault)
+
+-- The input has no edits: it says none, it failed, it has too many bytes, or there was no memory. No server
+-- was begun.
+abbrev pub HasNoScript : Option (List ℕ) → Option (List ℕ) → Option (List ℕ) → ℕ → ℕ → ℕ → Type 0
+HasNoScript left old new before now status =
+    ((status ≡ 3) × IfSome left (λ bytes. IsFaulty bytes old new before now))
+    ⊎ ((status ≡ 4) × Keeps old new)
+    ⊎ ((status ≡ 8) × IfSome left (λ bytes. SCRIPT_BYTES < length bytes)
+    × WroteLine old new before now input_limit)
+    ⊎ ((status ≡ 9) × Keeps old new)
+
+-- the line of the first fault of bytes that say no edits
+pub record HasFaultLine (bytes line : List ℕ) : Type 0 where
+  pub fault : ScriptFault
+  pub is : edits_of bytes ≡ Err fault
+  pub line_is : line ≡ fault_line fault
+
+-- why bytes gave no edits
+abbrev pub IsEditStop : List ℕ → Stop → Type 0
+IsEditStop bytes NotACommand = ⊥
+IsEditStop bytes TooLong = ⊥
+IsEditStop bytes TextTooLong = ⊥
+IsEditStop bytes (Faulty line) = HasFaultLine bytes line.items
+IsEditStop bytes Unread = ⊥
+IsEditStop bytes Unwritten = ⊥
+IsEditStop bytes InstancesFull = ⊥
+IsEditStop bytes NoMemory = ⊤
+
+-- why the input gave none
+abbrev pub IsScriptStop : Option (List ℕ) → Stop → Type 0
+IsScriptStop left NotACommand = ⊥
+IsScriptStop left TooLong = IfSome left (λ bytes. SCRIPT_BYTES < length bytes)
+IsScriptStop left TextTooLong = ⊥
+IsScriptStop left (Faulty line) = IfSome left (λ bytes. HasFaultLine bytes line.items)
+IsScriptStop left Unread = ⊤
+IsScriptStop left Unwritten = ⊥
+IsScriptStop left InstancesFull = ⊥
+IsScriptStop left NoMemory = ⊤
+
+-- the statuses where the input has no edits
+abbrev pub IsNoScriptStatus : ℕ → Type 0
+IsNoScriptStatus n = (n ≡ 3) ⊎ (n ≡ 4) ⊎ (n ≡ 8) ⊎ (n ≡ 9)
+
+-- the statuses of `serve`, and of `join`
+abbrev pub IsServeStatus : ℕ → Type 0
+IsServeStatus n = (n ≡ 0) ⊎ ((3 ≤ n) × (n ≤ 9))
+
+abbrev pub IsJoinStatus : ℕ → Type 0
+IsJoinStatus n = (n ≡ 0) ⊎ (n ≡ 5) ⊎ ((7 ≤ n) × (n ≤ 10))
+
+-- the status of a client's end
+abbrev pub status_of_join : Result ⊤ JoinStop → ℕ
+status_of_join (Ok done) = 0
+status_of_join (Err joins.Unwritten) = 5
+status_of_join (Err joins.NetFailed) = 7
+status_of_join (Err joins.InstancesFull) = 8
+status_of_join (Err joins.BadAnswer) = 10
+status_of_join (Err joins.NoMemory) = 9
+
+-- the line behind a client's lines
+abbrev pub last_of_join : Result ⊤ JoinStop → List ℕ
+last_of_join (Ok done) = []
+last_of_join (Err joins.Unwritten) = []
+last_of_join (Err joins.NetFailed) = []
+last_of_join (Err joins.InstancesFull) = instances_limit
+last_of_join (Err joins.BadAnswer) = []
+last_of_join (Err joins.NoMemory) = []
+
+-- A client spoke with a server in the second format. Its lines are written, and behind them that of the limit
+-- where its page would have had too many instances.
+pub record IsJoined (opening : Opening) (turns : ℕ) (coming : Option (List (List ℕ)))
+    (old new : Option (List ℕ)) (before now : ℕ) (status : ℕ) : Type 0 where
+  pub result : Result ⊤ JoinStop
+  pub status_is : status ≡ status_of_join result
+  pub between : Option (List ℕ)
+  pub joins : JoinsAt opening turns coming old between result
+  pub last : WritesFront between new (last_of_join result)
+  pub whole : ¬ Rose before now → Appends between new (last_of_join result)
+
+-- the closures that the one client gets
+abbrev pub first_shelf : List (List (Text × ℕ)) → List (Text × ℕ)
+first_shelf [] = []
+first_shelf (shelf ∷ shelves) = shelf
+
+abbrev pub opening_of : List (List (Text × ℕ)) → List (List ℕ) → Opening
+opening_of shelves roots = record { shelf = first_shelf shelves; roots = roots; format = 2 }
+
+-- what `serve` does
+pub data HasServed (plan : ServePlan) (left : Option (List ℕ)) (coming : Option (List Files))
+    (heard : Option ℕ) (old new : Option (List ℕ)) (before now : ℕ) (status : ℕ) : Type 0 where
+  begun : IsServed plan left coming heard old new before now status
+      → HasServed plan left coming heard old new before now status
+  unread : plan.edits ≡ true → HasNoScript left old new before now status
+      → HasServed plan left coming heard old new before now status
+
+-- of the plan of `serve`, where the words are that command
+abbrev pub IfServe : Option Command → (ServePlan → Type 0) → Type 0
+IfServe None told = ⊤
+IfServe (Some commands.Play) told = ⊤
+IfServe (Some (commands.Check name)) told = ⊤
+IfServe (Some (commands.Make count seed)) told = ⊤
+IfServe (Some (commands.Serve plan)) told = told plan
+IfServe (Some (commands.Join port roots turns)) told = ⊤
+
+-- of the port, the roots and the turns of `join`, where the words are that command
+abbrev pub IfJoin : Option Command → (ℕ → List (List ℕ) → ℕ → Type 0) → Type 0
+IfJoin None told = ⊤
+IfJoin (Some commands.Play) told = ⊤
+IfJoin (Some (commands.Check name)) told = ⊤
+IfJoin (Some (commands.Make count seed)) told = ⊤
+IfJoin (Some (commands.Serve plan)) told = ⊤
+IfJoin (Some (commands.Join port roots turns)) told = told port roots turns
+
+abbrev pub is_join : Option Command → Bool
+is_join None = false
+is_join (Some commands.Play) = false
+is_join (Some (commands.Check name)) = false
+is_join (Some (commands.Make count seed)) = false
+is_join (Some (commands.Serve plan)) = false
+is_join (Some (commands.Join port roots turns)) = true
+
+-- what the net may have been asked first: nothing, or by `serve` to listen, or by `join` to connect
+abbrev pub MayAsk : Option Command → Option Asked → Type 0
+MayAsk (Some (commands.Serve plan)) asked = (asked ≡ None) ⊎ (asked ≡ Some (Listen plan.port))
+MayAsk (Some (commands.Join port roots turns)) asked = (asked ≡ None) ⊎ (asked ≡ Some (Connect port))
+MayAsk other asked = asked ≡ None
+
+-- which folder the tree may have been asked for: none, or by `serve` that of its plan
+abbrev pub MayHaveOpened : Option Command → Option (List ℕ) → Type 0
+MayHaveOpened (Some (commands.Serve plan)) asked = MayOpen asked plan.folder
+MayHaveOpened other asked = asked ≡ None

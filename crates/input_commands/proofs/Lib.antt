@@ -1,0 +1,10 @@
+pub mod Playing
+pub mod Writing
+pub mod Stepping
+pub mod Commanding
+pub mod Answering
+pub mod Instances
+pub mod Summing
+pub mod Roots
+pub mod Ending
+pub mod Headline

@@ -1,0 +1,122 @@
+-- One step of a play.
+use Rattle.std.proofs.Common.{◌≡◌, ℕ, Bool, true, false, List, [], ap, sym, refl, ◌∙◌, arith}
+use Rattle.std.specs.Prelude.{Option, Some, None, Result, Ok, Err, OnOk, is_err}
+use Prim.{⊥}
+use Rattle.std.specs.Global.{Vec}
+use Rattle.std.proofs.Math.Path.{subst}
+use Rattle.std.proofs.lemmas.Bool.{false≢true}
+use Rattle.hmr_base.proofs.Fronts.{front_none}
+use Rattle.output_lines.specs.declared.out_line.OutLine.{OutLine}
+use Rattle.module_language.specs.ModuleLanguage.{module_language}
+use Rattle.world_model.specs.World as model
+use Rattle.world_model.specs.World.{Step}
+use Rattle.world_model.specs.Steps.{world_step}
+use Rattle.world_model.specs.Playing.{Stage, Played, joined, stepped_on, play_step}
+use Rattle.hmr_world.specs.Standing.{StandsFor, run_on, step_in}
+use Rattle.hmr_world.specs.Stops.{AreLines}
+use Rattle.hmr_world.specs.declared.stop.WorldStop.{WorldStop}
+use Rattle.hmr_world.specs.declared.stop.WorldStop.TheVariants as worlds
+use Rattle.hmr_world.specs.declared.world.World.{World}
+use Rattle.input_commands.specs.declared.stop.Stop.{Stop}
+use Rattle.input_commands.specs.declared.stop.Stop.TheVariants.{InstancesFull}
+use Rattle.input_commands.specs.Ends.{stop_of_world}
+use Rattle.input_commands.specs.Outputs.{lines_text}
+use Rattle.input_commands.specs.Playing as plays
+use Rattle.input_commands.specs.Playing.{nothing, quieted}
+use Rattle.input_commands.specs.Standing.{IsAt}
+use Rattle.input_commands.specs.Writing.{HasCause, IsPlayStop, Plays, Taken, Takes, TakesFront}
+use Rattle.input_commands.proofs.Writing.{takes_none}
+
+-- of no lines none is shown
+pub none_shown : (quiet : Bool) → plays.shown quiet [] ≡ []
+none_shown true = refl
+none_shown false = refl
+
+pub on_ok : {X E P : Type 0} (result : Result X E) → P → OnOk result P
+on_ok (Ok x) p = p
+on_ok (Err e) p = tt
+
+module _ {F : Type 0} (stage : Stage) (w : model.World) (old : World F) (h : IsAt stage w old) where
+  -- what the step makes of the definitions' world
+  pub same_step : (s : Step) → world_step stage.language stage.roots stage.shelves w s ≡ step_in h.run s
+  same_step s =
+      ap (λ (st : Stage). world_step st.language st.roots st.shelves w s) (sym h.stage_is)
+      ∙ ap (λ v. world_step module_language h.run.roots h.run.shelves v s) (sym h.is)
+
+  -- the world stands where the step leads
+  pub stands_on : (s : Step) (after : World F) → StandsFor (run_on h.run s) after →
+      IsAt stage (step_in h.run s).world after
+  stands_on s after k = record { run = run_on h.run s; stands = k; stage_is = h.stage_is; is = refl }
+
+  part_is : (s : Step) (made : Option (List OutLine)) → (step_in h.run s).lines ≡ made →
+      play_step stage (nothing w) s ≡ stepped_on [] (step_in h.run s).world made
+  part_is s made e = ap (joined []) (same_step s) ∙ ap (stepped_on [] (step_in h.run s).world) e
+
+  -- the step went on, and its lines are taken
+  pub step_plays : (s : Step) (quiet : Bool) (lines : Vec OutLine) (after : World F) (a b : Taken)
+      (result : Result (Unit {0}) Stop) →
+      AreLines (step_in h.run s).lines (Ok lines) → StandsFor (run_on h.run s) after →
+      TakesFront a b (plays.shown quiet lines.items) →
+      OnOk result (Takes a b (plays.shown quiet lines.items)) → (result ≡ Err InstancesFull → ⊥) →
+      Plays stage a b (quieted quiet (play_step stage (nothing w) s)) after result
+  step_plays s quiet lines after a b result are k front done other =
+      subst (λ (p : Played). Plays stage a b (quieted quiet p) after result)
+      (sym (part_is s (Some lines.items) are))
+      (record {
+        performs = record {
+          front = front;
+          done = done;
+          goes_on = on_ok result refl;
+          ended = λ full. absurd (other full);
+          all = λ full. absurd (other full);
+        };
+        state = on_ok result (stands_on s after k);
+      })
+
+  -- the step ended the run, or there was no memory for it
+  pub step_stops : (s : Step) (quiet : Bool) (e : WorldStop) (after : World F) (a : Taken)
+      (stop : Stop) →
+      AreLines (step_in h.run s).lines (Err e) → stop ≡ stop_of_world e →
+      Plays stage a a (quieted quiet (play_step stage (nothing w) s)) after (Err stop)
+  step_stops s quiet worlds.InstancesFull after a stop are e =
+      subst (λ (p : Played). Plays stage a a (quieted quiet p) after (Err stop)) (sym (part_is s None are))
+      (record {
+        performs = record {
+          front = front_none a.bytes (lines_text (plays.shown quiet []));
+          done = tt;
+          goes_on = tt;
+          ended = λ full. refl;
+          all = λ full. subst (Takes a a) (sym (none_shown quiet)) (takes_none a);
+        };
+        state = tt;
+      })
+  step_stops s quiet worlds.NoMemory after a stop are e =
+      record {
+        performs = record {
+          front = front_none a.bytes (lines_text (plays.shown quiet (play_step stage (nothing w) s).lines));
+          done = tt;
+          goes_on = tt;
+          ended = λ full. absurd (cc);
+          all = λ full. absurd (cc);
+        };
+        state = tt;
+      }
+
+-- where a world's run ends, playing stops by no fault of the sink
+pub world_stops : (e : WorldStop) (stop : Stop) → stop ≡ stop_of_world e → IsPlayStop stop
+world_stops worlds.InstancesFull stop e = subst IsPlayStop (sym e) tt
+world_stops worlds.NoMemory stop e = subst IsPlayStop (sym e) tt
+
+pub without_fault : (e : WorldStop) (stop : Stop) (faults : ℕ) → stop ≡ stop_of_world e
+    → HasCause {X = Unit {0}} faults faults (Err stop)
+without_fault worlds.InstancesFull stop faults e = record { later = omega arith; unwritten = λ out. absurd (cc) }
+without_fault worlds.NoMemory stop faults e = record { later = omega arith; unwritten = λ out. absurd (cc) }
+
+pub quiet_nothing : (quiet : Bool) (w : model.World) → quieted quiet (nothing w) ≡ nothing w
+quiet_nothing true w = refl
+quiet_nothing false w = refl
+
+-- what holds where there is no stop
+pub from_ok : {P : Type 0} (result : Result (Unit {0}) Stop) → is_err result ≡ false → OnOk result P → P
+from_ok (Ok u) e p = p
+from_ok (Err stop) e p = absurd (false≢true (sym e))

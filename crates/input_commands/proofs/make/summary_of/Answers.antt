@@ -1,0 +1,10 @@
+use Rattle.std.proofs.Common.{map}
+use Rattle.handler_table.specs.Shelf.{marks_of}
+use Rattle.input_commands.proofs.Summing.{from_start}
+use Rattle.input_commands.proofs.make.summary_of.Goals as goal
+
+pub returns : goal.returns
+returns g c =
+    from_start (map marks_of c.args.shelves.items) c.args.count c.args.seed c.in-Ok.script.roots.items
+    c.in-Ok.script.lines.items c.in-Ok-new.world c.sum_up.result c.in-Ok.ensures.roots c.in-Ok.ensures.lines
+    c.in-Ok-new.ensures.stands c.sum_up.ensures

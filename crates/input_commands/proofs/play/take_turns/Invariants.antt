@@ -1,0 +1,23 @@
+use Rattle.std.proofs.Common.{◌≤◌, ◌-◌}
+use Rattle.world_model.specs.Playing.{Stage, play_turns}
+use Rattle.world_model.specs.World as worlds
+use Rattle.hmr_world.specs.Standing.{IsRunning, KeepsWords}
+use Rattle.input_commands.specs.Playing.{nothing, quieted}
+use Rattle.input_commands.specs.Standing.{IsAt}
+use Rattle.input_commands.proofs.Writing.{IsUpTo}
+use Rattle.input_commands.proofs.play.take_turns.Given as goal
+
+-- the turns that are left are still to come
+abbrev pub invariant-turns : goal.invariant-turns
+invariant-turns g l =
+    let taken = g.K.LineSink.taken in
+    let faults = g.K.LineSink.faults in
+    record {
+      so_far : (stage : Stage) (w : worlds.World) → IsAt stage w l.fn.world →
+          IsUpTo stage (taken l.fn.out) (taken l.out)
+          (λ v. quieted l.quiet (play_turns stage l.client (l.most - l.counter) (nothing v)))
+          (quieted l.quiet (play_turns stage l.client l.most (nothing w))) l.world;
+      words : KeepsWords (goal.F-post g) l.world;
+      running : IsRunning l.world;
+      later : faults l.fn.out ≤ faults l.out;
+    }

@@ -1,0 +1,9 @@
+pub mod Playing
+pub mod Instances
+pub mod Outputs
+pub mod Commands
+pub mod Standing
+pub mod Writing
+pub mod Summing
+pub mod Ends
+pub mod Headline

@@ -1,0 +1,132 @@
+-- What the program answers and writes for the words and the input that it is given.
+use Rattle.std.specs.Prelude.{◌≡◌, ◌⊎◌, ℕ, ⊤, List, [], ◌++◌, codes, decimal, length, nat_le}
+use Rattle.std.specs.Prelude.{Bool, true, false, Option, Some, None, Result, Ok, Err}
+use Prim.{⊥}
+use Rattle.std.specs.List.{flat_map}
+use Rattle.std.specs.Option.{option_map}
+use Rattle.hmr_types.specs.declared.limits.TheConstants.{SCRIPT_BYTES, TEXT_BYTES}
+use Rattle.output_lines.specs.declared.out_line.OutLine.{OutLine}
+use Rattle.core_model.specs.Names.{Name}
+use Rattle.core_model.specs.Sources.{Text}
+use Rattle.world_model.specs.Playing.{Played}
+use Rattle.play_script.specs.declared.fault.ScriptFault.{ScriptFault}
+use Rattle.play_script.specs.Script.{Contents, kind_word, script_of}
+use Rattle.play_text.specs.Lines.{line_text}
+use Rattle.command_words.specs.declared.command.Command.{Command}
+use Rattle.command_words.specs.declared.command.Command.TheVariants as commands
+use Rattle.command_words.specs.Words.{command_of, usage_line}
+use Rattle.text_check.specs.Checking.{limit_line, report}
+use Rattle.page_maker.specs.Making.{generated}
+use Rattle.page_maker.specs.Summary.{summary}
+use Rattle.input_commands.specs.Instances.{instances_made}
+use Rattle.input_commands.specs.Playing.{script_played}
+
+-- the line for an input that is no script
+abbrev pub fault_line : ScriptFault → List ℕ
+fault_line fault =
+    codes "script fault at line " ++ decimal fault.line ++ codes ": " ++ kind_word fault.kind ++ codes "\n"
+
+-- the line for a script of too many bytes
+abbrev pub input_limit : List ℕ
+input_limit = codes "limit input 16777216\n"
+
+-- the line where a client would make too many instances
+abbrev pub instances_limit : List ℕ
+instances_limit = codes "limit instances 20000\n"
+
+-- what there is to write: the status that it comes with, the text of the lines that the command makes, and
+-- the line behind them, of the fault or the limit, where there is one
+pub record Output : Type 0 where
+  pub status : ℕ
+  pub lines : List ℕ
+  pub last : List ℕ
+
+-- the bytes of lines
+abbrev pub lines_text : List OutLine → List ℕ
+lines_text lines = flat_map line_text lines
+
+-- the output of a run that came to its end, or didn't
+abbrev pub ended : Bool → List ℕ → Output
+ended false text = record { status = 0; lines = text; last = [] }
+ended true text = record { status = 8; lines = text; last = instances_limit }
+
+abbrev pub output_of_run : Played → Output
+output_of_run p = ended p.over (lines_text p.lines)
+
+-- the output of a script, or of its first fault
+abbrev pub output_of_script : List (List (Text × ℕ)) → Result Contents ScriptFault → Output
+output_of_script shelves (Ok script) = output_of_run (script_played shelves script)
+output_of_script shelves (Err fault) = record { status = 3; lines = []; last = fault_line fault }
+
+-- the output of an input of at most so many bytes, or of more
+abbrev pub output_within : List (List (Text × ℕ)) → List ℕ → Bool → Output
+output_within shelves bytes true = output_of_script shelves (script_of bytes)
+output_within shelves bytes false = record { status = 8; lines = []; last = input_limit }
+
+-- the output of `play`: the lines of the script that the input is
+abbrev pub output_of_play : List (List (Text × ℕ)) → List ℕ → Output
+output_of_play shelves bytes = output_within shelves bytes (nat_le (length bytes) SCRIPT_BYTES)
+
+-- the output of a check of a text of at most so many bytes, or of more
+abbrev pub check_within : Name → List ℕ → Bool → Output
+check_within name text true = record { status = 0; lines = report name text; last = [] }
+check_within name text false = record { status = 8; lines = []; last = limit_line }
+
+-- the output of `check`: the report of the module text that the input is
+abbrev pub output_of_check : Name → List ℕ → Output
+output_of_check name text = check_within name text (nat_le (length text) TEXT_BYTES)
+
+-- the output of a generated run that came to its end, or didn't: its summary, or the limit alone
+abbrev pub summed_up : Bool → List ℕ → Output
+summed_up false text = record { status = 0; lines = text; last = [] }
+summed_up true text = record { status = 8; lines = []; last = instances_limit }
+
+abbrev pub summary_of_run : ℕ → Played → Output
+summary_of_run count p = summed_up p.over (summary count (instances_made p.world 1) p.lines)
+
+-- the output of `make`: the summary of the run of the script that is generated
+abbrev pub output_of_make : List (List (Text × ℕ)) → ℕ → ℕ → Output
+output_of_make shelves count seed = summary_of_run count (script_played shelves (generated count seed))
+
+-- the output where the words are no command
+abbrev pub usage : Output
+usage = record { status = 2; lines = []; last = usage_line }
+
+-- the output of a command, or of none, where the input tells the bytes that it reads and each client's
+-- embedding program has these closures. What `serve` and `join` write hangs on others: it is told apart.
+abbrev pub output_meant : List (List (Text × ℕ)) → Option Command → Option (List ℕ) → Option Output
+output_meant shelves None left = Some usage
+output_meant shelves (Some commands.Play) left = option_map (output_of_play shelves) left
+output_meant shelves (Some (commands.Check name)) left = option_map (output_of_check name) left
+output_meant shelves (Some (commands.Make count seed)) left = Some (output_of_make shelves count seed)
+output_meant shelves (Some (commands.Serve plan)) left = None
+output_meant shelves (Some (commands.Join port roots turns)) left = None
+
+-- the output of these words, where the input tells the bytes that they read
+abbrev pub output_of : List (List (Text × ℕ)) → List (List ℕ) → Option (List ℕ) → Option Output
+output_of shelves words left = output_meant shelves (command_of words) left
+
+-- the words are a command that reads its input
+abbrev pub reads_input : Option Command → Bool
+reads_input None = false
+reads_input (Some commands.Play) = true
+reads_input (Some (commands.Check name)) = true
+reads_input (Some (commands.Make count seed)) = false
+reads_input (Some (commands.Serve plan)) = plan.edits
+reads_input (Some (commands.Join port roots turns)) = false
+
+-- all of its bytes
+abbrev pub whole : Output → List ℕ
+whole output = output.lines ++ output.last
+
+-- no other status is answered
+abbrev pub IsOwnStatus : ℕ → Type 0
+IsOwnStatus n = (n ≡ 0) ⊎ (n ≡ 2) ⊎ (n ≡ 3) ⊎ (n ≡ 4) ⊎ (n ≡ 5) ⊎ (n ≡ 8) ⊎ (n ≡ 9)
+
+-- a command that works on its input alone
+abbrev pub WorksAlone : Command → Type 0
+WorksAlone commands.Play = ⊤
+WorksAlone (commands.Check name) = ⊤
+WorksAlone (commands.Make count seed) = ⊤
+WorksAlone (commands.Serve plan) = ⊥
+WorksAlone (commands.Join port roots turns) = ⊥

@@ -1,0 +1,24 @@
+//! The commands that work on their input alone: `play`, `check` and `make`.
+//!
+//! `play` reads a script, plays it, and writes the lines of each step as the step is made; `check` reads a
+//! module text and writes what there is to tell of it; `make` plays a script that is generated and writes a
+//! summary of its run. Stands on the words, on worlds and on what they are played by. Keeps: what is written
+//! is a front of the definition's text of the words and of the bytes read, and the whole of it at status 0.
+//! Knows nothing of folders, nets or threads.
+#![tactic(auto)]
+
+mod alone;
+mod check;
+mod command;
+mod line_sink;
+mod make;
+mod play;
+mod script;
+mod shelves;
+mod showing;
+mod stop;
+
+pub use alone::run_alone;
+pub use script::stop_of_fault;
+pub use shelves::{discard, host_shelves};
+pub use stop::Stop;

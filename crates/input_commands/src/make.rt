@@ -1,0 +1,184 @@
+// The command `make`: a script is generated and played, its lines are kept, and their summary is written.
+ghost use Rattle.std.specs.List.{All};
+ghost use Rattle.std.specs.Prelude.{◌≡◌, ◌≢◌, ◌<◌, ◌≤◌, IfErr, IfOk, IsErrOf, OnOk, count_by, false, map, true};
+ghost use Rattle.handler_table.specs.Shelf.{marks_of};
+ghost use Rattle.hmr_base.specs.Causes.{Rose};
+ghost use Rattle.hmr_base.specs.Fronts.{WritesFront};
+ghost use Rattle.hmr_world.specs.Shelves.{AreHosts};
+ghost use Rattle.hmr_world.specs.Standing.{IsRunning, KeepsWords};
+ghost use Rattle.page_maker.specs.Making.{generated};
+ghost use Rattle.play_script.specs.Asked.{HasFormat};
+ghost use Rattle.world_model.specs.Playing.{Stage};
+ghost use Rattle.world_model.specs.World as worlds;
+ghost use Rattle.input_commands.specs.declared.stop.Stop.TheVariants.{Unread, Unwritten};
+ghost use Rattle.input_commands.specs.Ends.{Finishes, StopsAt};
+ghost use Rattle.input_commands.specs.Instances.{instances_made, is_instance};
+ghost use Rattle.input_commands.specs.Outputs.{output_of_make, whole};
+ghost use Rattle.input_commands.specs.Playing.{perform, script_played};
+ghost use Rattle.input_commands.specs.Standing.{IsAt};
+ghost use Rattle.input_commands.specs.Summing.{SumsUp};
+
+use crate::line_sink::KeptLines;
+use crate::play::play_all;
+use crate::shelves::discard;
+use crate::stop::Stop;
+use const_eval::Ran;
+use handler_table::Shelf;
+use hmr_base::{Sink, write_all};
+use hmr_types::ClientId;
+use hmr_world::{Step, World, WorldStop};
+use output_lines::OutLine;
+use page_maker::{Generated, generate, summary};
+use play_script::ScriptLine;
+use retained_data::Bag;
+use server_core::NewFault;
+use std::alloc::{AllocError, Global};
+
+/// Makes the script of a page of `count` modules that the seed gives, plays it on a world whose clients get
+/// the closures of these shelves, and writes the summary of its run. What there is to write is the
+/// definition `output_of_make`. The lines of the run are kept in memory until its end.
+///
+/// `InstancesFull` comes where the client would make too many instances, `Unwritten` only where the count
+/// of faults of the output rose, and `NoMemory` where memory ran out. No other stop comes.
+pub fn make<F: FnOnce(Bag) -> Result<Ran, AllocError> + Drop, K: Sink>(
+    alloc: Global,
+    count: u32,
+    seed: u32,
+    out: &mut K,
+    shelves: Vec<Shelf<F>>,
+) -> Result<(), Stop>
+    requires some { 0 < count }
+    requires few { count ≤ 4096 }
+    requires callable { (f : F) → F.IsAlwaysCallable f }
+    requires hosts { AreHosts F.post shelves.items }
+    ensures done { OnOk result (Finishes
+        (output_of_make (map marks_of shelves.items) count seed) (K.written out.old) (K.written out.new)) }
+    ensures front { WritesFront (K.written out.old) (K.written out.new)
+        (whole (output_of_make (map marks_of shelves.items) count seed)) }
+    ensures stops { IfErr result (λ stop. StopsAt
+        (output_of_make (map marks_of shelves.items) count seed)
+        (K.written out.old) (K.written out.new) stop) }
+    ensures words { IfErr result (λ stop. stop ≢ Stop.NotACommand) }
+    ensures read { IfErr result (λ stop. stop ≢ Unread) }
+    ensures unwritten { IsErrOf result Unwritten → Rose (K.faults out.old) (K.faults out.new) }
+    ensures later { K.faults out.old ≤ K.faults out.new }
+{
+    let summary = summary_of(alloc, count, seed, shelves)?;
+    write_all(out, &summary)?;
+    Ok(())
+}
+
+/// The summary of the run of the script that is generated.
+fn summary_of<F: FnOnce(Bag) -> Result<Ran, AllocError> + Drop>(
+    alloc: Global,
+    count: u32,
+    seed: u32,
+    shelves: Vec<Shelf<F>>,
+) -> Result<Vec<u8>, Stop>
+    requires some { 0 < count }
+    requires few { count ≤ 4096 }
+    requires callable { (f : F) → F.IsAlwaysCallable f }
+    requires hosts { AreHosts F.post shelves.items }
+    ensures { SumsUp count (script_played (map marks_of shelves.items) (generated count seed)) result }
+{
+    let Ok(script) = generate(alloc, count, seed) else {
+        discard(shelves);
+        return Err(Stop::NoMemory);
+    };
+    let Generated { roots, lines } = script;
+    match World::new(alloc, roots, shelves) {
+        Ok(world) => sum_up(alloc, world, count, lines),
+        Err(NewFault::NoRoots) => unreachable!(),
+        Err(NewFault::TooManyRoots) => unreachable!(),
+        Err(NewFault::DuplicateRoot) => unreachable!(),
+    }
+}
+
+fn sum_up<F: FnOnce(Bag) -> Result<Ran, AllocError> + Drop>(
+    alloc: Global,
+    world: World<F>,
+    count: u32,
+    lines: Vec<ScriptLine>,
+) -> Result<Vec<u8>, Stop>
+    requires formats { All HasFormat lines.items }
+    requires callable { (f : F) → F.IsAlwaysCallable f }
+    requires words { KeepsWords F.post world }
+    requires running { IsRunning world }
+    ensures { (stage : Stage) (w : worlds.World) → IsAt stage w world
+        → SumsUp count (perform stage lines.items false w) result }
+{
+    let mut world = world;
+    let summed = play_and_sum(alloc, &mut world, count, lines);
+    world.end();
+    summed
+}
+
+/// Plays the commands, and sums up the lines that are shown.
+fn play_and_sum<F: FnOnce(Bag) -> Result<Ran, AllocError> + Drop>(
+    alloc: Global,
+    world: &mut World<F>,
+    count: u32,
+    lines: Vec<ScriptLine>,
+) -> Result<Vec<u8>, Stop>
+    requires formats { All HasFormat lines.items }
+    requires callable { (f : F) → F.IsAlwaysCallable f }
+    requires words { KeepsWords F.post world.old }
+    requires running { IsRunning world.old }
+    ensures { (stage : Stage) (w : worlds.World) → IsAt stage w world.old
+        → SumsUp count (perform stage lines.items false w) result }
+{
+    let mut kept = KeptLines {
+        lines: Vec::new(alloc),
+    };
+    play_all(alloc, world, lines, &mut kept)?;
+    let instances = instances_made(world, 1)?;
+    Ok(summary(alloc, count, instances, &kept.lines)?)
+}
+
+/// How many instances a client made: its fates tell each of them.
+fn instances_made<F: FnOnce(Bag) -> Result<Ran, AllocError> + Drop>(
+    world: &mut World<F>,
+    client: ClientId,
+) -> Result<u64, Stop>
+    requires callable { (f : F) → F.IsAlwaysCallable f }
+    requires words { KeepsWords F.post world.old }
+    requires running { IsRunning world.old }
+    ensures made { (stage : Stage) (w : worlds.World) → IsAt stage w world.old
+        → IfOk result (λ made. made ≡ instances_made w client) }
+    ensures stops { IfErr result (λ stop. stop ≡ Stop.NoMemory) }
+{
+    match world.step(Step::Fates(client)) {
+        Ok(lines) => Ok(count_instances(&lines)),
+        Err(WorldStop::InstancesFull) => unreachable!(),
+        Err(WorldStop::NoMemory) => Err(Stop::NoMemory),
+    }
+}
+
+fn count_instances(lines: &[OutLine]) -> u64
+    ensures { result ≡ count_by is_instance lines.now }
+{
+    let mut count = 0;
+    for line in lines {
+        if is_instance(line) {
+            count += 1;
+        }
+    }
+    count
+}
+
+/// Whether the line is that of an instance.
+#[tactic(auto, unfolding(crate::specs::Instances::is_instance))]
+fn is_instance(line: &OutLine) -> bool
+    ensures { result ≡ is_instance line.now }
+{
+    matches!(
+        line,
+        OutLine::Instance {
+            number: _,
+            name: _,
+            version: _,
+            status: _,
+            fate: _
+        }
+    )
+}
