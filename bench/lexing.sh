@@ -1,11 +1,11 @@
 #!/usr/bin/env bash
-# Bytes per second of the lexer and of the parser on four texts, beside es-module-lexer and a plain loop in C.
+# Bytes per second of the lexer and of the parser on five texts, beside es-module-lexer and a plain loop in C.
 #
 #     bench/lexing.sh [PROGRAM]
 #
-# The texts have 60 kB each: one long comment, declarations with long names, a usual module, and dense
-# punctuation. Each is lexed and parsed 400 times by a small program over hot_lexer and hot_parser, which is
-# proved before it is built, in a copy of the crates. es-module-lexer reads the same texts as often, where
+# The texts have 60 kB each: one long comment, spaces, declarations with long names, a usual module, and dense
+# punctuation. Each is lexed 4,000 times and parsed 400 times by a small program over hot_lexer and hot_parser, which
+# is proved before it is built, in a copy of the crates. es-module-lexer reads the same texts 400 times, where
 # Node finds it (NODE_PATH says where to look): it tells imports and exports and makes no tokens. The loop in
 # C goes byte by byte, counts the tokens and keeps nothing; clang compiles it at -O2. What is told is
 # processor time in user mode, so that other work on the machine counts less. PROGRAM, where one is given, is
@@ -121,6 +121,7 @@ def filled(line):
 
 texts = {
     "comment": "/* " + "All work and no play makes Jack a dull boy. " * (SIZE // 45) + "*/\nexport const v = 1;\n",
+    "spaces": " " * SIZE + "\nexport const v = 1;\n",
     "names": filled(lambda n: f"export const the_number_of_things_that_were_counted_on_page_{n} = "
                               f"another_number_of_things_of_a_page_{n};\n"),
     "usual": filled(lambda n: f"""// The part {n} of the page: its total, and what its label says.
@@ -197,19 +198,19 @@ END
 
 # The seconds that a command takes in user mode; what it writes goes to $work/said.
 seconds() { local TIMEFORMAT=%U; { time "$@" > "$work/said" 2>&1; } 2>&1; }
-rate() { awk -v bytes="$1" -v seconds="$2" 'BEGIN { if (seconds > 0) printf "%.0f", bytes * 400 / seconds / 1e6; else printf "-" }'; }
+rate() { awk -v bytes="$1" -v runs="$2" -v seconds="$3" 'BEGIN { if (seconds > 0) printf "%.0f", bytes * runs / seconds / 1e6; else printf "-" }'; }
 
 echo "MB/s         tokens     lex   parse  plain loop  es-module-lexer"
-for name in comment names usual dense; do
+for name in comment spaces names usual dense; do
   text="$work/texts/$name"
   bytes=$(wc -c < "$text")
-  lexed=$(seconds "$program" lex 400 < "$text")
+  lexed=$(seconds "$program" lex 4000 < "$text")
   count=$(cat "$work/said")
   parsed=$(seconds "$program" parse 400 < "$text")
   [ "$(cat "$work/said")" = 1 ] || { echo "bench: $name is no module" >&2; exit 1; }
   looped=$(seconds "$work/loop" < "$text")
   [ "$(cat "$work/said")" = "$count" ] || { echo "bench: the loop counts other tokens of $name" >&2; exit 1; }
   peer=$(cd "$work" && "${NODE:-node}" peer.js "$text" 2> /dev/null || echo 0)
-  printf '%-10s %8d %7s %7s %11s %16s\n' "$name" "$count" "$(rate "$bytes" "$lexed")" "$(rate "$bytes" "$parsed")" \
-    "$(rate "$bytes" "$looped")" "$(rate "$bytes" "$peer")"
+  printf '%-10s %8d %7s %7s %11s %16s\n' "$name" "$count" "$(rate "$bytes" 4000 "$lexed")" \
+    "$(rate "$bytes" 400 "$parsed")" "$(rate "$bytes" 400 "$looped")" "$(rate "$bytes" 400 "$peer")"
 done

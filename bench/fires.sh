@@ -1,0 +1,259 @@
+#!/usr/bin/env bash
+# What it costs a client to run a handler, as its page grows: instructions, counted by valgrind's callgrind.
+#
+#     bench/fires.sh [PROGRAM]
+#
+# A small program over hot_runtime loads a page of one module with so many variables, and fires 1,000 events at
+# it. One callback hears each: it sets one variable and logs it. The program is proved before it is built, in a copy of the
+# crates; PROGRAM, where one is given, is that small program, built before. Told are the instructions of a load,
+# and those of an event, without the load, for 27, 270 and 2,700 variables, and how many times those of 27 they
+# are.
+set -eu
+top=$(cd "$(dirname "${BASH_SOURCE[0]}")/.." && pwd)
+work=$(mktemp -d)
+trap 'rm -rf "$work"' EXIT
+
+program=${1-}
+if [ -z "$program" ]; then
+  mkdir -p "$work/crates/fire_bench/src" "$work/crates/fire_bench/proofs/fires/fire_all"
+  for name in hmr_types module_tree output_lines update_msgs module_semantics core_model client_model \
+    module_language byte_lanes hot_lexer hot_grammar hot_printer hot_parser import_scan retained_data \
+    const_eval handler_table module_graph page_instances page_plan page_deeds hot_runtime play_script \
+    play_text json_readings message_text message_json; do
+    mkdir "$work/crates/$name"
+    for part in src specs proofs; do
+      if [ -d "$top/crates/$name/$part" ]; then cp -r "$top/crates/$name/$part" "$work/crates/$name/"; fi
+    done
+    grep "^$name:" "$top/crates.txt" >> "$work/crates.txt"
+  done
+  cp "$top/HANDLES" "$work/"
+  echo 'fire_bench: hmr_types update_msgs retained_data const_eval handler_table hot_runtime message_json' \
+    >> "$work/crates.txt"
+  cat > "$work/crates/fire_bench/src/main.rt" << 'END'
+//! Loads a page of one module with so many variables, and fires so many events at it, each of which one callback
+//! hears that sets a variable and logs it: `fire_bench VARIABLES EVENTS`. Tells how many lines that gave.
+#![tactic(auto)]
+
+mod fires;
+mod page;
+
+use const_eval::Ran;
+use fires::fired;
+use handler_table::host_run;
+use page::text_message;
+use retained_data::Bag;
+use std::alloc::AllocError;
+use std::env;
+use std::process::ExitCode;
+
+fn number(text: Option<String>) -> u32 {
+    text.and_then(|word| word.parse().ok()).unwrap_or(0)
+}
+
+fn main(rt: HostRuntime) -> ExitCode {
+    let alloc = rt.alloc();
+    let out = rt.stdout();
+    let Ok(mut words) = env::args(&rt) else {
+        return ExitCode::from(2);
+    };
+    words.next();
+    let variables = number(words.next());
+    let events = number(words.next());
+    let Ok(page) = text_message(alloc, variables) else {
+        return ExitCode::from(9);
+    };
+    let make = |number: u32| {
+        move |bag: Bag| -> Result<Ran, AllocError> { host_run(alloc, "H", number, bag) }
+    };
+    let Ok(told) = fired(alloc, make, page.as_str(), events) else {
+        return ExitCode::from(9);
+    };
+    match println!(out; "{told}") {
+        Ok(()) => ExitCode::from(0),
+        Err(_) => ExitCode::from(5),
+    }
+}
+END
+  cat > "$work/crates/fire_bench/src/page.rt" << 'END'
+// The module of the page, as its server sends it.
+use std::alloc::{AllocError, Global};
+
+/// The message with a module of so many variables, and a callback on `/event/x` that sets the last of them.
+pub fn text_message(alloc: Global, variables: u32) -> Result<String, AllocError> {
+    let mut text = String::from_str(alloc, r#"{"path":"/m.js","text":""#)?;
+    for number in 0..variables {
+        let variable = format!(in alloc; "let v{number} = {number}; ")?;
+        text.push_str(&variable)?;
+    }
+    text.push_str("let seen = 0; import.meta.hot.accept('/event/x', ")?;
+    text.push_str("(e) => { seen = e?.data; console.log('seen', seen); });")?;
+    text.push_str(r#"","type":"text","version":1}"#)?;
+    Ok(text)
+}
+END
+  cat > "$work/crates/fire_bench/src/fires.rt" << 'END'
+// A client takes the messages of its load, and hears events.
+ghost use Rattle.std.specs.Prelude.{◌≡◌, ℕ, IfOk, codes};
+ghost use Rattle.handler_table.specs.Held.{IsHost};
+ghost use Rattle.update_msgs.specs.Writable.{IsFormat, IsWritable};
+ghost use Rattle.hot_runtime.specs.Standing.{KeepsWords};
+
+use const_eval::Ran;
+use handler_table::Shelf;
+use hmr_types::{ModName, Text, Value};
+use hot_runtime::HotRuntime;
+use message_json::decode;
+use retained_data::Bag;
+use std::alloc::{AllocError, Global};
+use update_msgs::ServerMsg;
+
+const CONNECTED: &str = r#"{"client":1,"roots":["/m.js"],"type":"connected"}"#;
+
+const DONE: &str = r#"{"type":"done"}"#;
+
+fn text(alloc: Global, characters: &str) -> Result<Text, AllocError>
+    ensures { IfOk result (λ t. t ≡ characters.now) }
+{
+    Ok(Text::from_string(String::from_str(alloc, characters)?))
+}
+
+fn message(alloc: Global, json: &str, format: u8) -> Result<ServerMsg, AllocError>
+    requires format { IsFormat format }
+    ensures writable { IfOk result (IsWritable format) }
+{
+    match decode(alloc, json.as_bytes(), format) {
+        Ok(msg) => Ok(msg),
+        Err(_) => Err(AllocError),
+    }
+}
+
+fn take<F: FnOnce(Bag) -> Result<Ran, AllocError> + Drop>(
+    alloc: Global,
+    runtime: &mut HotRuntime<F>,
+    json: &str,
+) -> Result<(), AllocError>
+    requires format { IsFormat runtime.old.format }
+    requires callable { (f : F) → F.IsAlwaysCallable f }
+    requires words { KeepsWords F.post runtime.old }
+    ensures words { KeepsWords F.post runtime.new }
+    ensures format { runtime.new.format ≡ runtime.old.format }
+{
+    let msg = message(alloc, json, runtime.format())?;
+    match runtime.take(msg) {
+        Ok(_) => Ok(()),
+        Err(_) => Err(AllocError),
+    }
+}
+
+fn fire<F: FnOnce(Bag) -> Result<Ran, AllocError> + Drop>(
+    runtime: &mut HotRuntime<F>,
+    name: &ModName,
+    value: &Value,
+) -> Result<usize, AllocError>
+    requires callable { (f : F) → F.IsAlwaysCallable f }
+    requires words { KeepsWords F.post runtime.old }
+    ensures words { KeepsWords F.post runtime.new }
+{
+    match runtime.fire(name, value) {
+        Ok(Some(lines)) => Ok(lines.len()),
+        _ => Err(AllocError),
+    }
+}
+
+fn fire_all<F: FnOnce(Bag) -> Result<Ran, AllocError> + Drop>(
+    alloc: Global,
+    runtime: &mut HotRuntime<F>,
+    events: u32,
+) -> Result<usize, AllocError>
+    requires callable { (f : F) → F.IsAlwaysCallable f }
+    requires words { KeepsWords F.post runtime.old }
+{
+    let Ok(name) = ModName::read(alloc, b"/event/x") else {
+        return Err(AllocError);
+    };
+    let value = Value::Str(text(alloc, "news")?);
+    let mut lines = 0usize;
+    for _ in 0..events {
+        lines = lines.wrapping_add(fire(runtime, &name, &value)?);
+    }
+    Ok(lines)
+}
+
+fn load_and_fire<F: FnOnce(Bag) -> Result<Ran, AllocError> + Drop>(
+    alloc: Global,
+    runtime: &mut HotRuntime<F>,
+    page: &str,
+    events: u32,
+) -> Result<usize, AllocError>
+    requires format { IsFormat runtime.old.format }
+    requires callable { (f : F) → F.IsAlwaysCallable f }
+    requires words { KeepsWords F.post runtime.old }
+{
+    take(alloc, runtime, CONNECTED)?;
+    take(alloc, runtime, page)?;
+    take(alloc, runtime, DONE)?;
+    fire_all(alloc, runtime, events)
+}
+
+/// How many lines so many events give at a new client that loaded the page of this message. `make` makes
+/// closures of their numbers: its shelf has one.
+pub fn fired<F: FnOnce(Bag) -> Result<Ran, AllocError> + Drop, M: Fn(u32) -> F + Drop>(
+    alloc: Global,
+    make: M,
+    page: &str,
+    events: u32,
+) -> Result<usize, AllocError>
+    requires makes { M.IsAlwaysCallable make }
+    requires callable { (f : F) → F.IsAlwaysCallable f }
+    requires hosts { (n : ℕ) (f : F) → M.post make n f → IsHost F.post (record { label = codes "H"; number = n; call = f }) }
+{
+    let label = text(alloc, "H")?;
+    let mut shelf = Shelf::new(Vec::new(alloc));
+    if let Err(refused) = shelf.fill(&label, 1, 2, make) {
+        shelf.end();
+        return Err(refused);
+    }
+    let mut runtime = HotRuntime::new(alloc, shelf, Vec::new(alloc), 1);
+    let told = load_and_fire(alloc, &mut runtime, page, events);
+    runtime.end();
+    told
+}
+END
+  cat > "$work/crates/fire_bench/proofs/fires/fire_all/Invariants.antt" << 'END'
+use Rattle.hot_runtime.specs.Standing.{KeepsWords}
+use Rattle.fire_bench.proofs.fires.fire_all.Given as goal
+
+-- what is held keeps its word
+abbrev pub invariant-loop : goal.invariant-loop
+invariant-loop g l = KeepsWords (goal.F-post g) l.runtime
+END
+  echo 'bench: proving and building the program' >&2
+  (cd "$work/crates/fire_bench" && rt run -- 1 1) > "$work/log" 2>&1 || { tail -30 "$work/log" >&2; exit 1; }
+  program="$work/crates/fire_bench/out/fire_bench"
+fi
+[ -x "$program" ] || { echo "no program at $program" >&2; exit 1; }
+command -v valgrind > /dev/null || { echo 'bench: valgrind is not installed' >&2; exit 1; }
+
+exec python3 - "$program" "$work" << 'END'
+import re, subprocess, sys
+
+program, work = sys.argv[1:]
+EVENTS = 1000
+
+
+def counted(variables, events):
+    """The instructions of a run, which tells a line for each event."""
+    words = ["valgrind", "--tool=callgrind", f"--callgrind-out-file={work}/calls", program, str(variables), str(events)]
+    ran = subprocess.run(words, capture_output=True, text=True)
+    if ran.returncode or int(ran.stdout) != events:
+        sys.exit(f"{' '.join(words[3:])}: status {ran.returncode}\n{ran.stdout}{ran.stderr}")
+    return int(re.search(r"Collected : (\d+)", ran.stderr)[1])
+
+
+least = None
+for variables in (27, 270, 2700):
+    load = counted(variables, 0)
+    each = (counted(variables, EVENTS) - load) / EVENTS
+    least = least or each
+    print(f"{variables:>5} variables: load {load:,}, event {each:,.0f} instructions, {each / least:.1f} times that on 27", flush=True)
+END
