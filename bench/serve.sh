@@ -111,7 +111,7 @@ def measure_texts(work):
             (folder / f"m{number}.js").write_text(text)
 
     save(0)
-    server = start(["serve", str(folder), "/m0.js", "--rounds", "100"])
+    server = start(["serve", str(folder), "/m0.js", "--rounds", "1000"])
     turn = 0
     server.stdout.readline()
     while os.waitid(os.P_PID, server.pid, os.WEXITED | os.WNOHANG | os.WNOWAIT) is None and turn < 60:
