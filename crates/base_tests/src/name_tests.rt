@@ -1,6 +1,6 @@
 // Worked rows of names and specifiers from outside of the definitions, and what no clause says: that
 // they are read with ample memory.
-use hmr_types::{ModName, SpecFault, is_name, resolve};
+use hmr_types::{ModName, SpecFault, Text, event_module, event_path, is_event, is_name, resolve};
 use std::alloc::{AllocError, Global};
 use std::test::Fail;
 
@@ -114,5 +114,47 @@ fn names_are_slashes_and_segments(rt: HostRuntime) -> Result<(), Fail> {
         }
     }
     assert_eq!(rt; rows, 16);
+    Ok(())
+}
+
+/// The module of the event that a text names, or `none`.
+fn listened(alloc: Global, event: &str) -> Result<Text, AllocError> {
+    if is_event(event.as_bytes()) {
+        event_module(alloc, event)
+    } else {
+        Ok(Text::from_string(String::from_str(alloc, "none")?))
+    }
+}
+
+/// A text and the module of the event that it names, in turn.
+const EVENTS: &str = "\
+ping /event/ping
+my:ping /event/my/ping
+a:b-2:C_d.js /event/a/b-2/C_d.js
+ none
+: none
+my: none
+:ping none
+my::ping none
+my:. none
+..:ping none
+my/ping none
+my?:ping none
+";
+
+#[test]
+fn events_stand_for_modules(rt: HostRuntime) -> Result<(), Fail> {
+    let alloc = rt.alloc();
+    let mut rows: u32 = 0;
+    for row in EVENTS.lines() {
+        if let Some((event, want)) = row.split_once(' ') {
+            let is = listened(alloc, event)?;
+            assert_eq!(rt; is.as_str(), want);
+            let stands = event_path(is.as_str().as_bytes()).is_some();
+            assert!(rt; stands == (want != "none"));
+            rows = rows.wrapping_add(1);
+        }
+    }
+    assert_eq!(rt; rows, 12);
     Ok(())
 }

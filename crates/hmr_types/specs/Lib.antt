@@ -1,3 +1,4 @@
+pub mod Event
 pub mod ModName
 pub mod Results
 pub mod Specifier

@@ -1,6 +1,6 @@
-//! The vocabulary of the product: module names and what a specifier means, tables of versions, texts
-//! and values, what an analysis tells of a module text, the words that several crates share, and the
-//! limits.
+//! The vocabulary of the product: names of modules and events and what a specifier means, tables of
+//! versions, texts and values, what an analysis tells of a module text, the words that several crates
+//! share, and the limits.
 //!
 //! Every other crate stands on this one. It stands on nothing but std. Keeps: a [`ModName`] is always
 //! a name, a [`Table`] always rises, and contracts see each list and text as the list that it holds,
@@ -8,6 +8,7 @@
 #![tactic(auto)]
 
 mod analysis;
+mod event;
 pub mod limits;
 mod mod_name;
 mod sequence;
@@ -18,6 +19,7 @@ mod value;
 mod words;
 
 pub use analysis::{Analysis, FaultWord, Outcome, TextFault};
+pub use event::{event_module, event_path, events_and_modules_tell_each_other, is_event};
 pub use mod_name::{ModName, NameFault, is_name};
 pub use sequence::Sequence;
 pub use specifier::{SpecFault, resolve};

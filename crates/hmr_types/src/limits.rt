@@ -3,6 +3,9 @@
 /// The most bytes that the name of a module has.
 pub const NAME_BYTES: usize = 255;
 
+/// The most bytes that the name of an event has.
+pub const EVENT_BYTES: usize = 64;
+
 /// The most bytes that the text of a module has.
 pub const TEXT_BYTES: usize = 131_072;
 

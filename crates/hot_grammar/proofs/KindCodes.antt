@@ -12,7 +12,7 @@ found code [] = kinds.Other
 found code (k ∷ ks) = if code == code_of k then k else found code ks
 
 abbrev all : List Kind
-all = kinds.Other ∷ kinds.Import ∷ kinds.Export ∷ kinds.Const ∷ kinds.Let ∷ kinds.If ∷ kinds.Else ∷ kinds.Throw ∷ kinds.Undefined ∷ kinds.Null ∷ kinds.True ∷ kinds.False ∷ kinds.Console ∷ kinds.Log ∷ kinds.Host ∷ kinds.New ∷ kinds.Error ∷ kinds.From ∷ kinds.As ∷ kinds.Meta ∷ kinds.Hot ∷ kinds.Data ∷ kinds.Accept ∷ kinds.Dispose ∷ kinds.Prune ∷ kinds.Decline ∷ kinds.Invalidate ∷ kinds.Number ∷ kinds.Text ∷ kinds.OpenBrace ∷ kinds.CloseBrace ∷ kinds.Open ∷ kinds.Close ∷ kinds.OpenBracket ∷ kinds.CloseBracket ∷ kinds.Comma ∷ kinds.Semicolon ∷ kinds.Dot ∷ kinds.Equals ∷ kinds.Plus ∷ kinds.Minus ∷ kinds.Times ∷ kinds.Question ∷ kinds.Colon ∷ kinds.Arrow ∷ kinds.SafeDot ∷ kinds.Nullish ∷ []
+all = kinds.Other ∷ kinds.Import ∷ kinds.Export ∷ kinds.Const ∷ kinds.Let ∷ kinds.If ∷ kinds.Else ∷ kinds.Throw ∷ kinds.Undefined ∷ kinds.Null ∷ kinds.True ∷ kinds.False ∷ kinds.Console ∷ kinds.Log ∷ kinds.Host ∷ kinds.New ∷ kinds.Error ∷ kinds.From ∷ kinds.As ∷ kinds.Meta ∷ kinds.Hot ∷ kinds.Data ∷ kinds.Accept ∷ kinds.Dispose ∷ kinds.Prune ∷ kinds.Decline ∷ kinds.Invalidate ∷ kinds.On ∷ kinds.Number ∷ kinds.Text ∷ kinds.OpenBrace ∷ kinds.CloseBrace ∷ kinds.Open ∷ kinds.Close ∷ kinds.OpenBracket ∷ kinds.CloseBracket ∷ kinds.Comma ∷ kinds.Semicolon ∷ kinds.Dot ∷ kinds.Equals ∷ kinds.Plus ∷ kinds.Minus ∷ kinds.Times ∷ kinds.Question ∷ kinds.Colon ∷ kinds.Arrow ∷ kinds.SafeDot ∷ kinds.Nullish ∷ []
 
 is_found : (k : Kind) → found (code_of k) all ≡ k
 is_found kinds.Other = refl
@@ -42,6 +42,7 @@ is_found kinds.Dispose = refl
 is_found kinds.Prune = refl
 is_found kinds.Decline = refl
 is_found kinds.Invalidate = refl
+is_found kinds.On = refl
 is_found kinds.Number = refl
 is_found kinds.Text = refl
 is_found kinds.OpenBrace = refl

@@ -1,6 +1,6 @@
 -- The numbers that the definitions give to the kinds of tokens.
 use Rattle.std.specs.Prelude.{ℕ}
-use Rattle.module_semantics.specs.Kinds.{OTHER, IMPORT, EXPORT, CONST, LET, IF, ELSE, THROW, UNDEFINED, NULL, TRUE, FALSE, CONSOLE, LOG, HOST, NEW, ERROR, FROM, AS, META, HOT, DATA, ACCEPT, DISPOSE, PRUNE, DECLINE, INVALIDATE, NUMBER, TEXT, OPEN_BRACE, CLOSE_BRACE, OPEN, CLOSE, OPEN_BRACKET, CLOSE_BRACKET, COMMA, SEMICOLON, DOT, EQUALS, PLUS, MINUS, TIMES, QUESTION, COLON, ARROW, SAFE_DOT, NULLISH}
+use Rattle.module_semantics.specs.Kinds.{OTHER, IMPORT, EXPORT, CONST, LET, IF, ELSE, THROW, UNDEFINED, NULL, TRUE, FALSE, CONSOLE, LOG, HOST, NEW, ERROR, FROM, AS, META, HOT, DATA, ACCEPT, DISPOSE, PRUNE, DECLINE, INVALIDATE, ON, NUMBER, TEXT, OPEN_BRACE, CLOSE_BRACE, OPEN, CLOSE, OPEN_BRACKET, CLOSE_BRACKET, COMMA, SEMICOLON, DOT, EQUALS, PLUS, MINUS, TIMES, QUESTION, COLON, ARROW, SAFE_DOT, NULLISH}
 use Rattle.hot_grammar.specs.declared.kind.Kind.{Kind}
 use Rattle.hot_grammar.specs.declared.kind.Kind.TheVariants as kinds
 
@@ -33,6 +33,7 @@ code_of kinds.Dispose = DISPOSE
 code_of kinds.Prune = PRUNE
 code_of kinds.Decline = DECLINE
 code_of kinds.Invalidate = INVALIDATE
+code_of kinds.On = ON
 code_of kinds.Number = NUMBER
 code_of kinds.Text = TEXT
 code_of kinds.OpenBrace = OPEN_BRACE

@@ -78,6 +78,7 @@ raw_item_of (items.Declare exported mutable name value) = plain.declare exported
 raw_item_of (items.Act s) = plain.act (raw_stmt_of s)
 raw_item_of (items.Own once) = plain.own (option_map raw_once_of once)
 raw_item_of (items.Deps list specs call) = plain.deps list specs.items (option_map raw_handler_of call)
+raw_item_of (items.On event call) = plain.on (name_at_of event) (raw_handler_of call)
 raw_item_of (items.Dispose once) = plain.dispose (raw_once_of once)
 raw_item_of (items.Prune once) = plain.prune (raw_once_of once)
 raw_item_of items.Decline = plain.decline

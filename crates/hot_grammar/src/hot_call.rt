@@ -1,8 +1,8 @@
-// The calls of `import.meta.hot` at the top of a module: `accept`, `dispose`, `prune` and `decline`.
+// The calls of `import.meta.hot` at the top of a module: `accept`, `dispose`, `prune`, `on` and `decline`.
 ghost use Rattle.std.specs.Prelude.{◌≡◌, ◌∷◌, []};
 ghost use Rattle.module_semantics.specs.Kinds.{CLOSE, OPEN, TEXT};
 ghost use Rattle.module_semantics.specs.Readers.{listed, mark, ◌▷◌, ◌◁◌};
-ghost use Rattle.module_semantics.specs.Reading.{accepted, body, hot_call, hot_top, inner, once, text_token};
+ghost use Rattle.module_semantics.specs.Reading.{accepted, body, hot_call, hot_top, inner, listened, once, text_token};
 ghost use Rattle.hot_grammar.specs.Kinds.{code_of};
 ghost use Rattle.hot_grammar.specs.Parts.{list_deps, one_dep, told_hot};
 ghost use Rattle.hot_grammar.specs.Raw.{raw_item_of, raw_once_of};
@@ -120,6 +120,20 @@ fn read_once_call(
     tokens.mark_after(once, Kind::Close)
 }
 
+/// What `on` takes: the name of an event, and a callback.
+fn read_listened(
+    alloc: Global,
+    tokens: &mut Tokens<'_>,
+    depth: u32,
+) -> Result<RawItem, GrammarFault>
+    ensures { Gives (λ i. (raw_item_of i, tokens.new)) result (listened (body (inner depth)) tokens.old) }
+{
+    let event = tokens.name_at(alloc, &[Kind::Text])?;
+    tokens.mark(Kind::Comma)?;
+    let call = read_callback(alloc, tokens, depth)?;
+    Ok(RawItem::On { event, call })
+}
+
 /// A call of `import.meta.hot`.
 #[tactic(auto, unfolding(module_semantics::specs::Reading::hot_call))]
 fn read_hot_call(
@@ -142,6 +156,12 @@ fn read_hot_call(
     if tokens.next_is(Kind::Prune) {
         let once = read_once_call(alloc, tokens, depth, Kind::Prune)?;
         return Ok(RawItem::Prune(once));
+    }
+    if tokens.next_is(Kind::On) {
+        tokens.mark(Kind::On)?;
+        tokens.mark(Kind::Open)?;
+        let item = read_listened(alloc, tokens, depth)?;
+        return tokens.mark_after(item, Kind::Close);
     }
     tokens.mark(Kind::Decline)?;
     tokens.mark(Kind::Open)?;

@@ -61,6 +61,8 @@ pub enum Kind {
     Decline,
     /// `invalidate`
     Invalidate,
+    /// `on`
+    On,
     /// A number.
     Number,
     /// A text in quotes.
@@ -119,7 +121,7 @@ pub(crate) const RESERVED: [Kind; 11] = [
 ];
 
 /// All other names.
-pub(crate) const FREE_NAMES: [Kind; 16] = [
+pub(crate) const FREE_NAMES: [Kind; 17] = [
     Kind::Other,
     Kind::Console,
     Kind::Log,
@@ -136,10 +138,11 @@ pub(crate) const FREE_NAMES: [Kind; 16] = [
     Kind::Prune,
     Kind::Decline,
     Kind::Invalidate,
+    Kind::On,
 ];
 
 /// Names after a dot, which may be any.
-pub(crate) const ALL_NAMES: [Kind; 27] = [
+pub(crate) const ALL_NAMES: [Kind; 28] = [
     Kind::Other,
     Kind::Console,
     Kind::Log,
@@ -156,6 +159,7 @@ pub(crate) const ALL_NAMES: [Kind; 27] = [
     Kind::Prune,
     Kind::Decline,
     Kind::Invalidate,
+    Kind::On,
     Kind::Import,
     Kind::Export,
     Kind::Const,
@@ -170,7 +174,7 @@ pub(crate) const ALL_NAMES: [Kind; 27] = [
 ];
 
 /// What an expression begins with.
-pub(crate) const EXPR_FIRSTS: [Kind; 22] = [
+pub(crate) const EXPR_FIRSTS: [Kind; 23] = [
     Kind::Number,
     Kind::Text,
     Kind::Undefined,
@@ -193,10 +197,11 @@ pub(crate) const EXPR_FIRSTS: [Kind; 22] = [
     Kind::Prune,
     Kind::Decline,
     Kind::Invalidate,
+    Kind::On,
 ];
 
 /// The free names but `console`.
-pub(crate) const BUT_CONSOLE: [Kind; 15] = [
+pub(crate) const BUT_CONSOLE: [Kind; 16] = [
     Kind::Other,
     Kind::Log,
     Kind::Host,
@@ -212,10 +217,11 @@ pub(crate) const BUT_CONSOLE: [Kind; 15] = [
     Kind::Prune,
     Kind::Decline,
     Kind::Invalidate,
+    Kind::On,
 ];
 
 /// The free names but `host`.
-pub(crate) const BUT_HOST: [Kind; 15] = [
+pub(crate) const BUT_HOST: [Kind; 16] = [
     Kind::Other,
     Kind::Console,
     Kind::Log,
@@ -231,10 +237,11 @@ pub(crate) const BUT_HOST: [Kind; 15] = [
     Kind::Prune,
     Kind::Decline,
     Kind::Invalidate,
+    Kind::On,
 ];
 
 /// What a statement of a callback begins with.
-pub(crate) const STMT_FIRSTS: [Kind; 19] = [
+pub(crate) const STMT_FIRSTS: [Kind; 20] = [
     Kind::If,
     Kind::Throw,
     Kind::Import,
@@ -254,10 +261,11 @@ pub(crate) const STMT_FIRSTS: [Kind; 19] = [
     Kind::Prune,
     Kind::Decline,
     Kind::Invalidate,
+    Kind::On,
 ];
 
 /// What a statement of a guard begins with.
-pub(crate) const TOP_FIRSTS: [Kind; 18] = [
+pub(crate) const TOP_FIRSTS: [Kind; 19] = [
     Kind::Import,
     Kind::Throw,
     Kind::Other,
@@ -276,10 +284,11 @@ pub(crate) const TOP_FIRSTS: [Kind; 18] = [
     Kind::Prune,
     Kind::Decline,
     Kind::Invalidate,
+    Kind::On,
 ];
 
 /// What an item begins with.
-pub(crate) const ITEM_FIRSTS: [Kind; 22] = [
+pub(crate) const ITEM_FIRSTS: [Kind; 23] = [
     Kind::Import,
     Kind::Export,
     Kind::Const,
@@ -302,10 +311,11 @@ pub(crate) const ITEM_FIRSTS: [Kind; 22] = [
     Kind::Prune,
     Kind::Decline,
     Kind::Invalidate,
+    Kind::On,
 ];
 
 /// What a callback or a host closure begins with.
-pub(crate) const OWN_FIRSTS: [Kind; 17] = [
+pub(crate) const OWN_FIRSTS: [Kind; 18] = [
     Kind::Host,
     Kind::Open,
     Kind::Other,
@@ -323,6 +333,7 @@ pub(crate) const OWN_FIRSTS: [Kind; 17] = [
     Kind::Prune,
     Kind::Decline,
     Kind::Invalidate,
+    Kind::On,
 ];
 
 impl Kind {

@@ -36,6 +36,11 @@ pub enum RawItem {
         specs: Vec<Text>,
         call: Option<RawHandler>,
     },
+    /// `on`: a callback of the event of this name, which stands where its text does.
+    On {
+        event: NameAt,
+        call: RawHandler,
+    },
     /// `dispose` with a handler.
     Dispose(RawOnce),
     /// `prune` with a handler.

@@ -39,6 +39,7 @@ fn word_kind(name: &str) -> Kind
         "prune" => Kind::Prune,
         "decline" => Kind::Decline,
         "invalidate" => Kind::Invalidate,
+        "on" => Kind::On,
         _ => Kind::Other,
     }
 }

@@ -108,7 +108,7 @@ impl<'a> Tokens<'a> {
         Ok(value)
     }
 
-    /// Takes a name of one of these kinds, with its place.
+    /// Takes a name, or the name that a text is, of one of these kinds, with its place.
     pub(crate) fn name_at(&mut self, alloc: Global, kinds: &[Kind]) -> Result<NameAt, GrammarFault>
         ensures { Gives (λ n. (name_at_of n, self.new)) result (taken (map code_of kinds.now) name_at self.old) }
     {

@@ -1,10 +1,11 @@
 -- What each part breaks first is the least of what it breaks.
 use Rattle.std.proofs.Common.{◌≡◌, ℕ, List, [], ◌∷◌, ◌++◌, Bool, true, false, not, ◌||◌, Option, Some, None, if◌then◌else◌, map, refl, ap, ◌∙◌}
 use Rattle.std.specs.Str.{bytes_eq}
+use Rattle.hmr_types.specs.Event.{is_event}
 use Rattle.hmr_types.specs.declared.analysis.FaultWord.TheVariants.{DuplicateName, NotAssignable, Unexpected}
 use Rattle.module_tree.specs.declared.tree.Op.{Op}
 use Rattle.module_semantics.specs.Kinds.{NameAt}
-use Rattle.module_semantics.specs.NameRules.{Broken, Within, outside, in_once, in_accept, accepts, all_broken, alone_rule, bound_by, broken_if, cond_broken, expr_broken, exprs_broken, first_broken, handler_broken, has_name, is_bag, is_param, item_broken, least, lets_of, maybe_broken, names_of, once_broken, repeated, stmt_broken, stmts_broken}
+use Rattle.module_semantics.specs.NameRules.{Broken, Within, outside, in_once, in_accept, accepts, all_broken, alone_rule, bound_by, broken_if, cond_broken, event_rule, expr_broken, exprs_broken, first_broken, handler_broken, has_name, is_bag, is_param, item_broken, least, lets_of, maybe_broken, names_of, once_broken, repeated, stmt_broken, stmts_broken}
 use Rattle.module_semantics.specs.Raw as raw
 use Rattle.module_semantics.specs.Raw.{RawExpr, RawStmt, RawStmts, RawHandler, RawOnce, RawItem, no_stmts, one_stmt}
 use Rattle.module_semantics.specs.Reading.{flat, grouped}
@@ -138,6 +139,7 @@ item_is lets (raw.own None) = refl
 item_is lets (raw.own (Some o)) = accept_once_is lets o
 item_is lets (raw.deps list specs None) = refl
 item_is lets (raw.deps list specs (Some h)) = accept_handler_is lets h
+item_is lets (raw.on n h) = both _ _ (handler_broken lets in_accept h) (event_rule n) (accept_handler_is lets h) (if_is (not (is_event n.name)) Unexpected n.at)
 item_is lets (raw.dispose o) = once_is lets o
 item_is lets (raw.prune o) = once_is lets o
 item_is lets raw.decline = refl

@@ -1,6 +1,7 @@
 -- What breaks a rule on names first, part by part. The parts so far are kept as the first that they break, so that a list is gone
 -- over once.
 use Rattle.std.specs.Prelude.{ℕ, List, [], ◌∷◌, ◌++◌, Bool, not, ◌||◌, if◌then◌else◌, Option, Some, None, map}
+use Rattle.hmr_types.specs.Event.{is_event}
 use Rattle.hmr_types.specs.declared.analysis.FaultWord.{FaultWord}
 use Rattle.hmr_types.specs.declared.analysis.FaultWord.TheVariants.{DuplicateName, NotAssignable, Unexpected}
 use Rattle.module_tree.specs.declared.tree.Op.{Op}
@@ -84,6 +85,10 @@ abbrev mutual
 abbrev pub accept_handler_first : List (List ℕ) → RawHandler → Option Broken
 accept_handler_first lets h = earlier (repeated_first [] None h.params) (stmts_first lets (in_accept (names_of h.params)) None h.body)
 
+-- in a callback of an event, and last in the name of the event
+abbrev pub listener_first : List (List ℕ) → NameAt → RawHandler → Option Broken
+listener_first lets n h = earlier (accept_handler_first lets h) (first_if (not (is_event n.name)) Unexpected n.at)
+
 -- in a callback of `dispose` or `prune`
 abbrev pub once_handler_first : List (List ℕ) → RawHandler → Option Broken
 once_handler_first lets h = earlier (repeated_first [] None h.params) (stmts_first lets (in_once (names_of h.params)) None h.body)
@@ -107,6 +112,7 @@ item_first lets (raw.own None) = None
 item_first lets (raw.own (Some o)) = accept_once_first lets o
 item_first lets (raw.deps list specs None) = None
 item_first lets (raw.deps list specs (Some h)) = accept_handler_first lets h
+item_first lets (raw.on n h) = listener_first lets n h
 item_first lets (raw.dispose o) = once_first lets o
 item_first lets (raw.prune o) = once_first lets o
 item_first lets raw.decline = None

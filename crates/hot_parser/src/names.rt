@@ -5,14 +5,14 @@ ghost use Rattle.std.specs.Option.{option_map};
 ghost use Rattle.hot_grammar.specs.Raw.{name_at_of, operation_of, raw_expr_of, raw_handler_of, raw_import_of, raw_item_of, raw_items_of, raw_once_of, raw_stmt_of, raw_stmts_of};
 ghost use Rattle.module_semantics.specs.NameRules.{bound_by, first_broken, is_bag, is_param, accepts, lets_by, lets_of, names_of};
 ghost use Rattle.module_semantics.specs.Reading.{flat};
-ghost use Rattle.hot_parser.specs.Firsts.{accept_handler_first, accept_once_first, assign_first, cond_first, earlier, expr_first, exprs_first, first_if, item_first, items_first, maybe_first, once_first, once_handler_first, repeated_first, rowed_first, stmt_first, stmts_first};
+ghost use Rattle.hot_parser.specs.Firsts.{accept_handler_first, accept_once_first, assign_first, cond_first, earlier, expr_first, exprs_first, first_if, item_first, items_first, listener_first, maybe_first, once_first, once_handler_first, repeated_first, rowed_first, stmt_first, stmts_first};
 ghost use Rattle.hot_parser.specs.Told.{rule_word, told};
 ghost use Rattle.hot_parser.specs.Within.{within_of};
 
 use crate::alone::alone;
 use crate::name_table::NameTable;
 use crate::within::Within;
-use hmr_types::Name;
+use hmr_types::{Name, is_event};
 use hot_grammar::{NameAt, RawExpr, RawHandler, RawImport, RawItem, RawOnce, RawStmt};
 use module_tree::Op;
 use std::alloc::{AllocError, Global};
@@ -102,6 +102,7 @@ fn add_bound(names: &mut Vec<NameAt>, item: &RawItem) -> Result<(), AllocError>
             specs: _,
             call: _,
         } => Ok(()),
+        RawItem::On { event: _, call: _ } => Ok(()),
         RawItem::Dispose(_) | RawItem::Prune(_) => Ok(()),
     }
 }
@@ -159,6 +160,7 @@ fn add_let(names: &mut Vec<NameAt>, item: &RawItem) -> Result<(), AllocError>
             specs: _,
             call: _,
         } => Ok(()),
+        RawItem::On { event: _, call: _ } => Ok(()),
         RawItem::Dispose(_) | RawItem::Prune(_) => Ok(()),
     }
 }
@@ -221,6 +223,7 @@ fn item_first(
             specs: _,
             call: Some(code),
         } => accept_handler_first(alloc, lets, code),
+        RawItem::On { event, call } => listener_first(alloc, lets, event, call),
         RawItem::Dispose(once) => once_first(alloc, lets, once),
         RawItem::Prune(once) => once_first(alloc, lets, once),
         RawItem::Decline => Ok(None),
@@ -263,6 +266,20 @@ fn accept_handler_first(
     let params = NameTable::new(alloc, &code.params)?;
     let body = stmts_first(lets, &Within::Accept(&params), &code.body);
     Ok(earlier(repeated(&params), body))
+}
+
+/// A callback of an event is one of `accept`; last, what it listens to is the name of an event.
+fn listener_first(
+    alloc: Global,
+    lets: &NameTable<'_>,
+    event: &NameAt,
+    call: &RawHandler,
+) -> Result<Option<Broken>, AllocError>
+    ensures { IfOk result (λ found. told found ≡ listener_first (names_of lets.now) (name_at_of event.now) (raw_handler_of call.now)) }
+{
+    let found = accept_handler_first(alloc, lets, call)?;
+    let named = is_event(event.name.as_str().as_bytes());
+    Ok(earlier(found, first_if(!named, NameRule::Unexpected, event.at)))
 }
 
 fn once_handler_first(

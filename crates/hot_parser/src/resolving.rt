@@ -1,7 +1,8 @@
 // The tree of a module, of what the grammar tells. What a name means hangs on where it stands: in a
 // callback of `dispose` or `prune` the keys of its parameter are those of the bag, and in one of `accept`
-// a parameter is told by its place.
+// or `on` a parameter is told by its place. A callback of an event lists the event's module.
 ghost use Rattle.std.specs.Prelude.{◌≡◌, IfOk, map};
+ghost use Rattle.module_semantics.specs.Raw.{on};
 ghost use Rattle.module_tree.specs.Syntax.{binary};
 ghost use Rattle.module_tree.specs.Tree.{cond_of, expr_of, handler_of, item_of, module_of, once_of, stmt_of, stmts_of};
 ghost use Rattle.hot_grammar.specs.Raw.{name_at_of, operation_of, raw_expr_of, raw_handler_of, raw_import_of, raw_item_of, raw_items_of, raw_once_of, raw_stmt_of, raw_stmts_of};
@@ -13,7 +14,7 @@ ghost use Rattle.hot_parser.specs.Within.{within_of};
 use crate::alone::alone;
 use crate::name_table::NameTable;
 use crate::within::Within;
-use hmr_types::{Name, Sequence};
+use hmr_types::{Name, Sequence, event_module};
 use hot_grammar::{NameAt, RawExpr, RawHandler, RawImport, RawItem, RawOnce, RawStmt};
 use module_tree::{Cond, Expr, HandlerCode, ImportName, Item, Module, Once, Op, Stmt};
 use std::alloc::{AllocError, Global};
@@ -60,6 +61,7 @@ fn item_tree(alloc: Global, item: &RawItem) -> Result<Item, AllocError>
                 Some(code) => Some(handler_tree(alloc, code)?),
             },
         }),
+        RawItem::On { event, call } => listener_tree(alloc, event, call),
         RawItem::Dispose(once) => Ok(Item::Dispose(once_tree(alloc, once)?)),
         RawItem::Prune(once) => Ok(Item::Prune(once_tree(alloc, once)?)),
         RawItem::Decline => Ok(Item::Decline),
@@ -77,6 +79,20 @@ fn import_names(alloc: Global, names: &[RawImport]) -> Result<Sequence<ImportNam
         })?;
     }
     Ok(Sequence::from_vec(tree))
+}
+
+/// A callback of an event.
+fn listener_tree(alloc: Global, event: &NameAt, call: &RawHandler) -> Result<Item, AllocError>
+    ensures { IfOk result (λ tree. item_of tree ≡ item_tree (on (name_at_of event.now) (raw_handler_of call.now))) }
+{
+    let mut specs = Vec::new(alloc);
+    specs.push(event_module(alloc, event.name.as_str())?)?;
+    let call = handler_tree(alloc, call)?;
+    Ok(Item::Deps {
+        list: false,
+        specs: Sequence::from_vec(specs),
+        call: Some(call),
+    })
 }
 
 /// What `accept` of the module itself takes.

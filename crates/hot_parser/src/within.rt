@@ -8,6 +8,6 @@ pub enum Within<'a> {
     Outside,
     /// In a callback of `dispose` or `prune`.
     Once(&'a NameTable<'a>),
-    /// In a callback of `accept`.
+    /// In a callback of `accept` or `on`.
     Accept(&'a NameTable<'a>),
 }

@@ -1,15 +1,17 @@
 // The text of an item: each production has its function.
 ghost use Rattle.std.specs.Prelude.{◌≡◌, ◌++◌, OnOk, codes, map};
+ghost use Rattle.hmr_types.specs.Event.{colon, with_mark};
+ghost use Rattle.hmr_types.specs.ModName.{slash};
 ghost use Rattle.std.specs.Option.{option_map};
 ghost use Rattle.module_tree.specs.Tree.{expr_of, handler_of, item_of, once_of};
-ghost use Rattle.module_semantics.specs.Canon.{call_text, comma_then, commas, declare_text, deps_handler_text, export_text, import_name_text, import_text, item_text, once_text, own_text, quoted, specs_text};
+ghost use Rattle.module_semantics.specs.Canon.{call_text, comma_then, commas, declare_text, deps_handler_text, deps_text, deps_word, export_text, heard, heard_text, import_name_text, import_text, item_text, once_text, own_text, quoted, specs_text};
 ghost use Rattle.module_tree.specs.Syntax.{declare, deps, own};
 
 use crate::expression::put_expr;
 use crate::handler::{put_handler, put_list_handler, put_once};
 use crate::statement::put_stmt;
-use crate::text::{put, put_quoted};
-use hmr_types::{Name, Text};
+use crate::text::{put, put_event, put_quoted};
+use hmr_types::{Name, Text, event_path};
 use module_tree::{Expr, HandlerCode, ImportName, Item, Once};
 use std::alloc::{AllocError, Global};
 
@@ -66,7 +68,7 @@ fn put_handled(alloc: Global, out: &mut Vec<u8>, once: &Option<Once>) -> Result<
     }
 }
 
-/// Puts `accept` of dependencies.
+/// Puts `accept` of dependencies, or `on` of an event.
 fn put_deps(
     alloc: Global,
     out: &mut Vec<u8>,
@@ -76,10 +78,46 @@ fn put_deps(
 ) -> Result<(), AllocError>
     ensures { OnOk result (out.new.items ≡ out.old.items ++ item_text (deps list specs.now (option_map handler_of call.now))) }
 {
-    put_call(out, "accept")?;
-    put_specs(out, list, specs)?;
+    let event = heard(list, specs, call);
+    put_call(out, deps_word(event))?;
+    put_heard(out, list, specs, event)?;
     put_deps_handler(alloc, out, list, call)?;
     put(out, ");\n")
+}
+
+/// The path of the event that a callback listens to, unless it listens to none.
+fn heard<'a>(list: bool, specs: &'a [Text], call: &Option<HandlerCode>) -> Option<&'a [u8]>
+    ensures { option_map (λ path. with_mark slash colon path.now) result ≡ heard list specs.now (option_map handler_of call.now) }
+{
+    match (list, specs, call) {
+        (false, [spec], Some(_)) => event_path(spec.as_str().as_bytes()),
+        _ => None,
+    }
+}
+
+/// The word of a call for dependencies.
+fn deps_word(event: Option<&[u8]>) -> &'static str
+    ensures { result.now ≡ deps_word (option_map (λ path. with_mark slash colon path.now) event.entry) }
+{
+    match event {
+        None => "accept",
+        Some(_) => "on",
+    }
+}
+
+/// Puts the event that a callback listens to, or the specifiers.
+fn put_heard(
+    out: &mut Vec<u8>,
+    list: bool,
+    specs: &[Text],
+    event: Option<&[u8]>,
+) -> Result<(), AllocError>
+    ensures { OnOk result (out.new.items ≡ out.old.items ++ heard_text (option_map (λ path. with_mark slash colon path.now) event.entry) list specs.now) }
+{
+    match event {
+        None => put_specs(out, list, specs),
+        Some(path) => put_event(out, path),
+    }
 }
 
 /// Puts the name of a call and its parenthesis.

@@ -3,11 +3,11 @@ use Rattle.module_semantics.proofs.Leaves.{taken_shallow}
 use Rattle.std.proofs.Common.{◌≡◌, ℕ, ◌≤◌, List, [], ◌∷◌, ◌++◌, map, true, false, ◌⊎◌, inl, inr, Option, Some, None, refl, sym, ap, ◌∙◌, subst, arith}
 use Rattle.std.specs.Option.{option_map}
 use Rattle.module_semantics.specs.Token.{LineToken}
-use Rattle.module_semantics.specs.Kinds.{IMPORT, HOST, DATA, DOT, EQUALS, ACCEPT, DISPOSE, PRUNE, DECLINE, TEXT, COMMA, ARROW, OPEN, CLOSE, OPEN_BRACE, OPEN_BRACKET, CLOSE_BRACKET, within, free_names, NameAt}
+use Rattle.module_semantics.specs.Kinds.{IMPORT, HOST, DATA, DOT, EQUALS, ACCEPT, DISPOSE, PRUNE, DECLINE, ON, TEXT, COMMA, ARROW, OPEN, CLOSE, OPEN_BRACE, OPEN_BRACKET, CLOSE_BRACKET, within, free_names, NameAt}
 use Rattle.module_semantics.specs.Raw as raw
 use Rattle.module_semantics.specs.Raw.{RawStmts, RawHandler, RawOnce, RawItem}
 use Rattle.module_semantics.specs.Readers.{Reader}
-use Rattle.module_semantics.specs.Reading.{Inner, only, applied, handler, alone, one_or_none, all_of, but_host, own_firsts, body, in_parens, callback, list_callback, host_own, once, accepted, hot_call}
+use Rattle.module_semantics.specs.Reading.{Inner, only, applied, handler, alone, one_or_none, all_of, but_host, own_firsts, body, in_parens, callback, list_callback, host_own, once, accepted, listened, hot_call}
 use Rattle.module_semantics.specs.Spelling as spell
 use Rattle.module_semantics.specs.Spelling.{Spell, ◌>>◌, ◌▸◌, name_of, Listed, items_of}
 use Rattle.module_semantics.specs.Grammar as grammar
@@ -19,7 +19,7 @@ use Rattle.module_semantics.proofs.Sequences.{seq, seq_reads}
 use Rattle.module_semantics.proofs.Choices.{As, as_reads, alt, choice_reads, seen, mapped_reads, nothing_part, given_reads, after, after_reads, before, before_reads}
 use Rattle.module_semantics.proofs.CommaLists.{listed_part, listed_reads}
 use Rattle.module_semantics.proofs.Options.{maybe_part, maybe_reads, separated_part, separated_reads}
-use Rattle.module_semantics.proofs.Marks.{mark_part, name_part, bytes_part, free_name_reads, text_reads, host_reads, but_host_reads, accept_mark, dispose_mark, prune_mark, decline_mark, comma_mark, arrow_mark, open_mark, close_mark, open_bracket_mark, close_bracket_mark}
+use Rattle.module_semantics.proofs.Marks.{mark_part, name_part, bytes_part, free_name_reads, text_reads, host_reads, but_host_reads, accept_mark, dispose_mark, prune_mark, decline_mark, on_mark, event_reads, comma_mark, arrow_mark, open_mark, close_mark, open_bracket_mark, close_bracket_mark}
 use Rattle.module_semantics.proofs.Expressions.{expr_follow}
 use Rattle.module_semantics.proofs.Acts.{first_changes, one_wider, one_weaker, one_split, named, placed, NameWay, name_act_part, name_act_reads, act_of, act_spells, act_same_depth, act_value, ActWay, act_way, ImportWay, import_part, import_reads}
 use Rattle.module_semantics.proofs.Statements.{under, assoc, InnerReads, braces_part, braces_reads}
@@ -360,57 +360,72 @@ unfolding accepted disjoint subset within
 accept_reads n b b' a =
     as_reads _ _ (TEXT ∷ OPEN_BRACKET ∷ own_firsts) (TEXT ∷ COMMA ∷ OPEN_BRACKET ∷ own_firsts ++ expr_follow) _ n n accept_parts accept_part _ _ refl refl (accept_as n) (choice_reads (TEXT ∷ []) _ _ _ _ _ n _ _ _ _ _ _ refl refl (mapped_reads _ _ _ n _ _ _ (λ v. raw.deps false (alone v.0) v.1) (seq_reads _ _ _ _ _ _ n _ _ _ _ _ _ refl (text_reads n) (maybe_reads (COMMA ∷ []) _ _ (COMMA ∷ expr_follow) n _ _ _ refl refl refl (after_reads _ _ _ _ _ _ n _ _ _ _ _ _ refl refl (comma_mark n) (callback_reads n b b' a))))) (choice_reads (OPEN_BRACKET ∷ []) _ _ _ _ _ n _ _ _ _ _ _ refl refl (mapped_reads _ _ _ n _ _ _ (λ v. raw.deps true v.0 v.1) (seq_reads _ _ _ _ _ _ n _ _ _ _ _ _ refl (after_reads _ _ _ _ _ _ n _ _ _ _ _ _ refl refl (open_bracket_mark n) (before_reads _ _ _ _ _ _ n _ _ _ _ _ _ refl refl (listed_reads (TEXT ∷ []) _ n _ _ _ refl (taken_shallow (TEXT ∷ []) _) (text_reads n)) (close_bracket_mark n))) (maybe_reads (COMMA ∷ []) _ _ (COMMA ∷ expr_follow) n _ _ _ refl refl refl (after_reads _ _ _ _ _ _ n _ _ _ _ _ _ refl refl (comma_mark n) (list_callback_reads n b b' a))))) (choice_reads (own_firsts) _ _ _ _ _ n _ _ _ _ _ _ refl refl (mapped_reads _ _ _ n _ _ _ (λ o. raw.own (Some o)) (own_reads n b b' a)) (given_reads n (raw.own None)))))
 
+-- what `on` takes
+abbrev listened_part : Part (NameAt × CallbackD) RawItem
+listened_part = seen (λ v. raw.on v.0 v.1) (seq (name_part (TEXT ∷ [])) (after (mark_part COMMA) callback_part))
+
+listened_reads : (n : ℕ) (b b' : Reader RawStmts) → BodyReads n b b' → Reads (TEXT ∷ []) false expr_follow n listened_part (listened b) (listened b')
+unfolding disjoint subset within
+listened_reads n b b' a = mapped_reads _ _ _ n _ _ _ (λ v. raw.on v.0 v.1) (seq_reads _ _ _ _ _ _ n _ _ _ _ _ _ refl (event_reads n) (after_reads _ _ _ _ _ _ n _ _ _ _ _ _ refl refl (comma_mark n) (callback_reads n b b' a)))
+
 abbrev pub hot_call_part : Part HotCallD RawItem
 hot_call_part = record { spelt = hot_call_spelt; value = hot_call_raw; depth = hot_call_depth }
 
 abbrev hot_call_way : Type 0
-hot_call_way = AcceptD ⊎ (OwnD ⊎ (OwnD ⊎ Unit {0}))
+hot_call_way = AcceptD ⊎ (OwnD ⊎ (OwnD ⊎ ((NameAt × CallbackD) ⊎ Unit {0})))
 
 abbrev hot_call_parts : Part hot_call_way RawItem
 hot_call_parts = alt (after (mark_part ACCEPT) (after (mark_part OPEN) (before accept_part (mark_part CLOSE))))
     (alt (seen raw.dispose (after (mark_part DISPOSE) (after (mark_part OPEN) (before own_part (mark_part CLOSE)))))
-    (alt (seen raw.prune (after (mark_part PRUNE) (after (mark_part OPEN) (before own_part (mark_part CLOSE))))) (seen (λ u. raw.decline) (after (mark_part DECLINE) (after (mark_part OPEN) (mark_part CLOSE))))))
+    (alt (seen raw.prune (after (mark_part PRUNE) (after (mark_part OPEN) (before own_part (mark_part CLOSE)))))
+    (alt (after (mark_part ON) (after (mark_part OPEN) (before listened_part (mark_part CLOSE)))) (seen (λ u. raw.decline) (after (mark_part DECLINE) (after (mark_part OPEN) (mark_part CLOSE)))))))
 
 abbrev to_hot_call : hot_call_way → HotCallD
 to_hot_call (inl d) = grammar.accept d
 to_hot_call (inr (inl o)) = grammar.HotCallD.dispose o
 to_hot_call (inr (inr (inl o))) = grammar.HotCallD.prune o
-to_hot_call (inr (inr (inr u))) = grammar.HotCallD.decline
+to_hot_call (inr (inr (inr (inl (m, c))))) = grammar.HotCallD.on m c
+to_hot_call (inr (inr (inr (inr u)))) = grammar.HotCallD.decline
 
 hot_call_spells : (d : hot_call_way) (ts r : List LineToken) → hot_call_parts.spelt d ts ≡ Some r → hot_call_part.spelt (to_hot_call d) ts ≡ Some r
 hot_call_spells (inl d) ts r h = h
 hot_call_spells (inr (inl o)) ts r h = h
 hot_call_spells (inr (inr (inl o))) ts r h = h
-hot_call_spells (inr (inr (inr u))) ts r h = h
+hot_call_spells (inr (inr (inr (inl (m, c))))) ts r h = h
+hot_call_spells (inr (inr (inr (inr u)))) ts r h = h
 
 hot_call_from : (e : HotCallD) (ts r : List LineToken) → hot_call_part.spelt e ts ≡ Some r → (d : hot_call_way) × (to_hot_call d ≡ e) × (hot_call_parts.spelt d ts ≡ Some r)
 hot_call_from (grammar.accept d) ts r h = ((inl d), refl, h)
 hot_call_from (grammar.HotCallD.dispose o) ts r h = ((inr (inl o)), refl, h)
 hot_call_from (grammar.HotCallD.prune o) ts r h = ((inr (inr (inl o))), refl, h)
-hot_call_from grammar.HotCallD.decline ts r h = (inr (inr (inr tt)), refl, h)
+hot_call_from (grammar.HotCallD.on m c) ts r h = ((inr (inr (inr (inl (m, c))))), refl, h)
+hot_call_from grammar.HotCallD.decline ts r h = (inr (inr (inr (inr tt))), refl, h)
 
 hot_call_value : (d : hot_call_way) → hot_call_part.value (to_hot_call d) ≡ hot_call_parts.value d
 hot_call_value (inl d) = refl
 hot_call_value (inr (inl o)) = refl
 hot_call_value (inr (inr (inl o))) = refl
-hot_call_value (inr (inr (inr u))) = refl
+hot_call_value (inr (inr (inr (inl (m, c))))) = refl
+hot_call_value (inr (inr (inr (inr u)))) = refl
 
 hot_call_deeper : (n : ℕ) (d : hot_call_way) → hot_call_parts.depth d ≤ n → hot_call_part.depth (to_hot_call d) ≤ n
 hot_call_deeper n (inl d) h = omega (arith, h)
 hot_call_deeper n (inr (inl o)) h = omega (arith, h)
 hot_call_deeper n (inr (inr (inl o))) h = omega (arith, h)
-hot_call_deeper n (inr (inr (inr u))) h = omega (arith, h)
+hot_call_deeper n (inr (inr (inr (inl (m, c))))) h = omega (arith, h)
+hot_call_deeper n (inr (inr (inr (inr u)))) h = omega (arith, h)
 
 hot_call_lower : (n : ℕ) (d : hot_call_way) → hot_call_part.depth (to_hot_call d) ≤ n → hot_call_parts.depth d ≤ n
 hot_call_lower n (inl d) h = omega (arith, h)
 hot_call_lower n (inr (inl o)) h = omega (arith, h)
 hot_call_lower n (inr (inr (inl o))) h = omega (arith, h)
-hot_call_lower n (inr (inr (inr u))) h = omega (arith, h)
+hot_call_lower n (inr (inr (inr (inl (m, c))))) h = omega (arith, h)
+hot_call_lower n (inr (inr (inr (inr u)))) h = omega (arith, h)
 
 hot_call_as : (n : ℕ) → As hot_call_parts hot_call_part n n
 hot_call_as n = record { to = to_hot_call; spells = hot_call_spells; from = hot_call_from; value = hot_call_value; deeper = hot_call_deeper n; lower = hot_call_lower n }
 
-pub hot_call_reads : (n : ℕ) (b b' : Reader RawStmts) → BodyReads n b b' → Reads (ACCEPT ∷ DISPOSE ∷ PRUNE ∷ DECLINE ∷ []) false [] n hot_call_part (hot_call b) (hot_call b')
+pub hot_call_reads : (n : ℕ) (b b' : Reader RawStmts) → BodyReads n b b' → Reads (ACCEPT ∷ DISPOSE ∷ PRUNE ∷ ON ∷ DECLINE ∷ []) false [] n hot_call_part (hot_call b) (hot_call b')
 unfolding hot_call disjoint subset within
 hot_call_reads n b b' a =
-    as_reads _ _ (ACCEPT ∷ DISPOSE ∷ PRUNE ∷ DECLINE ∷ []) ([]) _ n n hot_call_parts hot_call_part _ _ refl refl (hot_call_as n) (choice_reads (ACCEPT ∷ []) _ _ _ _ _ n _ _ _ _ _ _ refl refl (after_reads _ _ _ _ _ _ n _ _ _ _ _ _ refl refl (accept_mark n) (after_reads _ _ _ _ _ _ n _ _ _ _ _ _ refl refl (open_mark n) (before_reads _ _ _ _ _ _ n _ _ _ _ _ _ refl refl (accept_reads n b b' a) (close_mark n)))) (choice_reads (DISPOSE ∷ []) _ _ _ _ _ n _ _ _ _ _ _ refl refl (mapped_reads _ _ _ n _ _ _ (raw.dispose) (after_reads _ _ _ _ _ _ n _ _ _ _ _ _ refl refl (dispose_mark n) (after_reads _ _ _ _ _ _ n _ _ _ _ _ _ refl refl (open_mark n) (before_reads _ _ _ _ _ _ n _ _ _ _ _ _ refl refl (own_reads n b b' a) (close_mark n))))) (choice_reads (PRUNE ∷ []) _ _ _ _ _ n _ _ _ _ _ _ refl refl (mapped_reads _ _ _ n _ _ _ (raw.prune) (after_reads _ _ _ _ _ _ n _ _ _ _ _ _ refl refl (prune_mark n) (after_reads _ _ _ _ _ _ n _ _ _ _ _ _ refl refl (open_mark n) (before_reads _ _ _ _ _ _ n _ _ _ _ _ _ refl refl (own_reads n b b' a) (close_mark n))))) (mapped_reads _ _ _ n _ _ _ (λ u. raw.decline) (after_reads _ _ _ _ _ _ n _ _ _ _ _ _ refl refl (decline_mark n) (after_reads _ _ _ _ _ _ n _ _ _ _ _ _ refl refl (open_mark n) (close_mark n)))))))
+    as_reads _ _ (ACCEPT ∷ DISPOSE ∷ PRUNE ∷ ON ∷ DECLINE ∷ []) ([]) _ n n hot_call_parts hot_call_part _ _ refl refl (hot_call_as n) (choice_reads (ACCEPT ∷ []) _ _ _ _ _ n _ _ _ _ _ _ refl refl (after_reads _ _ _ _ _ _ n _ _ _ _ _ _ refl refl (accept_mark n) (after_reads _ _ _ _ _ _ n _ _ _ _ _ _ refl refl (open_mark n) (before_reads _ _ _ _ _ _ n _ _ _ _ _ _ refl refl (accept_reads n b b' a) (close_mark n)))) (choice_reads (DISPOSE ∷ []) _ _ _ _ _ n _ _ _ _ _ _ refl refl (mapped_reads _ _ _ n _ _ _ (raw.dispose) (after_reads _ _ _ _ _ _ n _ _ _ _ _ _ refl refl (dispose_mark n) (after_reads _ _ _ _ _ _ n _ _ _ _ _ _ refl refl (open_mark n) (before_reads _ _ _ _ _ _ n _ _ _ _ _ _ refl refl (own_reads n b b' a) (close_mark n))))) (choice_reads (PRUNE ∷ []) _ _ _ _ _ n _ _ _ _ _ _ refl refl (mapped_reads _ _ _ n _ _ _ (raw.prune) (after_reads _ _ _ _ _ _ n _ _ _ _ _ _ refl refl (prune_mark n) (after_reads _ _ _ _ _ _ n _ _ _ _ _ _ refl refl (open_mark n) (before_reads _ _ _ _ _ _ n _ _ _ _ _ _ refl refl (own_reads n b b' a) (close_mark n))))) (choice_reads (ON ∷ []) _ _ _ _ _ n _ _ _ _ _ _ refl refl (after_reads _ _ _ _ _ _ n _ _ _ _ _ _ refl refl (on_mark n) (after_reads _ _ _ _ _ _ n _ _ _ _ _ _ refl refl (open_mark n) (before_reads _ _ _ _ _ _ n _ _ _ _ _ _ refl refl (listened_reads n b b' a) (close_mark n)))) (mapped_reads _ _ _ n _ _ _ (λ u. raw.decline) (after_reads _ _ _ _ _ _ n _ _ _ _ _ _ refl refl (decline_mark n) (after_reads _ _ _ _ _ _ n _ _ _ _ _ _ refl refl (open_mark n) (close_mark n))))))))

@@ -1,25 +1,29 @@
 -- The canonical tokens of what `accept` takes, and of the calls of `import.meta.hot`, are written as them.
-use Rattle.std.proofs.Common.{◌≡◌, ℕ, ◌≤◌, List, [], ◌∷◌, ◌++◌, Bool, true, false, Option, Some, None, refl, ap, ◌∙◌, codes, arith}
+use Rattle.std.proofs.Common.{◌≡◌, ℕ, ◌≤◌, List, [], ◌∷◌, ◌++◌, Bool, true, false, not, Option, Some, None, refl, ap, ◌∙◌, codes, arith}
 use Rattle.std.proofs.lemmas.List.{append_assoc}
 use Rattle.std.specs.List.{list_all}
 use Rattle.std.specs.Option.{option_map}
+use Rattle.hmr_types.specs.Event.{event_module, event_of, is_event}
+use Rattle.hmr_types.proofs.Events.{event_of-is}
+use Rattle.hmr_types.specs.declared.analysis.FaultWord.TheVariants.{Unexpected}
 use Rattle.module_tree.specs.Syntax as tree
 use Rattle.module_tree.specs.Syntax.{HandlerTree, OnceTree, ItemTree}
 use Rattle.module_semantics.specs.Token as token
 use Rattle.module_semantics.specs.Token.{Token, LineToken}
+use Rattle.module_semantics.specs.Kinds.{NameAt, name_at}
 use Rattle.module_semantics.specs.Raw as raw
 use Rattle.module_semantics.specs.Raw.{RawItem}
 use Rattle.module_semantics.specs.Spelling as spell
 use Rattle.module_semantics.specs.Spelling.{Spell, ◌>>◌, ◌▸◌, Listed, items_of}
 use Rattle.module_semantics.specs.Grammar as grammar
 use Rattle.module_semantics.specs.Grammar.{CallbackD, ListCallbackD, AcceptD, HotCallD, TopD, hot_spelt, after_comma, callback_spelt, callback_raw, callback_depth, list_callback_spelt, list_callback_raw, list_callback_depth, accept_spelt, accept_raw, accept_depth, hot_call_spelt, hot_call_raw, hot_call_depth, top_spelt, top_raw, top_depth, deep_if}
-use Rattle.module_semantics.specs.NameRules.{names_of, item_broken, bound_by, lets_by}
+use Rattle.module_semantics.specs.NameRules.{Broken, names_of, broken_if, event_rule, item_broken, bound_by, lets_by}
 use Rattle.module_semantics.specs.Resolving.{handler_tree, item_tree}
-use Rattle.module_semantics.specs.CanonItems.{after_commas, between_commas, text_tokens, own_tokens, specs_tokens, deps_handler_tokens, call_tokens, item_tokens, deps_deep, item_deep}
-use Rattle.module_semantics.specs.Fitting.{fits_accept, fits_once, fits_specs, fits_deps, bound_names, let_names, fits_item}
+use Rattle.module_semantics.specs.CanonItems.{after_commas, between_commas, text_tokens, own_tokens, specs_tokens, deps_handler_tokens, deps_tokens, call_tokens, item_tokens, deps_deep, item_deep}
+use Rattle.module_semantics.specs.Fitting.{fits_accept, fits_once, fits_one_handler, fits_specs, fits_deps, bound_names, let_names, fits_item}
 use Rattle.module_semantics.proofs.PiecesLex.{both}
 use Rattle.module_semantics.proofs.CanonLevels.{no_line_tokens}
-use Rattle.module_semantics.proofs.CanonSteps.{Writes, end_alone, take, past_comma, past_open, past_close, past_open_bracket, past_close_bracket, past_text, past_hot_path, past_accept, past_dispose, past_prune, past_decline}
+use Rattle.module_semantics.proofs.CanonSteps.{Writes, end_alone, take, past_comma, past_open, past_close, past_open_bracket, past_close_bracket, past_text, past_event, past_hot_path, past_accept, past_dispose, past_prune, past_on, past_decline}
 use Rattle.module_semantics.proofs.CanonParts.{AllMean, EachWrites}
 use Rattle.module_semantics.proofs.CanonHandlers.{handler_by, list_handler_by, own_by, once_by}
 
@@ -170,7 +174,47 @@ decline_by lets us r h =
 pub own_call_by : (lets : List (List ℕ)) (o : Option OnceTree) → fits_accept lets o ≡ true → Writes top_spelt (PartSays top_raw top_depth lets (tree.own o)) (item_tokens (tree.own o))
 own_call_by lets o fits = accept_by lets (tree.own o) (own_tokens o) (own_accept_by lets o fits)
 
+none_of_both : (xs ys : List Broken) → xs ≡ [] → ys ≡ [] → xs ++ ys ≡ []
+none_of_both xs ys h k = rw (h, k) refl
+
+event_clean : (n : NameAt) (event : List ℕ) → n.name ≡ event → is_event event ≡ true → event_rule n ≡ []
+event_clean n event is h = ap (λ v. broken_if (not v) Unexpected n.at) (ap is_event is ∙ h)
+
+-- a callback of one dependency, by the event that it listens to, if any
+one_call_by : (lets : List (List ℕ)) (s : List ℕ) (k : HandlerTree) (o : Option (List ℕ)) → event_of s ≡ o → fits_one_handler lets k ≡ true
+    → Writes top_spelt (PartSays top_raw top_depth lets (tree.deps false (s ∷ []) (Some k))) (deps_tokens o false (s ∷ []) (Some k))
+one_call_by lets s k None is fits us r h =
+    accept_by lets (tree.deps false (s ∷ []) (Some k)) (specs_tokens false (s ∷ []) ++ deps_handler_tokens false (Some k)) (deps_accept_by lets false (s ∷ []) (Some k) refl fits) us r h
+one_call_by lets s k (Some event) is fits us r h =
+    let heard = event_of-is s event is in
+    let a = past_hot_path _ us r h in
+    let b = past_on _ a.back r a.lasts in
+    let c = past_open _ b.back r b.lasts in
+    let m = past_event event _ c.back r c.lasts in
+    let d = past_comma _ m.back r m.lasts in
+    let x = take _ _ _ _ d.back r (handler_by lets k fits) d.lasts in
+    let e = past_close _ x.back r x.lasts in
+    let z = end_alone e.back r e.lasts in
+    record {
+      by = grammar.TopD.call (grammar.HotCallD.on (name_at m.at) x.by);
+      spells = rw (a.is, a.rest (hot_call_spelt (grammar.HotCallD.on (name_at m.at) x.by)), b.is, c.is, m.is, d.is, x.is, e.is, z) refl;
+      means = record {
+        said = record {
+          tree = deps_same false _ _ _ _ (ap (λ v. event_module v ∷ []) m.name ∙ ap (λ v. v ∷ []) heard.0) (ap Some x.means.tree);
+          clean = none_of_both _ _ x.means.clean (event_clean (name_at m.at) event m.name heard.1);
+          bound = refl;
+          declared = refl;
+        };
+        shallow = x.means.shallow;
+      };
+    }
+
 pub deps_call_by : (lets : List (List ℕ)) (list : Bool) (ss : List (List ℕ)) (o : Option HandlerTree) → fits_item lets (tree.deps list ss o) ≡ true → Writes top_spelt (PartSays top_raw top_depth lets (tree.deps list ss o)) (item_tokens (tree.deps list ss o))
-deps_call_by lets list ss o fits =
-    let t = both (fits_specs list ss) (fits_deps lets list o) fits in
-    accept_by lets (tree.deps list ss o) (specs_tokens list ss ++ deps_handler_tokens list o) (deps_accept_by lets list ss o t.0 t.1)
+deps_call_by lets true ss o fits =
+    let t = both (fits_specs true ss) (fits_deps lets true o) fits in
+    accept_by lets (tree.deps true ss o) (specs_tokens true ss ++ deps_handler_tokens true o) (deps_accept_by lets true ss o t.0 t.1)
+deps_call_by lets false [] o fits = absurd cc
+deps_call_by lets false (s ∷ []) None fits =
+    accept_by lets (tree.deps false (s ∷ []) None) (specs_tokens false (s ∷ []) ++ deps_handler_tokens false None) (deps_accept_by lets false (s ∷ []) None refl refl)
+deps_call_by lets false (s ∷ []) (Some k) fits = one_call_by lets s k (event_of s) refl fits
+deps_call_by lets false (s ∷ (t ∷ ss)) o fits = absurd cc

@@ -2,7 +2,8 @@
 use Rattle.std.specs.Prelude.{◌≡◌, [], ◌∷◌, true, false, Some, None, codes}
 use Rattle.std.proofs.Common.{refl}
 use Rattle.std.specs.Fmt.{digits}
-use Rattle.module_tree.specs.Syntax.{ExprTree, num, text, undefined, name, bag, member, neg, binary, choose, param, value, no_stmts, one_stmt, log, assign, bag_set, throw, invalidate, branch, code, host, import, declare, act, own, deps, dispose, prune, decline}
+use Rattle.hmr_types.specs.ModName.{is_segment_byte}
+use Rattle.module_tree.specs.Syntax.{HandlerTree, ExprTree, num, text, undefined, name, bag, member, neg, binary, choose, param, value, no_stmts, one_stmt, log, assign, bag_set, throw, invalidate, branch, code, host, import, declare, act, own, deps, dispose, prune, decline}
 use Rattle.module_tree.specs.declared.tree.Op.TheVariants as ops
 use Rattle.module_semantics.specs.Canon.{expr_text, canon}
 
@@ -54,3 +55,15 @@ pub every_other_form : canon (import (codes "./s.js") [] ∷ act (throw (text (c
     ≡ codes "import \"./s.js\";\nthrow new Error(\"x\");\nimport.meta.hot.data.k = import.meta.hot.data.j;\nconsole.log(10, undefined);\nimport.meta.hot.accept();\nimport.meta.hot.dispose(host(\"L\"));\nimport.meta.hot.prune(() => {\n});\nimport.meta.hot.decline();\n"
 unfolding digits
 every_other_form = refl
+
+abbrev nothing : HandlerTree
+nothing = record { params = []; body = no_stmts }
+
+pub an_event_has_its_own_call : canon (deps false (codes "/event/my/ping" ∷ []) (Some nothing) ∷ []) ≡ codes "import.meta.hot.on(\"my:ping\", () => {\n});\n"
+unfolding is_segment_byte
+an_event_has_its_own_call = refl
+
+pub other_dependencies_are_accepted : canon (deps false (codes "/event/my:ping" ∷ []) (Some nothing) ∷ deps false (codes "/event/a/" ∷ []) (Some nothing) ∷ deps true (codes "/event/a" ∷ []) (Some nothing) ∷ deps false (codes "/event/a" ∷ []) None ∷ [])
+    ≡ codes "import.meta.hot.accept(\"/event/my:ping\", () => {\n});\nimport.meta.hot.accept(\"/event/a/\", () => {\n});\nimport.meta.hot.accept([\"/event/a\"], () => {\n});\nimport.meta.hot.accept(\"/event/a\");\n"
+unfolding is_segment_byte
+other_dependencies_are_accepted = refl

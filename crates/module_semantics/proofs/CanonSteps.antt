@@ -4,7 +4,7 @@ use Rattle.std.proofs.lemmas.List.{append_assoc}
 use Rattle.std.specs.Str.{bytes_eq}
 use Rattle.module_semantics.specs.Token as token
 use Rattle.module_semantics.specs.Token.{Token, LineToken}
-use Rattle.module_semantics.specs.Kinds.{ACCEPT, ARROW, AS, CLOSE, CLOSE_BRACE, CLOSE_BRACKET, COMMA, CONSOLE, CONST, DATA, DECLINE, DISPOSE, DOT, ELSE, EQUALS, ERROR, EXPORT, FROM, HOST, HOT, IF, IMPORT, INVALIDATE, LET, LOG, META, NEW, OPEN, OPEN_BRACE, OPEN_BRACKET, PRUNE, SEMICOLON, TEXT, THROW, kind, within, word_kind, found_word, bytes_of, name_at}
+use Rattle.module_semantics.specs.Kinds.{ACCEPT, ARROW, AS, CLOSE, CLOSE_BRACE, CLOSE_BRACKET, COMMA, CONSOLE, CONST, DATA, DECLINE, DISPOSE, DOT, ELSE, EQUALS, ERROR, EXPORT, FROM, HOST, HOT, IF, IMPORT, INVALIDATE, LET, LOG, META, NEW, ON, OPEN, OPEN_BRACE, OPEN_BRACKET, PRUNE, SEMICOLON, TEXT, THROW, kind, within, word_kind, found_word, bytes_of, name_at, same_name}
 use Rattle.module_semantics.specs.Spelling as spell
 use Rattle.module_semantics.specs.Readers.{next_in}
 use Rattle.module_semantics.specs.Spelling.{Spell, ◌>>◌, ◌▸◌}
@@ -15,7 +15,7 @@ use Rattle.module_semantics.proofs.KindLists.{same_kind}
 use Rattle.module_semantics.proofs.Leaves.{one_is, next_is}
 use Rattle.module_semantics.proofs.CanonLevels.{tokens_in, halves, first, marked}
 use Rattle.module_semantics.proofs.CanonExprs.{name_spells, key_spells, lone}
-use Rattle.module_semantics.proofs.Marks.{same_bytes, mark_spells}
+use Rattle.module_semantics.proofs.Marks.{same_bytes, same_names, mark_spells}
 
 -- a derivation spelled by tokens, of which something holds
 pub record Done {D : Type 0} (spelt : D → Spell) (Means : D → Type 0) (us r : List LineToken) : Type 0 where
@@ -101,6 +101,15 @@ text_spells u r s is = one_is (TEXT ∷ []) (λ t. bytes_eq s (bytes_of t.token)
 
 pub past_text : (s : List ℕ) (ys : List Token) (us r : List LineToken) → tokens_in us ≡ token.text s ∷ ys → Told (spell.text_token s) us r ys
 past_text s ys us r h = let m = first us (token.text s) ys h in record { back = m.back; lasts = m.lasts; is = ap (λ v. spell.text_token s (v ++ r)) m.is ∙ text_spells m.at (m.back ++ r) s m.token }
+
+event_spells : (u : LineToken) (r : List LineToken) (s : List ℕ) → u.token ≡ token.text s → spell.name_of (TEXT ∷ []) (name_at u) (u ∷ r) ≡ Some r
+event_spells u r s is = one_is (TEXT ∷ []) (λ t. same_name (name_at u) (name_at t)) u r (ap (λ v. within (TEXT ∷ []) (kind v)) is ∙ text_kind s) (same_names.again (name_at u))
+
+-- the name of an event, which is a text, and what follows it
+pub past_event : (s : List ℕ) (ys : List Token) (us r : List LineToken) → tokens_in us ≡ token.text s ∷ ys → Named (TEXT ∷ []) s us r ys
+past_event s ys us r h =
+    let m = first us (token.text s) ys h in
+    record { at = m.at; back = m.back; lasts = m.lasts; is = ap (λ v. spell.name_of (TEXT ∷ []) (name_at m.at) (v ++ r)) m.is ∙ event_spells m.at (m.back ++ r) s m.token; name = ap bytes_of m.token }
 
 -- the marks
 pub past_open_brace : Past OPEN_BRACE (token.punct 0)
@@ -218,6 +227,10 @@ past_dispose = past DISPOSE (token.name (codes "dispose")) refl
 pub past_prune : Past PRUNE (token.name (codes "prune"))
 unfolding within word_kind found_word
 past_prune = past PRUNE (token.name (codes "prune")) refl
+
+pub past_on : Past ON (token.name (codes "on"))
+unfolding within word_kind found_word
+past_on = past ON (token.name (codes "on")) refl
 
 pub past_decline : Past DECLINE (token.name (codes "decline"))
 unfolding within word_kind found_word

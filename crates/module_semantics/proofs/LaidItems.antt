@@ -7,9 +7,9 @@ use Rattle.module_tree.specs.Syntax.{ExprTree, HandlerTree, OnceTree, ItemTree, 
 use Rattle.module_tree.specs.declared.tree.ImportName.{ImportName}
 use Rattle.module_semantics.specs.Token as token
 use Rattle.module_semantics.specs.Token.{Token}
-use Rattle.module_semantics.specs.Canon.{quoted, commas, callback_text, handler_text, list_params, list_handler_text, once_text, import_name_text, import_text, export_text, declare_text, call_text, own_text, specs_text, deps_handler_text, item_text, canon}
+use Rattle.module_semantics.specs.Canon.{quoted, commas, callback_text, handler_text, list_params, list_handler_text, once_text, import_name_text, import_text, export_text, declare_text, call_text, own_text, specs_text, heard, deps_word, heard_text, deps_handler_text, item_text, canon}
 use Rattle.module_semantics.specs.CanonTokens.{expr_tokens, stmts_tokens}
-use Rattle.module_semantics.specs.CanonItems.{between_commas, name_tokens, text_tokens, callback_tokens, handler_tokens, list_params_tokens, list_handler_tokens, once_tokens, import_name_tokens, import_tokens, export_tokens, declare_token, call_tokens, own_tokens, specs_tokens, deps_handler_tokens, item_tokens, canon_tokens}
+use Rattle.module_semantics.specs.CanonItems.{between_commas, name_tokens, text_tokens, callback_tokens, handler_tokens, list_params_tokens, list_handler_tokens, once_tokens, import_name_tokens, import_tokens, export_tokens, declare_token, call_tokens, own_tokens, specs_tokens, heard_tokens, deps_handler_tokens, item_tokens, canon_tokens}
 use Rattle.module_semantics.specs.Fitting.{fits_specs}
 use Rattle.module_semantics.proofs.PiecesLex.{both}
 use Rattle.module_semantics.proofs.Layouts.{Laid, then_laid, closed_laid, tight_laid, no_text}
@@ -108,10 +108,14 @@ deps_handler_laid list None w = no_text
 deps_handler_laid true (Some h) w = then_laid laid_comma (list_handler_laid h (rest_writable 1 _ w))
 deps_handler_laid false (Some h) w = then_laid laid_comma (handler_laid h (rest_writable 1 _ w))
 
-deps_laid : (list : Bool) (ss : List (List ℕ)) (o : Option HandlerTree) → fits_specs list ss ≡ true → Writable (specs_tokens list ss ++ deps_handler_tokens list o) → Laid true (specs_text list ss ++ deps_handler_text list o) (specs_tokens list ss ++ deps_handler_tokens list o)
-deps_laid list ss o few w =
-    let t = two_writable (specs_tokens list ss) (deps_handler_tokens list o) w in
-    tight_laid (then_laid (specs_laid list ss few t.0) (deps_handler_laid list o t.1))
+heard_laid : (event : Option (List ℕ)) (list : Bool) (ss : List (List ℕ)) → fits_specs list ss ≡ true → Writable (heard_tokens event list ss) → Laid false (heard_text event list ss) (heard_tokens event list ss)
+heard_laid None list ss few w = specs_laid list ss few w
+heard_laid (Some event) list ss few w = quoted_laid event (text_first event _ w)
+
+deps_laid : (event : Option (List ℕ)) (list : Bool) (ss : List (List ℕ)) (o : Option HandlerTree) → fits_specs list ss ≡ true → Writable (heard_tokens event list ss ++ deps_handler_tokens list o) → Laid true (heard_text event list ss ++ deps_handler_text list o) (heard_tokens event list ss ++ deps_handler_tokens list o)
+deps_laid event list ss o few w =
+    let t = two_writable (heard_tokens event list ss) (deps_handler_tokens list o) w in
+    tight_laid (then_laid (heard_laid event list ss few t.0) (deps_handler_laid list o t.1))
 
 -- without the list form there is one specifier
 abbrev pub one_specifier : ItemTree → Bool
@@ -129,7 +133,7 @@ item_laid (tree.import s names) one w = import_laid s names w
 item_laid (tree.declare exported mutable n e) one w = declare_laid exported mutable n e w
 item_laid (tree.act s) one w = stmt_laid [] 0 s w
 item_laid (tree.own o) one w = call_laid (codes "accept") (own_text o) (own_tokens o) w (own_laid o)
-item_laid (tree.deps list ss h) one w = call_laid (codes "accept") _ _ w (deps_laid list ss h one)
+item_laid (tree.deps list ss h) one w = call_laid (deps_word (heard list ss h)) _ _ w (deps_laid (heard list ss h) list ss h one)
 item_laid (tree.dispose o) one w = call_laid (codes "dispose") _ _ w (λ v. tight_laid (once_laid o v))
 item_laid (tree.prune o) one w = call_laid (codes "prune") _ _ w (λ v. tight_laid (once_laid o v))
 item_laid tree.decline one w = call_laid (codes "decline") [] [] w (λ v. tight_laid no_text)

@@ -4,7 +4,7 @@ use Rattle.std.proofs.lemmas.Bool.{eqb-true}
 use Rattle.std.proofs.lemmas.Slice.Eq.{bytes_eq-Decides}
 use Rattle.std.specs.Str.{bytes_eq}
 use Rattle.module_semantics.specs.Token.{Token, name, number, text, punct, LineToken}
-use Rattle.module_semantics.specs.Kinds.{ACCEPT, ARROW, AS, CLOSE, CLOSE_BRACE, CLOSE_BRACKET, COLON, COMMA, CONSOLE, CONST, DATA, DECLINE, DISPOSE, DOT, ELSE, EQUALS, EXPORT, FROM, HOST, HOT, IF, IMPORT, INVALIDATE, LET, LOG, META, MINUS, NEW, NULLISH, OPEN, OPEN_BRACE, OPEN_BRACKET, PLUS, PRUNE, QUESTION, SAFE_DOT, THROW, TIMES, UNDEFINED, SEMICOLON, ERROR, NUMBER, TEXT, kind, found_word, word_kind, within, free_names, all_names, reserved, bytes_of, value_of, NameAt, name_at, same_name}
+use Rattle.module_semantics.specs.Kinds.{ACCEPT, ARROW, AS, CLOSE, CLOSE_BRACE, CLOSE_BRACKET, COLON, COMMA, CONSOLE, CONST, DATA, DECLINE, DISPOSE, DOT, ELSE, EQUALS, EXPORT, FROM, HOST, HOT, IF, IMPORT, INVALIDATE, LET, LOG, META, MINUS, NEW, NULLISH, ON, OPEN, OPEN_BRACE, OPEN_BRACKET, PLUS, PRUNE, QUESTION, SAFE_DOT, THROW, TIMES, UNDEFINED, SEMICOLON, ERROR, NUMBER, TEXT, kind, found_word, word_kind, within, free_names, all_names, reserved, bytes_of, value_of, NameAt, name_at, same_name}
 use Rattle.module_semantics.specs.Readers.{mark, taken}
 use Rattle.module_semantics.specs.Reading.{but_console, but_host}
 use Rattle.module_semantics.specs.Spelling as spell
@@ -137,6 +137,10 @@ pub invalidate_mark : (n : ℕ) → Reads (INVALIDATE ∷ []) false [] n (mark_p
 unfolding within word_kind found_word
 invalidate_mark n = mark_reads n INVALIDATE (name (codes "invalidate")) refl refl
 
+pub on_mark : (n : ℕ) → Reads (ON ∷ []) false [] n (mark_part ON) (mark ON) (mark ON)
+unfolding within word_kind found_word
+on_mark n = mark_reads n ON (name (codes "on")) refl refl
+
 pub open_brace_mark : (n : ℕ) → Reads (OPEN_BRACE ∷ []) false [] n (mark_part OPEN_BRACE) (mark OPEN_BRACE) (mark OPEN_BRACE)
 unfolding within word_kind found_word
 open_brace_mark n = mark_reads n OPEN_BRACE (punct 0) refl refl
@@ -265,6 +269,11 @@ host_reads n = name_reads n (HOST ∷ []) (name (codes "host")) refl refl
 pub but_host_reads : (n : ℕ) → Reads but_host false [] n (name_part but_host) (taken but_host name_at) (taken but_host name_at)
 unfolding within word_kind found_word
 but_host_reads n = name_reads n but_host (name (codes "a")) refl refl
+
+-- the name of an event, which is a text
+pub event_reads : (n : ℕ) → Reads (TEXT ∷ []) false [] n (name_part (TEXT ∷ [])) (taken (TEXT ∷ []) name_at) (taken (TEXT ∷ []) name_at)
+unfolding within
+event_reads n = name_reads n (TEXT ∷ []) (text []) refl refl
 
 -- a mark is spelled by its token
 pub mark_spells : (k : ℕ) (t : LineToken) (s : List LineToken) → within (k ∷ []) (kind t.token) ≡ true → spell.mark k (t ∷ s) ≡ Some s

@@ -188,6 +188,7 @@ hot_call_deepest : (d : HotCallD) → item_deep (item_tree (hot_call_raw d)) ≤
 hot_call_deepest (grammar.HotCallD.accept a) = accept_deepest a
 hot_call_deepest (grammar.HotCallD.dispose o) = (own_deepest o).1
 hot_call_deepest (grammar.HotCallD.prune o) = (own_deepest o).1
+hot_call_deepest (grammar.HotCallD.on n c) = (callback_deepest c).0
 hot_call_deepest grammar.HotCallD.decline = omega arith
 
 top_deepest : (d : TopD) → item_deep (item_tree (top_raw d)) ≤ top_depth d

@@ -159,6 +159,10 @@ number_keeps n = seen (spell.number_token n) (λ t. number_value n t.0.token t.1
 pub text_keeps : (s : List ℕ) → Keeps (spell.text_token s) (is_utf8 s ≡ true)
 text_keeps s = seen (spell.text_token s) (λ t. text_value s t.0.token t.1 t.2 t.3) (one_keeps (TEXT ∷ []) (λ t. bytes_eq s (bytes_of t.token)))
 
+-- the name of an event, which is a text
+pub event_keeps : (n : NameAt) → Keeps (spell.name_of (TEXT ∷ []) n) (is_utf8 n.name ≡ true)
+event_keeps n = seen (spell.name_of (TEXT ∷ []) n) (λ t. text_value n.name t.0.token t.1 (ap (λ v. bytes_eq n.name v) (name_is (TEXT ∷ []) n t.0 t.2) ∙ same_bytes.again n.name) t.3) (one_keeps (TEXT ∷ []) (λ t. same_name n (name_at t)))
+
 -- what an expression says can be written
 abbrev pub GoodExpr : RawExpr → Type 0
 GoodExpr (raw.num n) = nat_le n LARGEST_NUMBER ≡ true

@@ -1,13 +1,16 @@
 -- What can be written and breaks no rule on names fits: callbacks, items and whole modules.
-use Rattle.std.proofs.Common.{◌≡◌, ℕ, List, [], ◌∷◌, map, Bool, true, false, cond, Option, Some, None, refl, sym, ap, ◌∙◌, subst, codes}
+use Rattle.std.proofs.Common.{◌≡◌, ℕ, List, [], ◌∷◌, map, Bool, true, false, not, cond, Option, Some, None, refl, sym, ap, ◌∙◌, subst, codes}
 use Rattle.std.specs.List.{list_all}
+use Rattle.std.proofs.lemmas.Str.{is_utf8-from_IsUtf8}
+use Rattle.hmr_types.specs.Event.{event_module, event_of, is_event}
+use Rattle.hmr_types.proofs.Events.{event_of-event_module, event_of-is, is_event-IsUtf8}
 use Rattle.std.specs.Option.{option_map}
 use Rattle.std.specs.Str.{bytes_eq}
 use Rattle.std.proofs.lemmas.List.{map-append}
 use Rattle.module_tree.specs.Syntax as tree
 use Rattle.module_tree.specs.Syntax.{HandlerTree, OnceTree, ItemTree, ModuleTree}
 use Rattle.module_tree.specs.declared.tree.ImportName.{ImportName}
-use Rattle.hmr_types.specs.declared.analysis.FaultWord.TheVariants.{DuplicateName}
+use Rattle.hmr_types.specs.declared.analysis.FaultWord.TheVariants.{DuplicateName, Unexpected}
 use Rattle.module_semantics.specs.Token as token
 use Rattle.module_semantics.specs.Token.{Token}
 use Rattle.module_semantics.specs.Bytes.{is_name_start, is_name_byte, is_digit}
@@ -16,10 +19,11 @@ use Rattle.module_semantics.specs.Kinds.{NameAt}
 use Rattle.module_semantics.specs.Raw as raw
 use Rattle.module_semantics.specs.Raw.{RawHandler, RawOnce, RawImport, RawItem}
 use Rattle.module_semantics.specs.Reading.{flat}
-use Rattle.module_semantics.specs.NameRules.{Broken, outside, in_once, in_accept, has_name, broken_if, repeated, names_of, stmts_broken, handler_broken, once_broken, item_broken, bound_by, lets_by, lets_of, all_broken, least, first_broken}
+use Rattle.module_semantics.specs.NameRules.{Broken, outside, in_once, in_accept, has_name, broken_if, repeated, names_of, stmts_broken, handler_broken, once_broken, event_rule, item_broken, bound_by, lets_by, lets_of, all_broken, least, first_broken}
 use Rattle.module_semantics.specs.Resolving.{handler_tree, once_handler_tree, accept_tree, once_tree, import_name, item_tree, module_tree}
+use Rattle.module_semantics.specs.Canon.{heard, deps_word}
 use Rattle.module_semantics.specs.CanonTokens.{hot_tokens, stmts_tokens, fits_name}
-use Rattle.module_semantics.specs.CanonItems.{after_commas, between_commas, name_tokens, text_tokens, callback_tokens, handler_tokens, list_params_tokens, list_handler_tokens, once_tokens, import_name_tokens, import_tokens, export_tokens, declare_token, call_tokens, own_tokens, specs_tokens, deps_handler_tokens, item_tokens, canon_tokens}
+use Rattle.module_semantics.specs.CanonItems.{after_commas, between_commas, name_tokens, text_tokens, callback_tokens, handler_tokens, list_params_tokens, list_handler_tokens, once_tokens, import_name_tokens, import_tokens, export_tokens, declare_token, call_tokens, own_tokens, specs_tokens, heard_tokens, deps_tokens, deps_handler_tokens, item_tokens, canon_tokens}
 use Rattle.module_semantics.specs.Fitting.{is_name, writable, distinct, at_most_one, fits_handler, fits_one_handler, fits_once_handler, fits_own, fits_once, fits_accept, fits_deps, fits_import, fits_item, bound_names, let_names, module_lets}
 use Rattle.module_semantics.proofs.LexedPieces.{and_yes, not_yes}
 use Rattle.module_semantics.proofs.CanonParts.{unbroken}
@@ -138,6 +142,41 @@ accept_written : (ts : List Token) → Writable ts → Writable (call_tokens (co
 unfolding is_name_start is_name_byte is_digit all
 accept_written ts w = fixed_written (token.name (codes "import") ∷ hot_tokens (token.name (codes "accept") ∷ (token.punct 2 ∷ []))) _ refl (both_written ts _ w end_call_written)
 
+on_written : (ts : List Token) → Writable ts → Writable (call_tokens (codes "on") ts)
+unfolding is_name_start is_name_byte is_digit all
+on_written ts w = fixed_written (token.name (codes "import") ∷ hot_tokens (token.name (codes "on") ∷ (token.punct 2 ∷ []))) _ refl (both_written ts _ w end_call_written)
+
+deps_word_written : (event : Option (List ℕ)) (ts : List Token) → Writable ts → Writable (call_tokens (deps_word event) ts)
+deps_word_written None ts w = accept_written ts w
+deps_word_written (Some event) ts w = on_written ts w
+
+event_good : (s : List ℕ) (o : Option (List ℕ)) → event_of s ≡ o → IfGood GoodText o
+event_good s None is = tt
+event_good s (Some event) is = is_utf8-from_IsUtf8 event (is_event-IsUtf8 event (event_of-is s event is).1)
+
+heard_good : (list : Bool) (ss : List (List ℕ)) (h : Option HandlerTree) → IfGood GoodText (heard list ss h)
+heard_good true ss h = tt
+heard_good false [] h = tt
+heard_good false (s ∷ []) None = tt
+heard_good false (s ∷ []) (Some h) = event_good s (event_of s) refl
+heard_good false (s ∷ (t ∷ ss)) h = tt
+
+heard_written : (event : Option (List ℕ)) (list : Bool) (ss : List (List ℕ)) → IfGood GoodText event → EachGood GoodText ss → Writable (heard_tokens event list ss)
+heard_written None list ss event good = specs_written list ss good
+heard_written (Some e) list ss event good = then_written (token.text e) [] event nothing_written
+
+deps_written : (list : Bool) (ss : List (List ℕ)) (h : Option HandlerTree) → EachGood GoodText ss → Writable (deps_handler_tokens list h) → Writable (item_tokens (tree.deps list ss h))
+deps_written list ss h good w = deps_word_written (heard list ss h) _ (both_written _ _ (heard_written (heard list ss h) list ss (heard_good list ss h) good) w)
+
+listener_written : (event : List ℕ) (h : HandlerTree) → is_event event ≡ true → GoodText event → Writable (handler_tokens h) → Writable (item_tokens (tree.deps false (event_module event ∷ []) (Some h)))
+listener_written event h named good w =
+    subst (λ o. Writable (deps_tokens o false (event_module event ∷ []) (Some h))) (sym (event_of-event_module event named))
+    (on_written _ (both_written _ _ (then_written (token.text event) [] good nothing_written) (then_written (token.punct 6) _ refl w)))
+
+yes_of : (b : Bool) → not b ≡ false → b ≡ true
+yes_of true h = refl
+yes_of false h = absurd cc
+
 dispose_written : (ts : List Token) → Writable ts → Writable (call_tokens (codes "dispose") ts)
 unfolding is_name_start is_name_byte is_digit all
 dispose_written ts w = fixed_written (token.name (codes "import") ∷ hot_tokens (token.name (codes "dispose") ∷ (token.punct 2 ∷ []))) _ refl (both_written ts _ w end_call_written)
@@ -210,7 +249,11 @@ item_fits lets (raw.declare exported mutable n e) good b =
     }
 item_fits lets (raw.act s) good b = let x = one_fits lets s good.0 b in record { fits = and_yes _ _ good.1 x.0; written = x.1 }
 item_fits lets (raw.own o) good b = let x = accept_fits lets o good b in record { fits = x.0; written = accept_written _ x.1 }
-item_fits lets (raw.deps list ss h) good b = let x = deps_fit lets list ss h good.2 b in record { fits = and_yes _ _ good.1 x.0; written = accept_written _ (both_written _ _ (specs_written list ss good.0) x.1) }
+item_fits lets (raw.deps list ss h) good b = let x = deps_fit lets list ss h good.2 b in record { fits = and_yes _ _ good.1 x.0; written = deps_written list ss _ good.0 x.1 }
+item_fits lets (raw.on n h) good b =
+    let t = no_first (handler_broken lets in_accept h) (event_rule n) b in
+    let named = yes_of (is_event n.name) (unbroken (not (is_event n.name)) Unexpected n.at t.1) in
+    record { fits = one_handler_fits lets h good.1 t.0; written = listener_written n.name (handler_tree h) named good.0 (handler_fits lets h good.1.0 t.0).written }
 item_fits lets (raw.dispose o) good b = let x = once_fits lets o good b in record { fits = x.0; written = dispose_written _ x.1 }
 item_fits lets (raw.prune o) good b = let x = once_fits lets o good b in record { fits = x.0; written = prune_written _ x.1 }
 item_fits lets raw.decline good b = record { fits = refl; written = decline_written }
@@ -239,6 +282,7 @@ lets_same (raw.declare exported mutable n e) = let_same mutable n.name
 lets_same (raw.act s) = refl
 lets_same (raw.own o) = refl
 lets_same (raw.deps list ss h) = refl
+lets_same (raw.on n h) = refl
 lets_same (raw.dispose o) = refl
 lets_same (raw.prune o) = refl
 lets_same raw.decline = refl
@@ -253,6 +297,7 @@ bound_same (raw.declare exported mutable n e) = refl
 bound_same (raw.act s) = refl
 bound_same (raw.own o) = refl
 bound_same (raw.deps list ss h) = refl
+bound_same (raw.on n h) = refl
 bound_same (raw.dispose o) = refl
 bound_same (raw.prune o) = refl
 bound_same raw.decline = refl

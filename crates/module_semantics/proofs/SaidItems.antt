@@ -2,18 +2,18 @@
 use Rattle.std.proofs.Common.{◌≡◌, ℕ, List, [], ◌∷◌, ◌++◌, Bool, true, false, Option, Some, None, refl}
 use Rattle.std.specs.Option.{option_map}
 use Rattle.std.specs.Str.{is_utf8}
-use Rattle.module_semantics.specs.Kinds.{IMPORT, EXPORT, CONST, LET, IF, HOST, FROM, AS, META, HOT, ACCEPT, DISPOSE, PRUNE, DECLINE, OPEN_BRACE, CLOSE_BRACE, OPEN, CLOSE, OPEN_BRACKET, CLOSE_BRACKET, COMMA, DOT, EQUALS, ARROW, NameAt}
+use Rattle.module_semantics.specs.Kinds.{IMPORT, EXPORT, CONST, LET, IF, HOST, FROM, AS, META, HOT, ACCEPT, DISPOSE, PRUNE, DECLINE, ON, TEXT, OPEN_BRACE, CLOSE_BRACE, OPEN, CLOSE, OPEN_BRACKET, CLOSE_BRACKET, COMMA, DOT, EQUALS, ARROW, NameAt}
 use Rattle.module_semantics.specs.Raw as raw
 use Rattle.module_semantics.specs.Raw.{RawHandler, RawOnce, RawImport, RawItem}
 use Rattle.module_semantics.specs.Reading.{one_or_none, all_of}
 use Rattle.module_semantics.specs.Spelling as spell
 use Rattle.module_semantics.specs.Spelling.{Spell, ◌>>◌, ◌▸◌, Listed, items_of}
 use Rattle.module_semantics.specs.Grammar as grammar
-use Rattle.module_semantics.specs.Grammar.{ActD, BodyD, ParamD, CallbackD, ListCallbackD, OwnD, AcceptD, HotCallD, TopD, DeclD, SpecD, ItemD, ModuleD, hot_spelt, expr_spelt, act_spelt, act_raw, throw_spelt, inval_spelt, stmts_spelt, body_spelt, body_raw, param_spelt, param_raw, callback_spelt, callback_raw, names_spelt, list_callback_spelt, list_callback_raw, own_spelt, own_raw, after_comma, accept_spelt, accept_raw, hot_call_spelt, hot_call_raw, top_spelt, top_raw, decl_spelt, decl_raw, spec_spelt, spec_raw, item_spelt, item_raw, module_spelt, module_raw}
+use Rattle.module_semantics.specs.Grammar.{ActD, BodyD, ParamD, CallbackD, ListCallbackD, OwnD, AcceptD, HotCallD, TopD, DeclD, SpecD, ItemD, ModuleD, hot_spelt, expr_spelt, act_spelt, act_raw, throw_spelt, inval_spelt, stmts_spelt, body_spelt, body_raw, param_spelt, param_raw, callback_spelt, callback_raw, names_spelt, list_callback_spelt, list_callback_raw, own_spelt, own_raw, after_comma, accept_spelt, accept_raw, listened_spelt, hot_call_spelt, hot_call_raw, top_spelt, top_raw, decl_spelt, decl_raw, spec_spelt, spec_raw, item_spelt, item_raw, module_spelt, module_raw}
 use Rattle.module_semantics.specs.NameRules.{outside}
 use Rattle.module_semantics.specs.Resolving.{stmt_tree}
 use Rattle.module_semantics.specs.Fitting.{is_name, at_most_one, at_top, fits_specs}
-use Rattle.module_semantics.proofs.SaidExprs.{Keeps, GoodName, GoodExpr, bound, seen, past, last, name_keeps, key_keeps, text_keeps, hot_keeps, expr_keeps}
+use Rattle.module_semantics.proofs.SaidExprs.{Keeps, GoodName, GoodExpr, bound, seen, past, last, name_keeps, key_keeps, text_keeps, event_keeps, hot_keeps, expr_keeps}
 use Rattle.module_semantics.proofs.SaidStmts.{EachGood, IfGood, GoodStmt, GoodStmts, many_keeps, separated_keeps, listed_keeps, maybe_keeps, map_good, end_keeps, same_rest, act_keeps, throw_keeps, inval_keeps, stmts_keeps}
 
 -- what a callback says can be written
@@ -46,6 +46,7 @@ GoodItem (raw.declare exported mutable n e) = GoodName n × GoodExpr e
 GoodItem (raw.act s) = GoodStmt s × (at_top (stmt_tree outside s) ≡ true)
 GoodItem (raw.own o) = IfGood GoodOnce o
 GoodItem (raw.deps list ss h) = EachGood GoodText ss × (fits_specs list ss ≡ true) × GoodDeps list h
+GoodItem (raw.on n h) = GoodText n.name × GoodCallback h
 GoodItem (raw.dispose o) = GoodOnce o
 GoodItem (raw.prune o) = GoodOnce o
 GoodItem raw.decline = Unit {0}
@@ -94,10 +95,14 @@ accept_keeps (grammar.own o) = own_keeps o
 accept_keeps (grammar.dep s c) = bound (spell.text_token s) _ (text_keeps s) (λ x. seen (spell.maybe (after_comma callback_spelt) c) (λ y. ((x, tt), refl, dep_good c y)) (maybe_keeps (after_comma callback_spelt) (λ d. GoodCallback (callback_raw d)) (λ d. past COMMA (callback_spelt d) (callback_keeps d)) c))
 accept_keeps (grammar.deps ss c) = past OPEN_BRACKET _ (bound (spell.listed spell.text_token ss) _ (listed_keeps spell.text_token GoodText text_keeps ss) (λ x. past CLOSE_BRACKET _ (seen (spell.maybe (after_comma list_callback_spelt) c) (λ y. (x, refl, deps_good c y)) (maybe_keeps (after_comma list_callback_spelt) (λ d. GoodHandler (list_callback_raw d)) (λ d. past COMMA (list_callback_spelt d) (list_callback_keeps d)) c))))
 
+listened_keeps : (n : NameAt) (c : CallbackD) → Keeps (listened_spelt n c) (GoodItem (raw.on n (callback_raw c)))
+listened_keeps n c = bound (spell.name_of (TEXT ∷ []) n) _ (event_keeps n) (λ x. past COMMA _ (seen (callback_spelt c) (λ y. (x, y)) (callback_keeps c)))
+
 hot_call_keeps : (d : HotCallD) → Keeps (hot_call_spelt d) (GoodItem (hot_call_raw d))
 hot_call_keeps (grammar.HotCallD.accept a) = past ACCEPT _ (past OPEN _ (bound (accept_spelt a) _ (accept_keeps a) (λ x. last CLOSE x)))
 hot_call_keeps (grammar.HotCallD.dispose o) = past DISPOSE _ (past OPEN _ (bound (own_spelt o) _ (own_keeps o) (λ x. last CLOSE x)))
 hot_call_keeps (grammar.HotCallD.prune o) = past PRUNE _ (past OPEN _ (bound (own_spelt o) _ (own_keeps o) (λ x. last CLOSE x)))
+hot_call_keeps (grammar.HotCallD.on n c) = past ON _ (past OPEN _ (bound (listened_spelt n c) _ (listened_keeps n c) (λ x. last CLOSE x)))
 hot_call_keeps grammar.HotCallD.decline = past DECLINE _ (past OPEN _ (last CLOSE tt))
 
 act_top : (d : ActD) → at_top (stmt_tree outside (act_raw d)) ≡ true

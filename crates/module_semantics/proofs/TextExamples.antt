@@ -5,6 +5,7 @@ use Rattle.std.specs.Str.Lossy.{utf8_valid_len}
 use Rattle.std.proofs.Common.{refl}
 use Rattle.module_tree.specs.Syntax as tree
 use Rattle.module_tree.specs.declared.tree.Op.TheVariants as ops
+use Rattle.hmr_types.specs.ModName.{is_segment_byte}
 use Rattle.hmr_types.specs.declared.analysis.FaultWord.{FaultWord}
 use Rattle.hmr_types.specs.declared.analysis.FaultWord.TheVariants as words
 use Rattle.hmr_types.specs.declared.analysis.TextFault.{TextFault}
@@ -167,3 +168,24 @@ pub keys_of_a_dispose_parameter_are_the_bags : parsing (codes "import.meta.hot.d
     ≡ Ok (tree.dispose (tree.code (record { params = []; body = tree.one_stmt (tree.bag_set (codes "x") (tree.bag (codes "y"))) tree.no_stmts })) ∷ [])
 unfolding is_utf8 chars parsing lexing lex_from step front is_blank is_name_start is_digit is_quote is_name_byte is_line_end is_escape unescape not_line_feed span added after_token barred begins number_at number_from text_at text_from comment_at comment_from punct_at single double marked line_feeds since_line_feed line_tokens_from line_tokens found_word word_kind within next_in taken many_from listed_from ends end deep next_two access prim unary prod sum null expr_over expr console_act other_act name_act bag_act thrown told import_stmt else_part if_stmt stmt braces inner body in_parens callback list_callback host_own once accepted hot_call hot_top plain_top top guard declaration import_name import_item item finished module_reader reading has_name repeated expr_broken all_broken least place_of lib.Utf8.encode
 keys_of_a_dispose_parameter_are_the_bags = refl
+
+pub an_event_is_listened_to_by_its_module : parsing (codes "import.meta.hot.on('my:ping', (e) => { console.log(e.data) })")
+    ≡ Ok (tree.deps false (codes "/event/my/ping" ∷ []) (Some (record { params = codes "e" ∷ []; body = tree.one_stmt (tree.log (tree.member 0 false (codes "data") ∷ [])) tree.no_stmts })) ∷ [])
+unfolding is_utf8 chars parsing lexing lex_from step front is_blank is_name_start is_digit is_quote is_name_byte is_line_end is_escape unescape not_line_feed span added after_token barred begins number_at number_from text_at text_from comment_at comment_from punct_at single double marked line_feeds since_line_feed line_tokens_from line_tokens found_word word_kind within next_in taken many_from listed_from ends end deep next_two access prim unary prod sum null expr_over expr console_act other_act name_act bag_act thrown told import_stmt else_part if_stmt stmt braces inner body in_parens callback list_callback host_own once accepted hot_call hot_top plain_top top guard declaration import_name import_item item finished module_reader reading has_name repeated expr_broken all_broken least place_of lib.Utf8.encode is_segment_byte
+an_event_is_listened_to_by_its_module = refl
+
+pub no_event_without_a_segment : fault (codes "import.meta.hot.on('my:', () => { });\na = 1") ≡ at 1 20 words.Unexpected
+unfolding is_utf8 chars parsing lexing lex_from step front is_blank is_name_start is_digit is_quote is_name_byte is_line_end is_escape unescape not_line_feed span added after_token barred begins number_at number_from text_at text_from comment_at comment_from punct_at single double marked line_feeds since_line_feed line_tokens_from line_tokens found_word word_kind within next_in taken many_from listed_from ends end deep next_two access prim unary prod sum null expr_over expr console_act other_act name_act bag_act thrown told import_stmt else_part if_stmt stmt braces inner body in_parens callback list_callback host_own once accepted hot_call hot_top plain_top top guard declaration import_name import_item item finished module_reader reading has_name repeated expr_broken all_broken least place_of lib.Utf8.encode is_segment_byte
+no_event_without_a_segment = refl
+
+pub an_earlier_name_goes_before_the_event : fault (codes "a = 1; import.meta.hot.on('', () => { })") ≡ at 1 1 words.NotAssignable
+unfolding is_utf8 chars parsing lexing lex_from step front is_blank is_name_start is_digit is_quote is_name_byte is_line_end is_escape unescape not_line_feed span added after_token barred begins number_at number_from text_at text_from comment_at comment_from punct_at single double marked line_feeds since_line_feed line_tokens_from line_tokens found_word word_kind within next_in taken many_from listed_from ends end deep next_two access prim unary prod sum null expr_over expr console_act other_act name_act bag_act thrown told import_stmt else_part if_stmt stmt braces inner body in_parens callback list_callback host_own once accepted hot_call hot_top plain_top top guard declaration import_name import_item item finished module_reader reading has_name repeated expr_broken all_broken least place_of lib.Utf8.encode is_segment_byte
+an_earlier_name_goes_before_the_event = refl
+
+pub on_takes_a_callback : fault (codes "import.meta.hot.on('a')") ≡ at 1 23 words.Unexpected
+unfolding is_utf8 chars parsing lexing lex_from step front is_blank is_name_start is_digit is_quote is_name_byte is_line_end is_escape unescape not_line_feed span added after_token barred begins number_at number_from text_at text_from comment_at comment_from punct_at single double marked line_feeds since_line_feed line_tokens_from line_tokens found_word word_kind within next_in taken many_from listed_from ends end deep next_two access prim unary prod sum null expr_over expr console_act other_act name_act bag_act thrown told import_stmt else_part if_stmt stmt braces inner body in_parens callback list_callback host_own once accepted hot_call hot_top plain_top top guard declaration import_name import_item item finished module_reader reading has_name repeated expr_broken all_broken least place_of lib.Utf8.encode
+on_takes_a_callback = refl
+
+pub on_is_a_name_elsewhere : fault (codes "export let on = 1; on = 2; console.log(on)") ≡ None
+unfolding is_utf8 chars parsing lexing lex_from step front is_blank is_name_start is_digit is_quote is_name_byte is_line_end is_escape unescape not_line_feed span added after_token barred begins number_at number_from text_at text_from comment_at comment_from punct_at single double marked line_feeds since_line_feed line_tokens_from line_tokens found_word word_kind within next_in taken many_from listed_from ends end deep next_two access prim unary prod sum null expr_over expr console_act other_act name_act bag_act thrown told import_stmt else_part if_stmt stmt braces inner body in_parens callback list_callback host_own once accepted hot_call hot_top plain_top top guard declaration import_name import_item item finished module_reader reading has_name repeated expr_broken all_broken least place_of lib.Utf8.encode
+on_is_a_name_elsewhere = refl

@@ -4,6 +4,7 @@ use Rattle.std.specs.Prelude.{ℕ, zero, suc, List, [], ◌∷◌, ◌++◌, Boo
 use Rattle.std.specs.Prelude.{if◌then◌else◌, Option, Some, None, codes, map}
 use Rattle.std.specs.Str.{bytes_eq}
 use Rattle.std.specs.Fmt.{decimal}
+use Rattle.hmr_types.specs.Event.{event_of}
 use Rattle.module_tree.specs.Syntax.{ExprTree, num, text, undefined, name, bag, member, neg, binary, choose}
 use Rattle.module_tree.specs.Syntax.{CondTree, param, value, StmtTree, StmtTrees, no_stmts, one_stmt, log}
 use Rattle.module_tree.specs.Syntax.{assign, bag_set, throw, invalidate, branch, HandlerTree, OnceTree, code}
@@ -200,6 +201,29 @@ deps_handler_text list None = []
 deps_handler_text true (Some h) = codes ", " ++ list_handler_text h
 deps_handler_text false (Some h) = codes ", " ++ handler_text h
 
+-- the event that a callback listens to: its one specifier is the module of the event
+abbrev pub heard : Bool → List (List ℕ) → Option HandlerTree → Option (List ℕ)
+heard true ss h = None
+heard false [] h = None
+heard false (s ∷ []) None = None
+heard false (s ∷ []) (Some h) = event_of s
+heard false (s ∷ (t ∷ ss)) h = None
+
+-- the word of the call: `on` for an event, else `accept`
+abbrev pub deps_word : Option (List ℕ) → List ℕ
+deps_word None = codes "accept"
+deps_word (Some event) = codes "on"
+
+-- what stands before the callback: the event, or the specifiers
+abbrev pub heard_text : Option (List ℕ) → Bool → List (List ℕ) → List ℕ
+heard_text None list ss = specs_text list ss
+heard_text (Some event) list ss = quoted event
+
+-- a call for dependencies, by the event that it listens to, if any
+abbrev pub deps_text : Option (List ℕ) → Bool → List (List ℕ) → Option HandlerTree → List ℕ
+deps_text event list ss h =
+    call_text (deps_word event) (heard_text event list ss ++ deps_handler_text list h)
+
 -- an item
 abbrev pub item_text : ItemTree → List ℕ
 item_text (import s names) = import_text s names
@@ -207,7 +231,7 @@ item_text (declare exported mutable n e) =
     export_text exported ++ (declare_text mutable ++ (n ++ (codes " = " ++ (expr_text [] e ++ codes ";\n"))))
 item_text (act s) = stmt_text [] 0 s
 item_text (own o) = call_text (codes "accept") (own_text o)
-item_text (deps list ss h) = call_text (codes "accept") (specs_text list ss ++ deps_handler_text list h)
+item_text (deps list ss h) = deps_text (heard list ss h) list ss h
 item_text (dispose o) = call_text (codes "dispose") (once_text o)
 item_text (prune o) = call_text (codes "prune") (once_text o)
 item_text decline = call_text (codes "decline") []

@@ -7,6 +7,7 @@ use Rattle.module_tree.specs.Syntax.{deps, dispose, prune, decline, ModuleTree}
 use Rattle.module_tree.specs.declared.tree.ImportName.{ImportName}
 use Rattle.module_semantics.specs.Token as token
 use Rattle.module_semantics.specs.Token.{Token}
+use Rattle.module_semantics.specs.Canon.{heard, deps_word}
 use Rattle.module_semantics.specs.CanonTokens.{hot_tokens, expr_tokens, stmt_tokens, stmts_tokens, expr_deep}
 use Rattle.module_semantics.specs.CanonTokens.{stmt_deep, stmts_deep}
 
@@ -97,6 +98,16 @@ deps_handler_tokens list None = []
 deps_handler_tokens true (Some h) = token.punct 6 ∷ list_handler_tokens h
 deps_handler_tokens false (Some h) = token.punct 6 ∷ handler_tokens h
 
+-- what stands before the callback: the event, or the specifiers
+abbrev pub heard_tokens : Option (List ℕ) → Bool → List (List ℕ) → List Token
+heard_tokens None list ss = specs_tokens list ss
+heard_tokens (Some event) list ss = token.text event ∷ []
+
+-- a call for dependencies, by the event that it listens to, if any
+abbrev pub deps_tokens : Option (List ℕ) → Bool → List (List ℕ) → Option HandlerTree → List Token
+deps_tokens event list ss h =
+    call_tokens (deps_word event) (heard_tokens event list ss ++ deps_handler_tokens list h)
+
 -- an item
 abbrev pub item_tokens : ItemTree → List Token
 item_tokens (import s names) = import_tokens s names
@@ -104,8 +115,7 @@ item_tokens (declare exported mutable n e) = export_tokens exported
     ++ (declare_token mutable ∷ (token.name n ∷ (token.punct 9 ∷ (expr_tokens [] e ++ (token.punct 7 ∷ [])))))
 item_tokens (act s) = stmt_tokens [] s
 item_tokens (own o) = call_tokens (codes "accept") (own_tokens o)
-item_tokens (deps list ss h) =
-    call_tokens (codes "accept") (specs_tokens list ss ++ deps_handler_tokens list h)
+item_tokens (deps list ss h) = deps_tokens (heard list ss h) list ss h
 item_tokens (dispose o) = call_tokens (codes "dispose") (once_tokens o)
 item_tokens (prune o) = call_tokens (codes "prune") (once_tokens o)
 item_tokens decline = call_tokens (codes "decline") []

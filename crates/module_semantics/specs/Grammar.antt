@@ -5,8 +5,8 @@ use Rattle.std.specs.Prelude.{ℕ, suc, max, List, [], ◌∷◌, Bool, true, fa
 use Rattle.std.specs.Option.{option_map}
 use Rattle.module_semantics.specs.Kinds.{IMPORT, EXPORT, CONST, LET, IF, ELSE, THROW, CONSOLE, LOG, HOST, NEW}
 use Rattle.module_semantics.specs.Kinds.{ERROR, FROM, AS, META, HOT, DATA, ACCEPT, DISPOSE, PRUNE, DECLINE}
-use Rattle.module_semantics.specs.Kinds.{INVALIDATE, OPEN_BRACE, CLOSE_BRACE, OPEN, CLOSE, OPEN_BRACKET}
-use Rattle.module_semantics.specs.Kinds.{CLOSE_BRACKET, COMMA, DOT, EQUALS, ARROW, NameAt}
+use Rattle.module_semantics.specs.Kinds.{INVALIDATE, ON, TEXT, OPEN_BRACE, CLOSE_BRACE, OPEN, CLOSE}
+use Rattle.module_semantics.specs.Kinds.{OPEN_BRACKET, CLOSE_BRACKET, COMMA, DOT, EQUALS, ARROW, NameAt}
 use Rattle.module_semantics.specs.Raw as raw
 use Rattle.module_semantics.specs.Raw.{RawExpr, RawStmt, RawStmts, no_stmts, one_stmt, RawHandler, RawOnce}
 use Rattle.module_semantics.specs.Raw.{RawImport, RawItem}
@@ -310,11 +310,16 @@ accept_depth (own o) = own_depth o
 accept_depth (dep s c) = deep_if callback_depth c
 accept_depth (deps ss c) = deep_if list_callback_depth c
 
+-- what `on` takes: the name of an event, where its text stands, and a callback
+abbrev pub listened_spelt : NameAt → CallbackD → Spell
+listened_spelt n c = name_of (TEXT ∷ []) n ▸ after_comma callback_spelt c
+
 -- HotCall
 pub data HotCallD : Type 0 where
   accept : AcceptD → HotCallD
   dispose : OwnD → HotCallD
   prune : OwnD → HotCallD
+  on : NameAt → CallbackD → HotCallD
   decline : HotCallD
 
 -- its tokens
@@ -322,6 +327,7 @@ abbrev pub hot_call_spelt : HotCallD → Spell
 hot_call_spelt (accept a) = mark ACCEPT ▸ mark OPEN ▸ accept_spelt a ▸ mark CLOSE
 hot_call_spelt (dispose o) = mark DISPOSE ▸ mark OPEN ▸ own_spelt o ▸ mark CLOSE
 hot_call_spelt (prune o) = mark PRUNE ▸ mark OPEN ▸ own_spelt o ▸ mark CLOSE
+hot_call_spelt (on n c) = mark ON ▸ mark OPEN ▸ listened_spelt n c ▸ mark CLOSE
 hot_call_spelt decline = mark DECLINE ▸ mark OPEN ▸ mark CLOSE
 
 -- what it says
@@ -329,6 +335,7 @@ abbrev pub hot_call_raw : HotCallD → RawItem
 hot_call_raw (accept a) = accept_raw a
 hot_call_raw (dispose o) = raw.dispose (own_raw o)
 hot_call_raw (prune o) = raw.prune (own_raw o)
+hot_call_raw (on n c) = raw.on n (callback_raw c)
 hot_call_raw decline = raw.decline
 
 -- how deep it is
@@ -336,6 +343,7 @@ abbrev pub hot_call_depth : HotCallD → ℕ
 hot_call_depth (accept a) = accept_depth a
 hot_call_depth (dispose o) = own_depth o
 hot_call_depth (prune o) = own_depth o
+hot_call_depth (on n c) = callback_depth c
 hot_call_depth decline = 0
 
 -- Top = Simple End | Hot "." HotCall End

@@ -86,6 +86,9 @@ DECLINE = 25
 abbrev pub INVALIDATE : ℕ
 INVALIDATE = 26
 
+abbrev pub ON : ℕ
+ON = 27
+
 abbrev pub NUMBER : ℕ
 NUMBER = 40
 
@@ -155,7 +158,7 @@ words =
     ∷ (codes "log", LOG) ∷ (codes "host", HOST) ∷ (codes "new", NEW) ∷ (codes "Error", ERROR)
     ∷ (codes "from", FROM) ∷ (codes "as", AS) ∷ (codes "meta", META) ∷ (codes "hot", HOT)
     ∷ (codes "data", DATA) ∷ (codes "accept", ACCEPT) ∷ (codes "dispose", DISPOSE) ∷ (codes "prune", PRUNE)
-    ∷ (codes "decline", DECLINE) ∷ (codes "invalidate", INVALIDATE) ∷ []
+    ∷ (codes "decline", DECLINE) ∷ (codes "invalidate", INVALIDATE) ∷ (codes "on", ON) ∷ []
 
 -- the kind of a name by a table
 unfoldable pub found_word : List ℕ → List (List ℕ × ℕ) → ℕ
@@ -186,14 +189,14 @@ reserved = IMPORT ∷ EXPORT ∷ CONST ∷ LET ∷ IF ∷ ELSE ∷ THROW ∷ UND
 abbrev pub free_names : List ℕ
 free_names =
     OTHER ∷ CONSOLE ∷ LOG ∷ HOST ∷ NEW ∷ ERROR ∷ FROM ∷ AS ∷ META ∷ HOT ∷ DATA ∷ ACCEPT ∷ DISPOSE ∷ PRUNE
-    ∷ DECLINE ∷ INVALIDATE ∷ []
+    ∷ DECLINE ∷ INVALIDATE ∷ ON ∷ []
 
 -- names after a dot, which may be any
 abbrev pub all_names : List ℕ
 all_names =
     OTHER ∷ CONSOLE ∷ LOG ∷ HOST ∷ NEW ∷ ERROR ∷ FROM ∷ AS ∷ META ∷ HOT ∷ DATA ∷ ACCEPT
-    ∷ DISPOSE ∷ PRUNE ∷ DECLINE ∷ INVALIDATE ∷ IMPORT ∷ EXPORT ∷ CONST ∷ LET ∷ IF ∷ ELSE ∷ THROW ∷ UNDEFINED
-    ∷ NULL ∷ TRUE ∷ FALSE ∷ []
+    ∷ DISPOSE ∷ PRUNE ∷ DECLINE ∷ INVALIDATE ∷ ON ∷ IMPORT ∷ EXPORT ∷ CONST ∷ LET ∷ IF ∷ ELSE ∷ THROW
+    ∷ UNDEFINED ∷ NULL ∷ TRUE ∷ FALSE ∷ []
 
 -- the bytes of a name or a text
 abbrev pub bytes_of : Token → List ℕ

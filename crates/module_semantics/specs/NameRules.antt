@@ -3,6 +3,7 @@
 use Rattle.std.specs.Prelude.{ℕ, List, [], ◌∷◌, ◌++◌, Bool, true, false, not, ◌||◌, nat_le, if◌then◌else◌}
 use Rattle.std.specs.Prelude.{Option, Some, None, map}
 use Rattle.std.specs.Str.{bytes_eq}
+use Rattle.hmr_types.specs.Event.{is_event}
 use Rattle.hmr_types.specs.declared.analysis.FaultWord.{FaultWord}
 use Rattle.hmr_types.specs.declared.analysis.FaultWord.TheVariants.{DuplicateName, NotAssignable, Unexpected}
 use Rattle.module_semantics.specs.Kinds.{NameAt}
@@ -16,8 +17,8 @@ pub record Broken : Type 0 where
   pub at : ℕ
   pub word : FaultWord
 
--- where a statement stands: in no callback, in one of `dispose` or `prune`, or in one of `accept`, with these
--- parameters
+-- where a statement stands: in no callback, in one of `dispose` or `prune`, or in one of `accept` or `on`, with
+-- these parameters
 pub data Within : Type 0 where
   outside : Within
   in_once : List (List ℕ) → Within
@@ -40,7 +41,7 @@ is_bag outside n = false
 is_bag (in_once ps) n = has_name n ps
 is_bag (in_accept ps) n = false
 
--- it stands in an accept callback
+-- it stands in a callback of `accept` or `on`
 abbrev pub accepts : Within → Bool
 accepts outside = false
 accepts (in_once ps) = false
@@ -138,6 +139,10 @@ abbrev pub once_broken : List (List ℕ) → (List (List ℕ) → Within) → Ra
 once_broken lets within (raw.code h) = handler_broken lets within h
 once_broken lets within (raw.host l) = []
 
+-- what `on` listens to is the name of an event
+abbrev pub event_rule : NameAt → List Broken
+event_rule n = broken_if (not (is_event n.name)) Unexpected n.at
+
 -- what is broken in an item
 abbrev pub item_broken : List (List ℕ) → RawItem → List Broken
 item_broken lets (raw.import s names) = []
@@ -147,6 +152,7 @@ item_broken lets (raw.own None) = []
 item_broken lets (raw.own (Some o)) = once_broken lets in_accept o
 item_broken lets (raw.deps list specs None) = []
 item_broken lets (raw.deps list specs (Some h)) = handler_broken lets in_accept h
+item_broken lets (raw.on n h) = handler_broken lets in_accept h ++ event_rule n
 item_broken lets (raw.dispose o) = once_broken lets in_once o
 item_broken lets (raw.prune o) = once_broken lets in_once o
 item_broken lets raw.decline = []
@@ -158,6 +164,7 @@ bound_by (raw.declare exported mutable n e) = n ∷ []
 bound_by (raw.act s) = []
 bound_by (raw.own o) = []
 bound_by (raw.deps list specs h) = []
+bound_by (raw.on n h) = []
 bound_by (raw.dispose o) = []
 bound_by (raw.prune o) = []
 bound_by raw.decline = []
@@ -169,6 +176,7 @@ lets_by (raw.declare exported mutable n e) = if mutable then n.name ∷ [] else 
 lets_by (raw.act s) = []
 lets_by (raw.own o) = []
 lets_by (raw.deps list specs h) = []
+lets_by (raw.on n h) = []
 lets_by (raw.dispose o) = []
 lets_by (raw.prune o) = []
 lets_by raw.decline = []

@@ -47,13 +47,14 @@ pub record RawImport : Type 0 where
   pub exported : List ℕ
   pub local : NameAt
 
--- an item; the items of a guard stand in its place
+-- an item; the items of a guard stand in its place. on: a callback of the event of this name
 pub data RawItem : Type 0 where
   import : List ℕ → List RawImport → RawItem
   declare : Bool → Bool → NameAt → RawExpr → RawItem
   act : RawStmt → RawItem
   own : Option RawOnce → RawItem
   deps : Bool → List (List ℕ) → Option RawHandler → RawItem
+  on : NameAt → RawHandler → RawItem
   dispose : RawOnce → RawItem
   prune : RawOnce → RawItem
   decline : RawItem

@@ -8,7 +8,7 @@ use Rattle.module_semantics.specs.Steps.{◌>>=◌}
 use Rattle.module_semantics.specs.Token.{LineToken}
 use Rattle.module_semantics.specs.Kinds.{OTHER, IMPORT, EXPORT, CONST, LET, IF, ELSE, THROW, UNDEFINED}
 use Rattle.module_semantics.specs.Kinds.{CONSOLE, LOG, HOST, NEW, ERROR, FROM, AS, META, HOT, DATA, ACCEPT}
-use Rattle.module_semantics.specs.Kinds.{DISPOSE, PRUNE, DECLINE, INVALIDATE, NUMBER, TEXT, OPEN_BRACE}
+use Rattle.module_semantics.specs.Kinds.{DISPOSE, PRUNE, DECLINE, INVALIDATE, ON, NUMBER, TEXT, OPEN_BRACE}
 use Rattle.module_semantics.specs.Kinds.{CLOSE_BRACE, OPEN, CLOSE, OPEN_BRACKET, CLOSE_BRACKET, COMMA, DOT}
 use Rattle.module_semantics.specs.Kinds.{EQUALS, PLUS, MINUS, TIMES, QUESTION, COLON, ARROW, SAFE_DOT}
 use Rattle.module_semantics.specs.Kinds.{NULLISH, reserved, free_names, all_names, bytes_of, value_of, NameAt}
@@ -16,7 +16,7 @@ use Rattle.module_semantics.specs.Kinds.{name_at}
 use Rattle.module_semantics.specs.Raw.{RawExpr, num, text, undefined, name, bag, member, neg, binary, choose}
 use Rattle.module_semantics.specs.Raw.{RawStmt, RawStmts, no_stmts, one_stmt, stmts_of, log, assign, set}
 use Rattle.module_semantics.specs.Raw.{set_bag, throw, invalidate, branch, RawHandler, RawOnce, code, host}
-use Rattle.module_semantics.specs.Raw.{RawImport, RawItem, import, declare, act, own, deps, dispose, prune}
+use Rattle.module_semantics.specs.Raw.{RawImport, RawItem, import, declare, act, own, deps, on, dispose, prune}
 use Rattle.module_semantics.specs.Raw.{decline}
 use Rattle.module_semantics.specs.Readers.{GrammarFault, unexpected, Reader, next_two, taken, mark, given}
 use Rattle.module_semantics.specs.Readers.{◌&◌, mapped, ◌▷◌, ◌◁◌, choice, many, listed, separated, end, deep}
@@ -114,7 +114,7 @@ applied v = v.1 v.0
 abbrev pub but_console : List ℕ
 but_console =
     OTHER ∷ LOG ∷ HOST ∷ NEW ∷ ERROR ∷ FROM ∷ AS ∷ META ∷ HOT ∷ DATA ∷ ACCEPT ∷ DISPOSE ∷ PRUNE
-    ∷ DECLINE ∷ INVALIDATE ∷ []
+    ∷ DECLINE ∷ INVALIDATE ∷ ON ∷ []
 
 -- after a name: a value for it
 abbrev pub assigned : Reader RawExpr → Reader (NameAt → RawStmt)
@@ -258,7 +258,7 @@ list_callback b =
 abbrev pub but_host : List ℕ
 but_host =
     OTHER ∷ CONSOLE ∷ LOG ∷ NEW ∷ ERROR ∷ FROM ∷ AS ∷ META ∷ HOT ∷ DATA ∷ ACCEPT ∷ DISPOSE ∷ PRUNE
-    ∷ DECLINE ∷ INVALIDATE ∷ []
+    ∷ DECLINE ∷ INVALIDATE ∷ ON ∷ []
 
 -- after `host`: the label of a host closure
 abbrev pub host_label : Reader (NameAt → RawOnce)
@@ -293,13 +293,18 @@ accepted b =
     & after_comma (list_callback b)))
     (choice own_firsts (mapped (λ o. own (Some o)) (once b)) (given (own None))))
 
+-- what `on` takes: the name of an event, and a callback
+abbrev pub listened : Reader RawStmts → Reader RawItem
+listened b = mapped (λ v. on v.0 v.1) (taken (TEXT ∷ []) name_at & mark COMMA ▷ callback b)
+
 -- a call of `import.meta.hot`
 unfoldable pub hot_call : Reader RawStmts → Reader RawItem
 hot_call b =
     choice (ACCEPT ∷ []) (mark ACCEPT ▷ mark OPEN ▷ accepted b ◁ mark CLOSE)
     (choice (DISPOSE ∷ []) (mapped dispose (mark DISPOSE ▷ mark OPEN ▷ once b ◁ mark CLOSE))
     (choice (PRUNE ∷ []) (mapped prune (mark PRUNE ▷ mark OPEN ▷ once b ◁ mark CLOSE))
-    (mapped (λ u. decline) (mark DECLINE ▷ mark OPEN ▷ mark CLOSE))))
+    (choice (ON ∷ []) (mark ON ▷ mark OPEN ▷ listened b ◁ mark CLOSE)
+    (mapped (λ u. decline) (mark DECLINE ▷ mark OPEN ▷ mark CLOSE)))))
 
 -- after `import`: a call of `import.meta.hot`, or an assignment to the bag
 unfoldable pub hot_top : Inner → Reader RawItem

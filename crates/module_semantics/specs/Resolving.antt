@@ -1,9 +1,11 @@
 -- The tree of a module, of what its text says by the grammar. What a name means hangs on where it stands: in
 -- a `dispose` or `prune` callback the keys of the parameter are those of the bag, and the parameter is
--- forgotten; in an accept callback a parameter is told by its place.
-use Rattle.std.specs.Prelude.{ℕ, suc, List, [], ◌∷◌, Bool, if◌then◌else◌, map}
+-- forgotten; in an accept callback a parameter is told by its place. An event is listened to as a dependency
+-- on its module.
+use Rattle.std.specs.Prelude.{ℕ, suc, List, [], ◌∷◌, Bool, false, if◌then◌else◌, Some, map}
 use Rattle.std.specs.Option.{option_map}
 use Rattle.std.specs.Str.{bytes_eq}
+use Rattle.hmr_types.specs.Event.{event_module}
 use Rattle.module_tree.specs.Syntax as tree
 use Rattle.module_tree.specs.Syntax.{ExprTree, CondTree, StmtTree, StmtTrees, HandlerTree, OnceTree, ItemTree}
 use Rattle.module_tree.specs.Syntax.{ModuleTree}
@@ -100,6 +102,7 @@ item_tree (raw.declare exported mutable n e) = tree.declare exported mutable n.n
 item_tree (raw.act s) = tree.act (stmt_tree outside s)
 item_tree (raw.own o) = tree.own (option_map accept_tree o)
 item_tree (raw.deps list specs h) = tree.deps list specs (option_map handler_tree h)
+item_tree (raw.on n h) = tree.deps false (event_module n.name ∷ []) (Some (handler_tree h))
 item_tree (raw.dispose o) = tree.dispose (once_tree o)
 item_tree (raw.prune o) = tree.prune (once_tree o)
 item_tree raw.decline = tree.decline

@@ -3,9 +3,8 @@
 use hmr_types::{HandlerKind, Name, Sequence, Slot, Text};
 use module_tree::Once;
 
-/// Names and what they hold. For the evaluation of a module these are the locals of its imports, each
-/// with what the export of the linked instance held as the evaluation began; for the body of a handler
-/// these and the variables of its own module.
+/// Names and what they hold: the locals of a module's imports, each with what the export of the linked
+/// instance held as the evaluation of the module, or the run of one of its handlers, began.
 #[derive(Drop)]
 pub struct Env {
     pub vars: Sequence<(Name, Slot)>,
