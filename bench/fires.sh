@@ -18,7 +18,7 @@ if [ -z "$program" ]; then
   mkdir -p "$work/crates/fire_bench/src" "$work/crates/fire_bench/proofs/fires/fire_all"
   for name in hmr_types module_tree output_lines update_msgs module_semantics core_model client_model \
     module_language byte_lanes hot_lexer hot_grammar hot_printer hot_parser import_scan retained_data \
-    const_eval handler_table module_graph page_instances page_plan page_deeds hot_runtime play_script \
+    const_eval handler_table module_graph page_instances page_plan page_deeds plan_under_way hot_runtime play_script \
     play_text json_readings message_text message_json; do
     mkdir "$work/crates/$name"
     for part in src specs proofs; do

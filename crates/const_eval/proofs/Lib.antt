@@ -1,3 +1,5 @@
 mod Ranges
 mod Lookups
+mod Variables
+mod Names
 pub mod Rows

@@ -11,6 +11,9 @@ use Rattle.module_semantics.specs.Evaluation.{value_of}
 use Rattle.module_tree.specs.declared.tree.Op.{Op}
 use Rattle.hmr_types.specs.declared.value.Value.{Value}
 use Rattle.hmr_types.specs.declared.value.EvalFault.{EvalFault}
+use Rattle.const_eval.specs.Stops.{Gives}
+use Rattle.const_eval.specs.declared.stop.Stop.{Stop}
+use Rattle.const_eval.specs.declared.stop.Stop.TheVariants.{Fault, NoMemory}
 
 abbrev pub weight : ExprTree → ℕ
 weight (tree.num n) = 0
@@ -96,6 +99,11 @@ popped_below n old new x is b =
     let c : Below n (steps new ++ plain_step x ∷ []) = subst p (ap steps is ∙ steps_snoc new x) b in
     (below_front n (steps new) (plain_step x) c, below_last n (steps new) (plain_step x) c)
 
--- a fault ends the row
-pub ended : (s : Scope) (xs : List (Op × Bor Expr)) (r v : Result Value EvalFault) (e : EvalFault) → r ≡ Err e → run_row s (steps xs) r ≡ v → Err e ≡ v
-ended s xs r v e is h = sym (ap (run_row s (steps xs)) is ∙ row_err s (steps xs) e) ∙ h
+ended_row : (s : Scope) (xs : List (Op × Bor Expr)) (stop : Stop) (r v : Result Value EvalFault) → Gives {A = Value} (Err stop) r → run_row s (steps xs) r ≡ v → Gives {A = Value} (Err stop) v
+ended_row s xs (Fault fault) r v is h = sym h ∙ ap (run_row s (steps xs)) is ∙ row_err s (steps xs) fault
+ended_row s xs NoMemory r v is h = tt
+
+-- what ends an operand early ends the row
+pub ended : (s : Scope) (xs : List (Op × Bor Expr)) (answer : Result Value Stop) (stop : Stop) (r v : Result Value EvalFault) → answer ≡ Err stop → Gives {A = Value} (Err stop) r
+    → run_row s (steps xs) r ≡ v → Gives answer v
+ended s xs answer stop r v same is h = rw same (ended_row s xs stop r v is h)

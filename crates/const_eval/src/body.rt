@@ -4,11 +4,14 @@ ghost use Rattle.module_tree.specs.Tree.{handler_of};
 ghost use Rattle.module_semantics.specs.Bodies.{body_run};
 ghost use Rattle.const_eval.specs.Answers.{ran_seen};
 
+use crate::mentions::mentions;
+use crate::slots::Slots;
 use crate::state::{Context, opening};
 use crate::statements::run_stmts;
+use crate::stop::fault_of;
 use hmr_types::{EvalFault, Name, Sequence, Slot, Text, Value};
 use module_semantics::{Env, ModParam};
-use module_tree::HandlerCode;
+use module_tree::{HandlerCode, Stmt};
 use retained_data::Bag;
 use std::alloc::{AllocError, Global};
 
@@ -24,27 +27,31 @@ pub struct Ran {
     pub bag: Bag,
 }
 
-/// Runs the body of a callback, where names hold what `env` says, with these modules as its parameters
-/// and this bag. A parameter past their end is `undefined`. Only want of memory refuses; the bag is then
-/// gone. It takes time in proportion to the body, to the look-ups of names in it and to one copy of
-/// `env`.
+/// Runs the body of a callback, where the variables of its own module hold what `own` says and the locals of
+/// its imports what `imports` says, with these modules as its parameters and this bag. A name of `own` stands
+/// before the same name of `imports`. A parameter past the end of `mods` is `undefined`. Only want of memory
+/// refuses; the bag is then gone. No variable is copied but for a value that the body reads or assigns. It
+/// takes time in proportion to the body and to both lists, but for the logarithm of the number of names.
 pub fn run_body(
     alloc: Global,
     code: &HandlerCode,
-    env: &Env,
+    own: &[(Name, Slot)],
+    imports: &Env,
     mods: &[ModParam],
     bag: Bag,
 ) -> Result<Ran, AllocError>
-    ensures { IfOk result (λ r. ran_seen r ≡ body_run (handler_of code.now) env.now.vars mods.now bag) }
+    ensures { IfOk result (λ r. ran_seen r ≡ body_run (handler_of code.now) (own.now ++ imports.now.vars) mods.now bag) }
 {
-    let imports: Vec<(Name, Slot)> = Vec::new(alloc);
+    let none: Vec<(Name, Slot)> = Vec::new(alloc);
+    let no_imports = Slots::walked(&none, &none);
+    let vars = variables_for(alloc, &code.body, own, imports)?;
     let context = Context {
-        imports: &imports,
+        vars: &vars,
+        imports: &no_imports,
         mods,
     };
-    let vars = env.vars.clone()?.into_vec();
-    let mut state = opening(alloc, vars, bag);
-    let fault = run_stmts(alloc, &code.body, &context, &mut state)?;
+    let mut state = opening(alloc, bag);
+    let fault = fault_of(run_stmts(alloc, &code.body, &context, &mut state))?;
     Ok(Ran {
         fault,
         lines: Sequence::from_vec(state.lines),
@@ -52,4 +59,23 @@ pub fn run_body(
         invalidations: Sequence::from_vec(state.invalidations),
         bag: state.bag,
     })
+}
+
+/// So many names are looked up sooner by walks than an index is made.
+const FEW_NAMES: u64 = 16;
+
+/// The variables of a body, found by an index where it mentions many names.
+fn variables_for<'a>(
+    alloc: Global,
+    body: &[Stmt],
+    own: &'a [(Name, Slot)],
+    imports: &'a Env,
+) -> Result<Slots<'a>, AllocError>
+    ensures { IfOk result (λ slots. slots ≡ own.now ++ imports.now.vars) }
+{
+    if mentions(body) <= FEW_NAMES {
+        Ok(Slots::walked(own, imports.vars.as_slice()))
+    } else {
+        Slots::indexed(alloc, own, imports.vars.as_slice())
+    }
 }

@@ -2,27 +2,25 @@
 // deep as the row is long: its left sides are walked down by a loop that keeps the operators and the
 // right sides, and these are then worked off from the innermost. What else stands inside an expression
 // is at most as deep as the module language allows, and is evaluated by recursion.
-ghost use Rattle.std.specs.Prelude.{◌≡◌, IfOk, map};
+ghost use Rattle.std.specs.Prelude.{map};
 ghost use Rattle.module_tree.specs.Tree.{expr_of};
 ghost use Rattle.module_semantics.specs.Evaluation.{value_of, values_of};
 ghost use Rattle.module_semantics.specs.Values.{with_right};
-ghost use Rattle.const_eval.specs.Reads.{scope_of, on_ok};
+ghost use Rattle.const_eval.specs.Reads.{scope_of};
+ghost use Rattle.const_eval.specs.Stops.{Gives};
 
 use crate::scope::{Scope, read_bag, read_member, read_name};
+use crate::stop::Stop;
 use crate::values::{literal, negate, text, truth, with_op};
-use hmr_types::{EvalFault, Value};
+use hmr_types::{Sequence, Value};
 use module_tree::{Expr, Op};
-use std::alloc::{AllocError, Global};
+use std::alloc::Global;
 
 /// The value of an expression, or its fault. It takes time in proportion to the expression and to the
 /// look-ups of names in it.
 #[cycle(eval)]
-pub fn eval_expr(
-    alloc: Global,
-    e: &Expr,
-    scope: &Scope,
-) -> Result<Result<Value, EvalFault>, AllocError>
-    ensures { IfOk result (λ r. r ≡ value_of (scope_of scope.now) (expr_of e.now)) }
+pub fn eval_expr(alloc: Global, e: &Expr, scope: &Scope) -> Result<Value, Stop>
+    ensures { Gives result (value_of (scope_of scope.now) (expr_of e.now)) }
 {
     let mut row: Vec<(Op, &Expr)> = Vec::new(alloc);
     let mut first = e;
@@ -30,53 +28,37 @@ pub fn eval_expr(
         row.push((*op, b))?;
         first = a;
     }
-    let mut value = match eval_first(alloc, first, scope)? {
-        Ok(value) => value,
-        Err(fault) => return Ok(Err(fault)),
-    };
+    let mut value = eval_first(alloc, first, scope)?;
     while let Some((op, right)) = row.pop() {
-        match eval_right(alloc, op, value, right, scope)? {
-            Ok(next) => value = next,
-            Err(fault) => return Ok(Err(fault)),
-        }
+        value = eval_right(alloc, op, value, right, scope)?;
     }
-    Ok(Ok(value))
+    Ok(value)
 }
 
 /// The first operand of a row.
 #[cycle(eval)]
-fn eval_first(
-    alloc: Global,
-    e: &Expr,
-    scope: &Scope,
-) -> Result<Result<Value, EvalFault>, AllocError>
-    ensures { IfOk result (λ r. r ≡ value_of (scope_of scope.now) (expr_of e.now)) }
+fn eval_first(alloc: Global, e: &Expr, scope: &Scope) -> Result<Value, Stop>
+    ensures { Gives result (value_of (scope_of scope.now) (expr_of e.now)) }
 {
     match e {
-        Expr::Num(n) => Ok(literal(*n)),
-        Expr::Text(t) => Ok(text(t.clone()?)),
-        Expr::Undefined => Ok(Ok(Value::Undef)),
+        Expr::Num(n) => Ok(literal(*n)?),
+        Expr::Text(t) => Ok(text(t.clone()?)?),
+        Expr::Undefined => Ok(Value::Undef),
         Expr::Name(name) => read_name(scope, name),
-        Expr::Bag(key) => Ok(Ok(read_bag(scope, key)?)),
+        Expr::Bag(key) => Ok(read_bag(scope, key)?),
         Expr::Member { param, safe, name } => read_member(scope, *param, *safe, name),
-        Expr::Neg(a) => match eval_expr(alloc, a, scope)? {
-            Ok(value) => Ok(negate(&value)),
-            Err(fault) => Ok(Err(fault)),
-        },
-        Expr::Binary(op, a, b) => match eval_expr(alloc, a, scope)? {
-            Ok(value) => eval_right(alloc, *op, value, b, scope),
-            Err(fault) => Ok(Err(fault)),
-        },
-        Expr::Choose(c, a, b) => match eval_expr(alloc, c, scope)? {
-            Ok(value) => {
-                if truth(&value) {
-                    eval_expr(alloc, a, scope)
-                } else {
-                    eval_expr(alloc, b, scope)
-                }
+        Expr::Neg(a) => Ok(negate(&eval_expr(alloc, a, scope)?)?),
+        Expr::Binary(op, a, b) => {
+            let left = eval_expr(alloc, a, scope)?;
+            eval_right(alloc, *op, left, b, scope)
+        }
+        Expr::Choose(c, a, b) => {
+            if truth(&eval_expr(alloc, c, scope)?) {
+                eval_expr(alloc, a, scope)
+            } else {
+                eval_expr(alloc, b, scope)
             }
-            Err(fault) => Ok(Err(fault)),
-        },
+        }
     }
 }
 
@@ -89,32 +71,23 @@ fn eval_right(
     left: Value,
     right: &Expr,
     scope: &Scope,
-) -> Result<Result<Value, EvalFault>, AllocError>
-    ensures { IfOk result (λ r. r ≡ with_right op left (value_of (scope_of scope.now) (expr_of right.now))) }
+) -> Result<Value, Stop>
+    ensures { Gives result (with_right op left (value_of (scope_of scope.now) (expr_of right.now))) }
 {
     if op == Op::Null && !matches!(&left, Value::Undef) {
-        return Ok(Ok(left));
+        return Ok(left);
     }
-    match eval_expr(alloc, right, scope)? {
-        Ok(value) => with_op(alloc, op, &left, value),
-        Err(fault) => Ok(Err(fault)),
-    }
+    let right = eval_expr(alloc, right, scope)?;
+    with_op(alloc, op, &left, right)
 }
 
 /// The values of expressions, in order, or the first fault.
-pub fn eval_all(
-    alloc: Global,
-    es: &[Expr],
-    scope: &Scope,
-) -> Result<Result<Vec<Value>, EvalFault>, AllocError>
-    ensures { IfOk result (λ r. on_ok (λ v. v.items) r ≡ values_of (scope_of scope.now) (map expr_of es.now)) }
+pub fn eval_all(alloc: Global, es: &[Expr], scope: &Scope) -> Result<Sequence<Value>, Stop>
+    ensures { Gives result (values_of (scope_of scope.now) (map expr_of es.now)) }
 {
     let mut values = Vec::new(alloc);
     for e in es {
-        match eval_expr(alloc, e, scope)? {
-            Ok(value) => values.push(value)?,
-            Err(fault) => return Ok(Err(fault)),
-        }
+        values.push(eval_expr(alloc, e, scope)?)?;
     }
-    Ok(Ok(values))
+    Ok(Sequence::from_vec(values))
 }

@@ -1,7 +1,9 @@
 // What the operators make of values. A result that doesn't fit is a fault and never wraps.
 ghost use Rattle.std.specs.Prelude.{◌≡◌, ◌++◌, IfOk, OnOk, pos, ◌+ℤ◌, ◌-ℤ◌, ◌*ℤ◌, neg_ℤ, string_bytes};
 ghost use Rattle.module_semantics.specs.Values.{number, text, in_range, written, added, subtracted, multiplied, negated, truth, with_op};
+ghost use Rattle.const_eval.specs.Stops.{Gives};
 
+use crate::stop::Stop;
 use hmr_types::limits::{LARGEST_NUMBER, VALUE_BYTES};
 use hmr_types::{EvalFault, Text, Value};
 use module_tree::Op;
@@ -117,22 +119,22 @@ pub fn text_of(alloc: Global, value: &Value) -> Result<Text, AllocError>
     Ok(Text::from_string(out))
 }
 
-fn joined(alloc: Global, a: &Value, b: &Value) -> Result<Result<Value, EvalFault>, AllocError>
-    ensures { IfOk result (λ r. r ≡ text (written a.now ++ written b.now)) }
+fn joined(alloc: Global, a: &Value, b: &Value) -> Result<Value, Stop>
+    ensures { Gives result (text (written a.now ++ written b.now)) }
 {
     let mut out = String::new(alloc);
     put_value(&mut out, a)?;
     put_value(&mut out, b)?;
-    Ok(text(Text::from_string(out)))
+    Ok(text(Text::from_string(out))?)
 }
 
-fn add(alloc: Global, a: &Value, b: &Value) -> Result<Result<Value, EvalFault>, AllocError>
-    ensures { IfOk result (λ r. r ≡ added a.now b.now) }
+fn add(alloc: Global, a: &Value, b: &Value) -> Result<Value, Stop>
+    ensures { Gives result (added a.now b.now) }
 {
     match (a, b) {
-        (Value::Num(m), Value::Num(n)) => Ok(sum(*m, *n)),
+        (Value::Num(m), Value::Num(n)) => Ok(sum(*m, *n)?),
         (Value::Str(_), _) | (_, Value::Str(_)) => joined(alloc, a, b),
-        _ => Ok(Err(EvalFault::NotNumber)),
+        _ => Err(Stop::Fault(EvalFault::NotNumber)),
     }
 }
 
@@ -176,18 +178,13 @@ pub fn truth(a: &Value) -> bool
 }
 
 /// An operator between two values; of `??` this is the right one.
-pub fn with_op(
-    alloc: Global,
-    op: Op,
-    a: &Value,
-    b: Value,
-) -> Result<Result<Value, EvalFault>, AllocError>
-    ensures { IfOk result (λ r. r ≡ with_op op a.now b) }
+pub fn with_op(alloc: Global, op: Op, a: &Value, b: Value) -> Result<Value, Stop>
+    ensures { Gives result (with_op op a.now b) }
 {
     match op {
-        Op::Null => Ok(Ok(b)),
+        Op::Null => Ok(b),
         Op::Add => add(alloc, a, &b),
-        Op::Sub => Ok(subtract(a, &b)),
-        Op::Mul => Ok(multiply(a, &b)),
+        Op::Sub => Ok(subtract(a, &b)?),
+        Op::Mul => Ok(multiply(a, &b)?),
     }
 }

@@ -1,10 +1,11 @@
 // Handlers that run at most once: code of a module, or a closure of the embedding program.
-ghost use Rattle.std.specs.Prelude.{◌≡◌, IfOk};
+ghost use Rattle.std.specs.Prelude.{◌≡◌, ◌++◌, IfOk};
 ghost use Rattle.const_eval.specs.Answers.{ran_seen};
 ghost use Rattle.handler_table.specs.Handler.{KeepsItsWord, spent};
 
 use crate::held::Held;
 use const_eval::{Ran, run_body};
+use hmr_types::{Name, Slot};
 use module_semantics::{Env, ModParam};
 use module_tree::HandlerCode;
 use retained_data::Bag;
@@ -19,21 +20,22 @@ pub enum Handler<F> {
 }
 
 impl<F: FnOnce(Bag) -> Result<Ran, AllocError> + Drop> Handler<F> {
-    /// Runs the handler: code as `run_body` does, a closure on the bag alone. Only want of memory
-    /// refuses; handler and bag are then gone.
+    /// Runs the handler: code as `run_body` does, over the variables of its own module and the locals of its
+    /// imports, a closure on the bag alone. Only want of memory refuses; handler and bag are then gone.
     pub fn spend(
         self,
         alloc: Global,
-        env: &Env,
+        own: &[(Name, Slot)],
+        imports: &Env,
         mods: &[ModParam],
         bag: Bag,
     ) -> Result<Ran, AllocError>
         requires callable { (f : F) → F.IsAlwaysCallable f }
         requires word { KeepsItsWord F.post self }
-        ensures { IfOk result (λ ran. ran_seen ran ≡ spent self env.now.vars mods.now bag) }
+        ensures { IfOk result (λ ran. ran_seen ran ≡ spent self (own.now ++ imports.now.vars) mods.now bag) }
     {
         match self {
-            Handler::Code(code) => run_body(alloc, &code, env, mods, bag),
+            Handler::Code(code) => run_body(alloc, &code, own, imports, mods, bag),
             Handler::Host(held) => held.spend(bag),
         }
     }

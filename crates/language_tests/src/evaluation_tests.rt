@@ -175,10 +175,11 @@ fn module_told(alloc: Global, module: &Module, bag: Bag) -> Result<String, Alloc
 /// What the run of a body tells, where no name stands for anything.
 fn body_told(alloc: Global, code: &HandlerCode, bag: Bag) -> Result<String, AllocError> {
     let mods: Vec<ModParam> = Vec::new(alloc);
-    let env = Env {
+    let own: Vec<(Name, Slot)> = Vec::new(alloc);
+    let imports = Env {
         vars: Sequence::new(alloc),
     };
-    let ran = run_body(alloc, code, &env, &mods, bag)?;
+    let ran = run_body(alloc, code, &own, &imports, &mods, bag)?;
     told(alloc, &ran.fault, &[], ran.lines.as_slice())
 }
 

@@ -28,6 +28,8 @@ const ROWS: &str = "\
 4 items=let a = 0; let b = 0; if (import.meta.hot) { a = 1; b = 2 }
 1 items=import.meta.hot.accept(['./a.js'], ([m]) => { })
 1:36 Unexpected=import.meta.hot.accept(['./a.js'], m => { })
+2 items=import.meta.hot.on('my:ping', e => on = e.x); export let on = 2
+1:20 Unexpected=import.meta.hot.on(['a'], () => { })
 1 items=throw new Error('x')
 1 items=throw new
 1:9 Unexpected=a = (1 -
@@ -44,6 +46,6 @@ fn texts_are_read_up_to_their_first_fault(rt: HostRuntime) -> Result<(), Fail> {
             rows = rows.wrapping_add(1);
         }
     }
-    assert_eq!(rt; rows, 12);
+    assert_eq!(rt; rows, 14);
     Ok(())
 }

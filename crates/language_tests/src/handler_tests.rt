@@ -10,7 +10,7 @@ use const_eval::Ran;
 use handler_table::{
     Handler, Handlers, Held, Shelf, host_run, shelves_keep_their_word, tables_keep_their_word,
 };
-use hmr_types::{ModName, Name, Sequence, Text, Value};
+use hmr_types::{ModName, Name, Sequence, Slot, Text, Value};
 use module_semantics::{Env, ModParam};
 use module_tree::{Expr, HandlerCode, Stmt};
 use retained_data::Bag;
@@ -59,11 +59,12 @@ fn tell<F: FnOnce(Bag) -> Result<Ran, AllocError> + Drop>(
     let Some(handler) = handler else {
         return out.push_str("none; ");
     };
-    let env = Env {
+    let own: Vec<(Name, Slot)> = Vec::new(alloc);
+    let imports = Env {
         vars: Sequence::new(alloc),
     };
     let mods: Vec<ModParam> = Vec::new(alloc);
-    let ran = handler.spend(alloc, &env, &mods, Bag::new(alloc))?;
+    let ran = handler.spend(alloc, &own, &imports, &mods, Bag::new(alloc))?;
     tell_ran(alloc, &ran, out)
 }
 

@@ -111,6 +111,24 @@ ok=import { if as a, from, as as b } from 's'; const host = 1; const console = h
 1:1 unexpected=a.b = 1
 1:34 unexpected=import.meta.hot.dispose((d) => { import.meta.hot.invalidate() })
 1:45 unexpected=import.meta.hot.accept((m) => { console.log(m) })
+ok=import.meta.hot.on('ping', (e) => { console.log('got', e.data) })
+ok=import.meta.hot.on(\"my:ping-2.x:A_b\", e => { if (e) { import.meta.hot.invalidate() } })
+ok=if (import.meta.hot) { import.meta.hot.on('a', () => {}) } export const on = 1; const c = on
+1:20 unexpected=import.meta.hot.on('', () => {})
+1:20 unexpected=import.meta.hot.on('my:', () => {})
+1:20 unexpected=import.meta.hot.on('my:..', () => {})
+1:20 unexpected=import.meta.hot.on('my/ping', () => {})
+1:20 unexpected=import.meta.hot.on('my ping', () => {})
+1:20 unexpected=import.meta.hot.on(['a'], () => {})
+1:23 unexpected=import.meta.hot.on('a')
+1:24 unexpected=import.meta.hot.on('a',)
+1:20 unexpected=import.meta.hot.on(() => {})
+1:29 unexpected=import.meta.hot.on('a', host('L'))
+1:26 unexpected=import.meta.hot.on('a', ([m]) => {})
+1:46 unexpected=import.meta.hot.on('a', (m) => { console.log(m) })
+1:34 unexpected=import.meta.hot.on('a', (m) => { m.x = 1 })
+1:20 duplicate-name=const a = 1; const a = 2; import.meta.hot.on('', () => {})
+1:20 unexpected=import.meta.hot.on('', (m) => { b = m }); b = 1
 1:1 not-assignable=a = 1
 1:14 not-assignable=const a = 1; a = 2
 1:51 duplicate-name=import.meta.hot.accept(['./a.js', './b.js'], ([m, m]) => {})
@@ -137,7 +155,7 @@ fn texts_are_parsed_as_the_rows_say(rt: HostRuntime) -> Result<(), Fail> {
             rows = rows.wrapping_add(1);
         }
     }
-    assert_eq!(rt; rows, 77);
+    assert_eq!(rt; rows, 95);
     assert_eq!(rt; told(alloc, b"a = \"\xff")?.as_str(), "1:6 not-utf8");
     Ok(())
 }
@@ -213,6 +231,55 @@ fn spellings_of_a_module_print_alike(rt: HostRuntime) -> Result<(), Fail> {
         rows = rows.wrapping_add(1);
     }
     assert_eq!(rt; rows, 10);
+    Ok(())
+}
+
+/// Texts, each with its canonical text behind `|`, where `~` stands for LF.
+const EVENTS: &str = "\
+import.meta.hot.on('my:ping', e => { })|import.meta.hot.on(\"my:ping\", (e) => {~});~
+import.meta.hot.accept('/event/my/ping', (e) => { })|import.meta.hot.on(\"my:ping\", (e) => {~});~
+import.meta.hot.accept('/event/a', () => { })|import.meta.hot.on(\"a\", () => {~});~
+import.meta.hot.accept('/event/my:ping', () => { })|import.meta.hot.accept(\"/event/my:ping\", () => {~});~
+import.meta.hot.accept('/event/', () => { })|import.meta.hot.accept(\"/event/\", () => {~});~
+import.meta.hot.accept('/event/./a', () => { })|import.meta.hot.accept(\"/event/./a\", () => {~});~
+import.meta.hot.accept('./event/a', () => { })|import.meta.hot.accept(\"./event/a\", () => {~});~
+import.meta.hot.accept(['/event/a'], () => { })|import.meta.hot.accept([\"/event/a\"], () => {~});~
+import.meta.hot.accept('/event/a')|import.meta.hot.accept(\"/event/a\");~
+";
+
+#[test]
+fn an_event_and_its_module_print_alike(rt: HostRuntime) -> Result<(), Fail> {
+    let alloc = rt.alloc();
+    let mut rows: u32 = 0;
+    for row in EVENTS.lines() {
+        if let Some((text, want)) = row.split_once('|') {
+            let want = text_of(alloc, want)?;
+            let is = printed(alloc, text.as_bytes())?;
+            assert!(rt; is.as_slice() == want.as_bytes());
+            rows = rows.wrapping_add(1);
+        }
+    }
+    assert_eq!(rt; rows, 9);
+    Ok(())
+}
+
+/// A callback of an event whose name has so many bytes.
+fn listener(alloc: Global, bytes: usize) -> Result<String, AllocError> {
+    let name = "a".repeat(alloc, bytes)?;
+    format!(in alloc; "import.meta.hot.on('{name}', () => {{ }})")
+}
+
+#[test]
+fn the_name_of_an_event_has_64_bytes_at_most(rt: HostRuntime) -> Result<(), Fail> {
+    let alloc = rt.alloc();
+    assert_eq!(rt;
+        told(alloc, listener(alloc, 64)?.as_bytes())?.as_str(),
+        "ok"
+    );
+    assert_eq!(rt;
+        told(alloc, listener(alloc, 65)?.as_bytes())?.as_str(),
+        "1:20 unexpected"
+    );
     Ok(())
 }
 

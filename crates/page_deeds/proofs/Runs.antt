@@ -65,6 +65,11 @@ module _ {F : Type 0} where
       ∙ ap (λ vs. i.values ++ vs) (ap (λ links. bound_slots p.instances.items links c.bindings) (sym v.links) ∙ bounds_seen r p s i.links c.bindings
       ∙ ap (map (λ b. (b.local, export_by (at i.links b.dependency) r.instances b.exported))) (sym v.bindings))
 
+  -- what code is given is its scope: the variables of its own module as they were, and its imports
+  pub scope_given : (instances : List (Instance F)) (c now : Instance F) (own imports : Slots) → own ≡ now.values.items → now.values ≡ c.values
+      → imports ≡ bound_slots instances c.links c.bindings → own ++ imports ≡ scope_in instances c
+  scope_given instances c now own imports given kept bound = ap (λ vs. vs ++ imports) (given ∙ ap (λ vs. vs.items) kept) ∙ ap (λ vs. c.values.items ++ vs) bound
+
   -- the run of a handler that was held is that of its deed
   deed_seen : (h : Handler F) (scope : Slots) (arguments : List (Option Slots)) (bag : Bag) → ran_as (spent h scope (map argument_of arguments) bag) ≡ run_deed module_language (deed_in h) scope arguments bag
   deed_seen (Code code) scope arguments bag = refl

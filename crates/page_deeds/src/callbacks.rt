@@ -15,7 +15,7 @@ use const_eval::{Ran, run_body};
 use handler_table::Dep;
 use hmr_types::ModName;
 use output_lines::{FaultPlace, OutLine};
-use page_instances::scope_in;
+use page_instances::{Instance, imports_in};
 use retained_data::Bag;
 use std::alloc::{AllocError, Global};
 
@@ -34,10 +34,18 @@ impl<F> Page<F> {
         requires turn { turn < length (deps_at self.now place) }
         ensures { slice_get (deps_at self.now place) turn ≡ Some result.now }
     {
-        match self.instances[place].held.dep(turn) {
-            Some(dep) => dep,
-            None => unreachable!(),
-        }
+        dep_of(&self.instances[place], turn)
+    }
+}
+
+/// The callback on dependencies that an instance holds for this turn.
+fn dep_of<F>(instance: &Instance<F>, turn: usize) -> &Dep
+    requires { turn < length instance.now.held.deps }
+    ensures { slice_get instance.now.held.deps turn ≡ Some result.now }
+{
+    match instance.held.dep(turn) {
+        Some(dep) => dep,
+        None => unreachable!(),
     }
 }
 
@@ -62,11 +70,14 @@ impl<F: FnOnce(Bag) -> Result<Ran, AllocError> + Drop> Page<F> {
         ensures runs { OnOk result (Begins (run_listing name.now given.now turn place)
             (run_listing name.now given.now (suc turn) place) self.old self.new lines.old.items lines.new.items) }
     {
-        let env = scope_in(alloc, &self.instances, &self.instances[place])?;
+        let imports = imports_in(alloc, &self.instances, &self.instances[place])?;
         let deps = self.callback(place, turn).deps.as_slice();
         let mods = self.arguments_given(alloc, name, given, deps)?;
         let bag = self.bags.take(alloc, &self.instances[place].name);
-        let ran = run_body(alloc, &self.callback(place, turn).code, &env, &mods, bag)?;
+        let instance = &self.instances[place];
+        let code = &dep_of(instance, turn).code;
+        let own = instance.values.as_slice();
+        let ran = run_body(alloc, code, own, &imports, &mods, bag)?;
         self.settle(place, FaultPlace::Dep, ran, lines)?;
         Ok(())
     }

@@ -13,7 +13,7 @@ use const_eval::Ran;
 use hmr_types::ModName;
 use module_semantics::ModParam;
 use output_lines::{FaultPlace, OutLine};
-use page_instances::{exports_in, scope_in};
+use page_instances::{exports_in, imports_in};
 use retained_data::Bag;
 use std::alloc::{AllocError, Global};
 
@@ -61,14 +61,15 @@ impl<F: FnOnce(Bag) -> Result<Ran, AllocError> + Drop> Page<F> {
             → Follows (run_own module_language (Some (suc place)) name.now) self.new z lines.new.items tells
             → Follows (run_own module_language (Some (suc place)) name.now) self.old z lines.old.items tells) }
     {
-        let env = scope_in(alloc, &self.instances, &self.instances[place])?;
+        let imports = imports_in(alloc, &self.instances, &self.instances[place])?;
         let mods = self.own_arguments(alloc, name)?;
         let handler = match self.instances[place].take_own() {
             Some(handler) => handler,
             None => return Ok(false),
         };
         let bag = self.bags.take(alloc, &self.instances[place].name);
-        let ran = handler.spend(alloc, &env, &mods, bag)?;
+        let own = self.instances[place].values.as_slice();
+        let ran = handler.spend(alloc, own, &imports, &mods, bag)?;
         self.settle(place, FaultPlace::Own, ran, lines)?;
         Ok(true)
     }

@@ -1,5 +1,5 @@
 // The page is loaded anew: each live instance ends, and no handler of it is run. All data is given up.
-ghost use Rattle.std.specs.Prelude.{◌≡◌, ◌<◌, suc, None, length, OnOk};
+ghost use Rattle.std.specs.Prelude.{◌≡◌, ◌<◌, suc, None, length, OnErr, OnOk};
 ghost use Rattle.std.specs.List.{All};
 ghost use Rattle.core_model.specs.Names.{Name};
 ghost use Rattle.client_model.specs.Applying.{reload_all, reload_instance};
@@ -50,6 +50,7 @@ impl<F: FnOnce(Bag) -> Result<Ran, AllocError> + Drop> Page<F> {
         ensures gone { (r : Runtime) → StandsFor r self.old → (n : Name)
             → OnOk result (number_of self.new.live n ≡ None) }
         ensures follows { (lines : _) → OnOk result (Follows reload_all self.old self.new lines lines) }
+        ensures unchanged { OnErr result (self.new ≡ self.old) }
     {
         let whose = Whose::All;
         let places = self.falling_places(alloc, &whose)?;

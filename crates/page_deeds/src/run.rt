@@ -11,7 +11,7 @@ use crate::page::Page;
 use const_eval::Ran;
 use module_semantics::ModParam;
 use output_lines::{FaultPlace, OutLine};
-use page_instances::scope_in;
+use page_instances::imports_in;
 use retained_data::Bag;
 use std::alloc::{AllocError, Global};
 
@@ -32,14 +32,15 @@ impl<F: FnOnce(Bag) -> Result<Ran, AllocError> + Drop> Page<F> {
         ensures follows { OnOk result (Follows (run_each module_language Dispose no_arguments disposes (suc place))
             self.old self.new lines.old.items lines.new.items) }
     {
-        let env = scope_in(alloc, &self.instances, &self.instances[place])?;
+        let imports = imports_in(alloc, &self.instances, &self.instances[place])?;
         let mods: Vec<ModParam> = Vec::new(alloc);
         let handler = match self.instances[place].take_disposer() {
             Some(handler) => handler,
             None => return Ok(()),
         };
         let bag = self.bags.take(alloc, &self.instances[place].name);
-        let ran = handler.spend(alloc, &env, &mods, bag)?;
+        let own = self.instances[place].values.as_slice();
+        let ran = handler.spend(alloc, own, &imports, &mods, bag)?;
         self.settle(place, FaultPlace::Dispose, ran, lines)?;
         Ok(())
     }
@@ -60,14 +61,15 @@ impl<F: FnOnce(Bag) -> Result<Ran, AllocError> + Drop> Page<F> {
         ensures follows { OnOk result (Follows (run_each module_language Prune no_arguments prunes (suc place))
             self.old self.new lines.old.items lines.new.items) }
     {
-        let env = scope_in(alloc, &self.instances, &self.instances[place])?;
+        let imports = imports_in(alloc, &self.instances, &self.instances[place])?;
         let mods: Vec<ModParam> = Vec::new(alloc);
         let handler = match self.instances[place].take_prune() {
             Some(handler) => handler,
             None => return Ok(()),
         };
         let bag = self.bags.take(alloc, &self.instances[place].name);
-        let ran = handler.spend(alloc, &env, &mods, bag)?;
+        let own = self.instances[place].values.as_slice();
+        let ran = handler.spend(alloc, own, &imports, &mods, bag)?;
         self.settle(place, FaultPlace::Prune, ran, lines)?;
         Ok(())
     }

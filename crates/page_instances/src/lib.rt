@@ -18,6 +18,6 @@ mod values;
 pub use instance::{Bound, Instance};
 pub use marks::Mark;
 pub use module::exports_in;
-pub use scope::{instance_at, scope_in, slots_bound};
+pub use scope::{imports_in, instance_at, slots_bound};
 pub use showing::{tell_fate, tell_values};
 pub use values::assign_all;

@@ -1,12 +1,12 @@
-// What the code of an instance reads: its own variables, and behind them its imports, each with what the
-// export holds now of the instance that the import is linked to.
+// What the code of an instance reads beside its own variables: its imports, each with what the export holds
+// now of the instance that the import is linked to.
 ghost use Rattle.std.specs.Prelude.{◌≡◌, ◌++◌, IfOk, OnOk};
 ghost use Rattle.std.specs.Option.{option_map};
 ghost use Rattle.core_model.specs.Names.{at};
-ghost use Rattle.page_instances.specs.Scopes.{kept_at, slot_by, bound_slots, scope_in};
+ghost use Rattle.page_instances.specs.Scopes.{kept_at, slot_by, bound_slots};
 
 use crate::instance::{Bound, Instance};
-use crate::values::{copy_of, slot_at};
+use crate::values::slot_at;
 use hmr_types::{ModName, Name, Sequence, Slot};
 use module_semantics::Env;
 use std::alloc::{AllocError, Global};
@@ -88,20 +88,18 @@ pub fn slots_bound<F>(
     })
 }
 
-/// What the code of an instance reads. Only want of memory refuses. It takes time in proportion to its
-/// variables and to the look-ups of its imports.
-pub fn scope_in<F>(
+/// The local names of the imports of an instance, each with what its export holds now: what its code reads
+/// beside its own variables. Only want of memory refuses. It takes time in proportion to the look-ups of the
+/// imports.
+pub fn imports_in<F>(
     alloc: Global,
     instances: &[Instance<F>],
     instance: &Instance<F>,
 ) -> Result<Env, AllocError>
-    ensures { IfOk result (λ env. env.vars ≡ scope_in instances.now instance.now) }
+    ensures { IfOk result (λ env. env.vars ≡ bound_slots instances.now instance.now.links instance.now.bindings) }
 {
-    let mut vars = copy_of(alloc, &instance.values)?;
     let links = instance.links.as_slice();
     let bindings = instance.bindings.as_slice();
-    add_bound(&mut vars, instances, links, bindings)?;
-    Ok(Env {
-        vars: Sequence::from_vec(vars),
-    })
+    let env = slots_bound(alloc, instances, links, bindings)?;
+    Ok(env)
 }

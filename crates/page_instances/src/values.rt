@@ -18,17 +18,6 @@ pub fn slot_at(slots: &[(Name, Slot)], name: &Name) -> Result<Slot, AllocError>
     Ok(Slot::Unset)
 }
 
-/// Equal variables.
-pub fn copy_of(alloc: Global, slots: &[(Name, Slot)]) -> Result<Vec<(Name, Slot)>, AllocError>
-    ensures { IfOk result (λ copy. copy.items ≡ slots.now) }
-{
-    let mut copy = Vec::new(alloc);
-    for row in slots {
-        copy.push((row.0.clone()?, row.1.clone()?))?;
-    }
-    Ok(copy)
-}
-
 /// One variable gets a value.
 fn assign(values: &mut Vec<(Name, Slot)>, name: &Name, value: &Value) -> Result<(), AllocError>
     ensures { OnOk result (values.new.items ≡ assigned values.old.items (name.now, value.now)) }

@@ -7,4 +7,4 @@ use Rattle.const_eval.proofs.module.eval_items.Given as goal
 -- what is left, from here, ends as all of it from the beginning
 abbrev pub invariant-loop-item : goal.invariant-loop-item
 invariant-loop-item l =
-    items_run (context_of l.context) (map item_of (drop l.item-index l.items)) (state_of l.state) ≡ items_run (context_of l.context) (map item_of l.items) (state_of l.initial.state)
+    items_run (context_of l.context) (map item_of (drop l.item-index l.items)) (state_of l.context l.state) ≡ items_run (context_of l.context) (map item_of l.items) (state_of l.context l.initial.state)

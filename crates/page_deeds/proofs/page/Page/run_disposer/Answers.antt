@@ -1,4 +1,4 @@
-use Rattle.std.proofs.Common.{◌≡◌, refl, ◌∙◌, sym, ap, length, rules, [], map, None, Some}
+use Rattle.std.proofs.Common.{◌≡◌, refl, ◌∙◌, ◌++◌, sym, ap, length, rules, [], map, None, Some}
 use Rattle.std.specs.Vec.{with_item}
 use Rattle.std.specs.Prelude.{slice_set, slice_get}
 use Rattle.std.proofs.Math.Path.{subst}
@@ -7,7 +7,7 @@ use Rattle.output_lines.specs.declared.words.FaultPlace.TheVariants.{Dispose}
 use Rattle.client_model.specs.Instance.{disposes, places_from}
 use Rattle.client_model.specs.Running.{no_arguments, run_each}
 use Rattle.module_language.specs.ModuleLanguage.{module_language}
-use Rattle.page_instances.specs.Scopes.{scope_in}
+use Rattle.page_instances.specs.Scopes.{bound_slots}
 use Rattle.page_instances.specs.Seeing.{deed_in, listed}
 use Rattle.page_instances.proofs.Places.{no_place}
 use Rattle.page_deeds.specs.Settling.{left_by}
@@ -17,7 +17,7 @@ use Rattle.client_model.specs.Runtime as runtime
 use Rattle.page_deeds.proofs.Words.{word_at, words_set, words_settled}
 use Rattle.page_deeds.proofs.Matching.{set_same, set_self}
 use Rattle.page_deeds.proofs.Following.{follows_as}
-use Rattle.page_deeds.proofs.Runs.{runs, runs_each, none_follow, run_follows, right_run, turn_of}
+use Rattle.page_deeds.proofs.Runs.{runs, runs_each, none_follow, run_follows, right_run, scope_given, turn_of}
 use Rattle.page_deeds.proofs.page.Page.run_disposer.Goals as goal
 
 pub returns-in-None-clause-follows : goal.returns-in-None-clause-follows
@@ -47,6 +47,8 @@ returns-clause-follows g c =
     let same : c.index.result.now ≡ c.index_mut.result.now = same_Some _ _ (sym read ∙ there) in
     let again = slice_get_read (slice_set before.instances.items c.args.place c.take_disposer.new.self) (length (slice_set before.instances.items c.args.place c.take_disposer.new.self)) c.args.place c.index-2.result.now refl (search rules) c.index-2.ensures in
     let taken : c.index-2.result.now ≡ c.take_disposer.new.self = same_Some _ _ (sym again ∙ set_same before.instances.items c.args.place c.take_disposer.new.self c.index_mut.result.now there) in
+    let third = slice_get_read (slice_set before.instances.items c.args.place c.take_disposer.new.self) (length (slice_set before.instances.items c.args.place c.take_disposer.new.self)) c.args.place c.index-3.result.now refl (search rules) c.index-3.ensures in
+    let held : c.index-3.result.now ≡ c.take_disposer.new.self = same_Some _ _ (sym third ∙ set_same before.instances.items c.args.place c.take_disposer.new.self c.index_mut.result.now there) in
     let named : c.index-2.result.now.name ≡ c.index_mut.result.now.name = ap (λ x. x.name) taken ∙ ap (λ x. x.name) c.in-Some.ensures.rest in
     let settled : c.in_ok-settle.ensures.instance ≡ c.take_disposer.new.self = same_Some _ _ (sym c.in_ok-settle.ensures.there ∙ set_same before.instances.items c.args.place c.take_disposer.new.self c.index_mut.result.now there) in
     let after : slice_get c.settle.new.self.instances.items c.args.place ≡ Some c.in_ok-settle.ensures.changed = ap (λ cs. slice_get cs c.args.place) c.in_ok-settle.ensures.instances ∙ set_same _ c.args.place c.in_ok-settle.ensures.changed c.in_ok-settle.ensures.instance c.in_ok-settle.ensures.there in
@@ -57,9 +59,11 @@ returns-clause-follows g c =
     c.index_mut.result.now c.take_disposer.new.self (left_by c.in_ok-ran.ran) c.args.lines.now.items c.settle.new.lines.items
     (record { client = refl; live = refl; unsent = refl; shelf = refl; there = there; set = refl; rest = c.in-Some.ensures.rest; bags = subst (λ n. HasBag n [] before.bags c.take-bag.new.self) named c.take-bag.ensures.taken })
     (λ i s. turn_of disposes c.in-Some.handler i c.take_disposer.new.self (c.in-Some.ensures.some i s))
-    (λ r s i v h does. right_run c.in_ok-ran.ran c.in-Some.handler c.in_ok-env.env.vars c.deref-2.result.now c.take-bag.result before c.index_mut.result.now
+    (λ r s i v h does. right_run c.in_ok-ran.ran c.in-Some.handler (c.as_slice-own.result.now ++ c.in_ok-imports.imports.vars) c.deref-2.result.now c.take-bag.result before c.index_mut.result.now
     c.in_ok-ran.ensures
-    (c.in_ok-env.ensures ∙ ap (λ is. scope_in is c.index.result.now) c.deref.ensures.value ∙ ap (scope_in before.instances.items) same)
+    (scope_given before.instances.items c.index_mut.result.now c.index-3.result.now c.as_slice-own.result.now c.in_ok-imports.imports.vars c.as_slice-own.ensures.value
+    (ap (λ x. x.values) held ∙ ap (λ x. x.values) c.in-Some.ensures.rest)
+    (c.in_ok-imports.ensures ∙ ap (λ is. bound_slots is c.index.result.now.links c.index.result.now.bindings) c.deref.ensures.value ∙ ap (λ x. bound_slots before.instances.items x.links x.bindings) same))
     (c.take-bag.ensures.bag ∙ ap (bag_of before.bags) named)
     r s i v [] (c.deref-2.ensures.value ∙ c.new-mods.ensures.items)
     ∙ ap (λ d. running.run_deed module_language d (running.scope_of module_language r i) [] (runtime.bag_of r i.name)) (sym does))

@@ -1,4 +1,4 @@
-use Rattle.std.proofs.Common.{◌≡◌, refl, ◌∙◌, sym, ap, length, rules, [], ◌∷◌, Some}
+use Rattle.std.proofs.Common.{◌≡◌, refl, ◌∙◌, ◌++◌, sym, ap, length, rules, [], ◌∷◌, Some}
 use Rattle.std.specs.Vec.{with_item}
 use Rattle.std.specs.Prelude.{slice_set, slice_get}
 use Rattle.std.proofs.Math.Path.{subst}
@@ -11,14 +11,14 @@ use Rattle.client_model.specs.Running as running
 use Rattle.client_model.specs.Running.{run_each}
 use Rattle.client_model.specs.Runtime as runtime
 use Rattle.module_language.specs.ModuleLanguage.{module_language, argument_of}
-use Rattle.page_instances.specs.Scopes.{scope_in}
+use Rattle.page_instances.specs.Scopes.{bound_slots}
 use Rattle.page_instances.specs.Seeing.{deed_in}
 use Rattle.page_deeds.specs.Settling.{left_by}
 use Rattle.retained_data.specs.Bags.{HasBag, bag_of}
 use Rattle.page_deeds.proofs.Words.{word_at, words_set, words_settled}
 use Rattle.page_deeds.proofs.Matching.{set_same}
 use Rattle.page_deeds.proofs.Following.{follows_as}
-use Rattle.page_deeds.proofs.Runs.{runs, runs_each, none_follow, run_follows, right_run, turn_of, module_seen, fewer_own}
+use Rattle.page_deeds.proofs.Runs.{runs, runs_each, none_follow, run_follows, right_run, scope_given, turn_of, module_seen, fewer_own}
 use Rattle.page_deeds.proofs.page.Page.run_next_own.Goals as goal
 
 pub returns-in-None-clause-fewer : goal.returns-in-None-clause-fewer
@@ -67,6 +67,8 @@ returns-clause-one g c = λ e z tells then_follows.
     let same : c.index.result.now ≡ c.index_mut.result.now = same_Some _ _ (sym read ∙ there) in
     let again = slice_get_read (slice_set before.instances.items c.args.place c.take_own.new.self) (length (slice_set before.instances.items c.args.place c.take_own.new.self)) c.args.place c.index-2.result.now refl (search rules) c.index-2.ensures in
     let taken : c.index-2.result.now ≡ c.take_own.new.self = same_Some _ _ (sym again ∙ set_same before.instances.items c.args.place c.take_own.new.self c.index_mut.result.now there) in
+    let third = slice_get_read (slice_set before.instances.items c.args.place c.take_own.new.self) (length (slice_set before.instances.items c.args.place c.take_own.new.self)) c.args.place c.index-3.result.now refl (search rules) c.index-3.ensures in
+    let held : c.index-3.result.now ≡ c.take_own.new.self = same_Some _ _ (sym third ∙ set_same before.instances.items c.args.place c.take_own.new.self c.index_mut.result.now there) in
     let named : c.index-2.result.now.name ≡ c.index_mut.result.now.name = ap (λ x. x.name) taken ∙ ap (λ x. x.name) c.in-Some.ensures.rest in
     follows_as (runs Own (itself_in c.args.name.now) (places_from 0 accepts_own) c.args.place) (run_each module_language Own (itself_in c.args.name.now) accepts_own _) before z c.args.lines.now.items tells (λ r s. runs_each Own (itself_in c.args.name.now) accepts_own c.args.place r)
     (run_follows Own (itself_in c.args.name.now) c.args.place (places_from 0 accepts_own) (places_from 0 accepts_own) (λ g. g.deed ≡ deed_in c.in-Some.handler)
@@ -74,9 +76,11 @@ returns-clause-one g c = λ e z tells then_follows.
     c.index_mut.result.now c.take_own.new.self (left_by c.in_ok-ran.ran) c.args.lines.now.items c.settle.new.lines.items
     (record { client = refl; live = refl; unsent = refl; shelf = refl; there = there; set = refl; rest = c.in-Some.ensures.rest; bags = subst (λ n. HasBag n [] before.bags c.take-bag.new.self) named c.take-bag.ensures.taken })
     (λ i s. turn_of accepts_own c.in-Some.handler i c.take_own.new.self (c.in-Some.ensures.some i s))
-    (λ r s i v h does. right_run c.in_ok-ran.ran c.in-Some.handler c.in_ok-env.env.vars c.deref-2.result.now c.take-bag.result before c.index_mut.result.now
+    (λ r s i v h does. right_run c.in_ok-ran.ran c.in-Some.handler (c.as_slice-own.result.now ++ c.in_ok-imports.imports.vars) c.deref-2.result.now c.take-bag.result before c.index_mut.result.now
     c.in_ok-ran.ensures
-    (c.in_ok-env.ensures ∙ ap (λ is. scope_in is c.index.result.now) c.deref.ensures.value ∙ ap (scope_in before.instances.items) same)
+    (scope_given before.instances.items c.index_mut.result.now c.index-3.result.now c.as_slice-own.result.now c.in_ok-imports.imports.vars c.as_slice-own.ensures.value
+    (ap (λ x. x.values) held ∙ ap (λ x. x.values) c.in-Some.ensures.rest)
+    (c.in_ok-imports.ensures ∙ ap (λ is. bound_slots is c.index.result.now.links c.index.result.now.bindings) c.deref.ensures.value ∙ ap (λ x. bound_slots before.instances.items x.links x.bindings) same))
     (c.take-bag.ensures.bag ∙ ap (bag_of before.bags) named)
     r s i v (itself_in c.args.name.now r h) (c.deref-2.ensures.value ∙ c.in_ok-mods.ensures ∙ ap (λ m. argument_of m ∷ []) (sym (module_seen r before s c.args.name.now)))
     ∙ ap (λ d. running.run_deed module_language d (running.scope_of module_language r i) (itself_in c.args.name.now r h) (runtime.bag_of r i.name)) (sym does))
