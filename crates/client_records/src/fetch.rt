@@ -17,6 +17,7 @@ use crate::answer::Answer;
 use crate::client_record::ClientRecord;
 use core_model::Refusal;
 use hmr_types::{Analysis, ModName, Text};
+use module_graph::copy_name;
 use page_plan::Plan;
 use std::alloc::{AllocError, Global};
 use update_msgs::ServerMsg;
@@ -113,10 +114,4 @@ fn copy_analysis(analysis: &Analysis) -> Result<Analysis, AllocError>
 {
     let copy = analysis.clone()?;
     Ok(copy)
-}
-
-pub(crate) fn copy_name(name: &ModName) -> Result<ModName, AllocError>
-    ensures { IfOk result (λ copy. copy ≡ name.now) }
-{
-    name.clone()
 }

@@ -5,10 +5,9 @@ ghost use Rattle.core_model.specs.View.{differs, is_in};
 ghost use Rattle.client_queue.specs.Queue.{MarkIs, knows, mark_where_known};
 ghost use Rattle.client_records.specs.Made.{AreRenewed, IsGrown, mark_on};
 
-use crate::fetch::copy_name;
 use client_queue::ClientQueue;
 use hmr_types::ModName;
-use module_graph::View;
+use module_graph::{View, copy_name};
 use std::alloc::AllocError;
 use version_map::VersionMap;
 

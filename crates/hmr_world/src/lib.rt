@@ -16,7 +16,6 @@ mod fresh;
 mod jobs;
 mod lines;
 mod looks;
-mod names;
 mod opens;
 mod replies;
 mod settles;

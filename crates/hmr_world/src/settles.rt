@@ -17,12 +17,12 @@ ghost use Rattle.hmr_world.specs.Standing.{IsRunning, IsStepped, StandsFor};
 
 use crate::core_calls::tell;
 use crate::lines::one_line;
-use crate::names::copy_name;
 use crate::replies::settle_word;
 use crate::stop::WorldStop;
 use crate::world::World;
 use hmr_types::{ModName, Ver};
 use import_scan::transform;
+use module_graph::copy_name;
 use output_lines::{OutLine, SettleWord};
 use server_core::{Core, Event};
 use std::alloc::{AllocError, Global};

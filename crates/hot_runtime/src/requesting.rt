@@ -12,9 +12,8 @@ ghost use Rattle.hot_runtime.specs.Standing.{StandsFor};
 
 use crate::runtime::HotRuntime;
 use hmr_types::{Sequence, Text};
-use module_graph::copy_of;
+use module_graph::{copy_name, copy_of};
 use page_deeds::Invalidation;
-use plan_under_way::copy_name;
 use std::alloc::AllocError;
 use update_msgs::ClientMsg;
 

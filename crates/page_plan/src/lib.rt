@@ -22,6 +22,5 @@ pub use module_graph::NameSet;
 pub use numbers::{Numbers, new_names};
 pub use plan::Plan;
 pub use tasks::Task;
-pub use versions::table_of;
 pub use view::made_view;
 pub use walker::Walker;

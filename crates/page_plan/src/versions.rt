@@ -1,9 +1,8 @@
 // The table that a client tells, against the versions of a view.
-ghost use Rattle.std.specs.Prelude.{◌≡◌, ◌==◌, ◌++◌, filter, not, option_map, true, IfOk};
+ghost use Rattle.std.specs.Prelude.{◌≡◌, ◌==◌, ◌++◌, filter, not, option_map, IfOk};
 ghost use Rattle.core_model.specs.Names.{first_of, names_of, sorted};
 ghost use Rattle.core_model.specs.Requests.{version_at};
 ghost use Rattle.core_model.specs.View.{table_of};
-ghost use Rattle.hmr_types.specs.Table.{is_table};
 ghost use Rattle.page_plan.specs.Applied.{IsCompared};
 
 use crate::apply::Applied;
@@ -11,29 +10,6 @@ use crate::told::Told;
 use hmr_types::{ModName, Table, Ver};
 use module_graph::{View, copy_name, rising};
 use std::alloc::{AllocError, Global};
-
-/// The table of a view: its modules with their versions. The names have to rise, and the versions have to
-/// be those of counted edits.
-pub fn table_of(alloc: Global, view: &View) -> Result<Table, AllocError>
-    requires { is_table (table_of view.now) ≡ true }
-    ensures { IfOk result (λ table. table ≡ table_of view.now) }
-{
-    let rows = rows_of(alloc, view)?;
-    Ok(Table::of(rows).unwrap())
-}
-
-// The modules with their versions.
-fn rows_of(alloc: Global, view: &View) -> Result<Vec<(ModName, Ver)>, AllocError>
-    ensures { IfOk result (λ rows. rows.items ≡ table_of view.now) }
-{
-    let mut rows = Vec::new(alloc);
-    loop {
-        match view.at(rows.len()) {
-            Some((name, version, _)) => rows.push((copy_name(name)?, version))?,
-            None => return Ok(rows),
-        }
-    }
-}
 
 /// The view, where each of its modules is told at its version and no other is told; else the least name
 /// with two versions.

@@ -9,9 +9,8 @@ ghost use Rattle.client_model.specs.Linking.{link_to, place_of};
 ghost use Rattle.page_plan.specs.Numbers.{new_number};
 ghost use Rattle.plan_under_way.specs.Changing.{IsMadeOf, links_by};
 
-use crate::cause::copy_name;
 use hmr_types::{ModName, Name, Sequence};
-use module_graph::View;
+use module_graph::{View, copy_name};
 use module_tree::Module;
 use page_deeds::{Birth, LiveNumbers, Page};
 use page_plan::{Numbers, Plan};

@@ -5,6 +5,7 @@ ghost use Rattle.client_model.specs.Requesting.{abort_message};
 ghost use Rattle.plan_under_way.specs.UnderWay.{cause_of};
 
 use hmr_types::{ModName, Name, Text};
+use module_graph::copy_name;
 use std::alloc::AllocError;
 use update_msgs::{AbortCause, ClientMsg};
 
@@ -44,13 +45,6 @@ pub(crate) fn abort_message(cause: &Cause) -> Result<ClientMsg, AllocError>
             name: Some(text_of(export)?),
         }),
     }
-}
-
-/// An equal name. It takes time in proportion to the name; only want of memory refuses.
-pub fn copy_name(name: &ModName) -> Result<ModName, AllocError>
-    ensures { IfOk result (λ copy. copy ≡ name.now) }
-{
-    name.clone()
 }
 
 // A name of the module language as a text.

@@ -11,9 +11,9 @@ ghost use Rattle.page_plan.specs.Plans.{IsSamePlan};
 ghost use Rattle.page_deeds.specs.Standing.{KeepWords, StandsFor};
 ghost use Rattle.plan_under_way.specs.Changing.{AreMade, AreNumbers, CanChange, CanUpdate, HasChanged, IsChange, IsUpdate, page_done};
 
-use crate::cause::copy_name;
 use const_eval::Ran;
 use hmr_types::{ModName, PlanKind};
+use module_graph::copy_name;
 use output_lines::OutLine;
 use page_deeds::{Birth, Page, Told};
 use page_plan::{NameSet, Numbers, Plan};

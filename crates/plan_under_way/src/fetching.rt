@@ -11,12 +11,12 @@ ghost use Rattle.module_language.specs.ModuleLanguage.{module_in, module_languag
 ghost use Rattle.plan_under_way.specs.Planned.{IsPlanned};
 ghost use Rattle.plan_under_way.specs.UnderWay.{IsFetched, IsUnderWay, cause_of, plan_with, runtime_with, with_cause_of};
 
-use crate::cause::{Cause, copy_name};
+use crate::cause::Cause;
 use crate::planning::next_of;
 use crate::reading::{Parsed, read};
 use crate::under_way::UnderWay;
 use hmr_types::{ModName, Text, Ver};
-use module_graph::View;
+use module_graph::{View, copy_name};
 use std::alloc::{AllocError, Global};
 
 impl UnderWay {
@@ -78,7 +78,7 @@ impl UnderWay {
     }
 
     /// The plan with a cause that a fetch found. It takes no memory.
-    pub fn with_cause(self, cause: Cause) -> UnderWay
+    fn with_cause(self, cause: Cause) -> UnderWay
         ensures under_way { (r : Runtime) (p : Plan) → IsUnderWay r p self → IsUnderWay (with_cause_of (cause_of cause) r) p result }
         ensures planned { (loaded : Bool) → IsPlanned loaded self → IsPlanned loaded result }
     {

@@ -20,7 +20,7 @@ mod telling;
 mod under_way;
 
 pub use births::{births_of, numbers_of};
-pub use cause::{Cause, copy_name};
+pub use cause::Cause;
 pub use changing::{Change, Update, change_of, change_page};
 pub use planning::next_of;
 pub use table::table_of;

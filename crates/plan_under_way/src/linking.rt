@@ -13,9 +13,9 @@ ghost use Rattle.page_plan.specs.Plans.{IsSamePlan};
 ghost use Rattle.plan_under_way.specs.UnderWay.{HasTrees, cause_of};
 ghost use Rattle.plan_under_way.specs.Unlinked.{bound_of, unlinked_among, unlinked_by};
 
-use crate::cause::{Cause, copy_name};
+use crate::cause::Cause;
 use hmr_types::{ModName, Name, SpecFault, Text, resolve};
-use module_graph::View;
+use module_graph::{View, copy_name};
 use module_tree::{ImportName, Item, Module};
 use page_plan::Plan;
 use std::alloc::{AllocError, Global};

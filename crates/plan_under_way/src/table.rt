@@ -2,9 +2,8 @@
 ghost use Rattle.std.specs.Prelude.{◌≡◌, IfOk};
 ghost use Rattle.core_model.specs.View.{table_of};
 
-use crate::cause::copy_name;
 use hmr_types::{ModName, Table, Ver};
-use module_graph::View;
+use module_graph::{View, copy_name};
 use std::alloc::{AllocError, Global};
 
 /// The table of a view: its modules with their versions. It takes time in proportion to the modules. Want of

@@ -4,8 +4,8 @@ ghost use Rattle.core_model.specs.Names.{in_order};
 ghost use Rattle.client_model.specs.Answering.{pair_of};
 ghost use Rattle.plan_under_way.specs.Telling.{accept_lines, batch_lines};
 
-use crate::cause::copy_name;
 use hmr_types::{ClientId, ModName, Sequence};
+use module_graph::copy_name;
 use output_lines::OutLine;
 use std::alloc::{AllocError, Global};
 use update_msgs::JsUpdate;

@@ -11,9 +11,9 @@ ghost use Rattle.module_language.specs.ModuleLanguage.{module_language};
 ghost use Rattle.plan_under_way.specs.Planned.{count_in};
 ghost use Rattle.plan_under_way.specs.UnderWay.{IsNext, IsReady, IsUnderWay, cause_of, is_aborted, is_applied_told};
 
-use crate::cause::{Cause, abort_message, copy_name};
+use crate::cause::{Cause, abort_message};
 use hmr_types::{ModName, Table};
-use module_graph::View;
+use module_graph::{View, copy_name};
 use module_tree::Module;
 use page_plan::{Plan, Walker};
 use std::alloc::{AllocError, Global};

@@ -5,6 +5,7 @@ ghost use Rattle.play_text.specs.Words.{fault_word, refusal_word, plan_word, cau
 use hmr_types::{EditRefusal, FaultWord, HandlerKind, PlanKind, ReloadCause};
 use output_lines::{ClientState, EndWord, FaultPlace, HandlerEnd, InstanceStatus};
 
+/// What is wrong with a module text, as stands behind its line and column.
 pub fn fault_str(word: FaultWord) -> &'static str
     ensures { result.now ≡ fault_word word }
 {
@@ -29,6 +30,7 @@ pub fn fault_str(word: FaultWord) -> &'static str
     }
 }
 
+/// Why an edit is refused, as stands behind `refused`.
 pub fn refusal_str(word: EditRefusal) -> &'static str
     ensures { result.now ≡ refusal_word word }
 {
@@ -40,6 +42,7 @@ pub fn refusal_str(word: EditRefusal) -> &'static str
     }
 }
 
+/// The word of a client that applied a plan, by what the plan was.
 pub fn plan_str(plan: PlanKind) -> &'static str
     ensures { result.now ≡ plan_word plan }
 {
@@ -50,6 +53,7 @@ pub fn plan_str(plan: PlanKind) -> &'static str
     }
 }
 
+/// Why a page is loaded anew, as `reload` lines have it.
 pub fn cause_str(cause: ReloadCause) -> &'static str
     ensures { result.now ≡ cause_word cause }
 {
@@ -59,6 +63,7 @@ pub fn cause_str(cause: ReloadCause) -> &'static str
     }
 }
 
+/// Which code met a fault, as `fault` lines have it.
 pub fn place_str(place: FaultPlace) -> &'static str
     ensures { result.now ≡ place_word place }
 {
@@ -71,6 +76,7 @@ pub fn place_str(place: FaultPlace) -> &'static str
     }
 }
 
+/// The kind of a handler, as the lines of handlers have it.
 pub fn kind_str(kind: HandlerKind) -> &'static str
     ensures { result.now ≡ kind_word kind }
 {
@@ -82,6 +88,7 @@ pub fn kind_str(kind: HandlerKind) -> &'static str
     }
 }
 
+/// How far a client is, as `client` lines have it.
 pub fn state_str(state: ClientState) -> &'static str
     ensures { result.now ≡ state_word state }
 {
@@ -91,6 +98,7 @@ pub fn state_str(state: ClientState) -> &'static str
     }
 }
 
+/// How a handler ended, as the lines of handlers have it.
 pub fn end_str(end: HandlerEnd) -> &'static str
     ensures { result.now ≡ end_word end }
 {
@@ -101,6 +109,7 @@ pub fn end_str(end: HandlerEnd) -> &'static str
     }
 }
 
+/// How far the evaluation of an instance went, as the lines of instances have it.
 pub fn status_str(status: InstanceStatus) -> &'static str
     ensures { result.now ≡ status_word status }
 {
@@ -111,6 +120,7 @@ pub fn status_str(status: InstanceStatus) -> &'static str
     }
 }
 
+/// How a session ended, as stands behind `ended`.
 pub fn ending_str(word: EndWord) -> &'static str
     ensures { result.now ≡ ending_word word }
 {
