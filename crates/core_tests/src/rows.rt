@@ -9,6 +9,7 @@ use std::test::Fail;
 use update_msgs::ServerMsg;
 use version_map::{EditOutcome, Settled};
 
+/// The module name of a text that is one.
 pub fn named(alloc: Global, text: &str) -> Result<ModName, AllocError> {
     match ModName::read(alloc, text.as_bytes()) {
         Ok(name) => Ok(name),
@@ -202,8 +203,10 @@ fn looked(alloc: Global, core: &Core, row: &str) -> Result<String, AllocError> {
     }
 }
 
+/// What a copy of the event that a row says is answered.
 fn played(alloc: Global, core: &mut Core, row: &str) -> Result<String, AllocError> {
-    let reply = core.step(alloc, event(alloc, row)?)?;
+    let copy = event(alloc, row)?.copy(alloc)?;
+    let reply = core.step(alloc, copy)?;
     told(alloc, reply)
 }
 

@@ -155,6 +155,12 @@ fn each_refused_worker_comes_back(rt: HostRuntime) -> Result<(), Fail> {
             posted = posted.saturating_add(out.0.posted().len());
         }
         assert_eq!(rt; posted, 9);
+        let told = format!(in alloc; "{spawner:?}")?;
+        let faults = format!(in alloc; "faults: {given_up} ")?;
+        assert!(rt;
+            told.contains(faults.as_str()),
+            "other faults were counted than that of the refused start"
+        );
     }
     Ok(())
 }

@@ -6,10 +6,10 @@ use std::collections::VecDeque;
 use std::fmt::Write;
 
 /// How many modules the folder has. The root is number 0.
-pub const MODULES: u64 = 40;
+pub const MODULES: u64 = 400;
 
 /// How many modules the root imports, numbered from 1 on. The others are leaves.
-const BRANCHES: u64 = 3;
+const BRANCHES: u64 = 19;
 
 /// Such a folder, and the version of each module at its last look.
 #[derive(Drop)]

@@ -102,7 +102,7 @@ fn a_call_of_an_end_fails(rt: HostRuntime) -> Result<(), Fail> {
     let alloc = rt.alloc();
     // that of the client, and that of its session: its handshake, and six messages with their answers
     for end in 0..2_u64 {
-        for call in 0..12_u64 {
+        for call in 0..13_u64 {
             let mut failing = none(alloc);
             if end == 1 {
                 failing.ends.push_back(Vec::new(alloc))?;
