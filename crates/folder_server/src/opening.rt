@@ -1,5 +1,5 @@
 // The beginning of a server, before it listens: its folder is scanned, and the modules are the first edits.
-ghost use Rattle.std.specs.Prelude.{◌≡◌, ◌≤◌, [], All, Err, IfErr, IfOk, IsErrOf, OnOk, Some, true};
+ghost use Rattle.std.specs.Prelude.{◌≡◌, ◌≤◌, [], Err, IfErr, IfOk, IsErrOf, OnOk, Some, true};
 ghost use Rattle.hmr_base.specs.Causes.{Rose};
 ghost use Rattle.folders.specs.Files.{MayOpen, files_after};
 ghost use Rattle.std.specs.Option.{option_map};

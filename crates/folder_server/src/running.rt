@@ -1,5 +1,5 @@
 // A server while it runs: jobs are begun, the editor makes the later edits, and all jobs are finished.
-ghost use Rattle.std.specs.Prelude.{◌≡◌, ◌≢◌, ◌≤◌, ◌<◌, ◌⊎◌, ◌+◌, ◌∷◌, [], All, Err, IfErr, IfOk, IsOk, List, OnErr, OnOk, Some, false, length, true};
+ghost use Rattle.std.specs.Prelude.{◌≡◌, ◌≤◌, ◌<◌, ◌⊎◌, ◌+◌, ◌∷◌, [], All, Err, IfErr, IfOk, IsOk, List, OnErr, OnOk, Some, false, length, true};
 ghost use Rattle.std.specs.Arc.{arc_value};
 ghost use Rattle.hmr_base.specs.Causes.{Rose};
 ghost use Rattle.hmr_types.specs.declared.limits.TheConstants.{MESSAGE_BYTES};
@@ -22,14 +22,14 @@ ghost use Rattle.folder_server.specs.Running.{Finds, Later};
 
 use crate::plan::Plan;
 use crate::rounds::make_edits;
-use crate::stop::{Limit, ServeStop};
+use crate::stop::ServeStop;
 use const_eval::Ran;
 use folder_watch::Listing;
 use folders::Tree;
 use handler_table::Shelf;
 use hmr_hub::{Hub, Pass};
 use hmr_types::ModName;
-use hub_editor::{EditStop, Editor};
+use hub_editor::Editor;
 use jobs::{Gate, Spawner};
 use links::Net;
 use retained_data::Bag;
