@@ -8,8 +8,8 @@
 # Told are the milliseconds by the clock, the best of five runs in turn, without the making of the texts, which a
 # run with 0 workers measures; which part that is of one worker's time; and the instructions for each of 1,000
 # texts, as valgrind's callgrind counts them over all threads, where it is installed. The clock tells little on a
-# machine that is busy or has fewer than four processors; the instructions may rise by 1 % at most from 1 worker to
-# 4, else the script fails.
+# machine that is busy or has fewer than four processors; the instructions may rise by 5 % at most from 1 worker to
+# 4, else the script fails: an allocation takes more of them in a program that has made a thread.
 set -eu
 top=$(cd "$(dirname "${BASH_SOURCE[0]}")/.." && pwd)
 work=$(mktemp -d)
@@ -174,6 +174,6 @@ counts = {workers: counted(workers) for workers in WORKERS} if shutil.which("val
 for workers in WORKERS[1:]:
     of_text = f", {(counts[workers] - counts[0]) / COUNTED:,.0f} instructions for each" if counts else ""
     print(f"{workers} workers: {TEXTS} texts {took[workers]:.0f} ms, {took[workers] / took[1]:.2f} of one worker's time{of_text}")
-if counts and counts[4] - counts[0] > 1.01 * (counts[1] - counts[0]):
+if counts and counts[4] - counts[0] > 1.05 * (counts[1] - counts[0]):
     sys.exit("bench: four workers do more work than one")
 END
