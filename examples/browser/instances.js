@@ -62,6 +62,9 @@ class Instances {
           instance.onDependencies.push({ names, isList: Array.isArray(first), callback });
         }
       },
+      on: (event, callback) => { // an event is the module of its name, as the language has it; no command emits one yet
+        instance.onDependencies.push({ names: [`/event/${event.replaceAll(':', '/')}`], isList: false, callback });
+      },
       dispose: (handler) => { instance.disposer = handler; },
       prune: (handler) => { instance.pruner = handler; },
       decline: () => {}, // the server reads it in the text
