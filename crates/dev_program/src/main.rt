@@ -1,20 +1,9 @@
-//! The program: words and an input to a status, over whatever outside it is given.
+//! The program: the top call over the real input, output, folder, net and threads.
 //!
-//! `hmr play` reads a script, plays it, and writes the lines of each step as the step is made; `hmr check
-//! NAME` reads a module text and writes what there is to tell of it; `hmr make N SEED` plays a script that is
-//! generated and writes a summary of its run. `hmr serve FOLDER ROOT..` serves the modules of a folder over
-//! connections and writes the report of its one transcript; `hmr join PORT` is one client of such a server,
-//! and writes its lines as they come. Stands on every other crate. Keeps: what the first three write is a
-//! front of the definition's text of the words and of the bytes read, and the whole of it at status 0; what
-//! `serve` and `join` write is that of a run that is stated. It alone makes the real input, output, folder,
-//! net and threads, and the closures that stand for an embedding program.
+//! It makes them, and the closures that stand for an embedding program, and answers the status of the top
+//! call; where there is no memory for its words or the closures, it answers 9. Stands on `top_call` and on what
+//! makes the real outside. Keeps: nothing of its own is read or written. Knows nothing of commands.
 #![tactic(auto)]
-
-mod join;
-mod serve;
-#[cfg(test)]
-mod tests;
-mod top;
 
 use const_eval::Ran;
 use folders::FolderTree;
@@ -27,6 +16,7 @@ use std::alloc::AllocError;
 use std::env;
 use std::io::ErrorKind;
 use std::process::ExitCode;
+use top_call::run;
 use ws_links::TcpNet;
 
 /// The status for want of memory.
@@ -58,7 +48,7 @@ fn main(rt: HostRuntime) -> ExitCode {
     let mut tree = FolderTree::new(rt);
     let mut net = TcpNet::new(rt);
     let mut spawner = ThreadSpawner::new();
-    let status = top::run(
+    let status = run(
         &rt,
         alloc,
         &words,

@@ -6,8 +6,10 @@
 //! what one thread is answered in order.
 #![tactic(auto)]
 
+#[cfg(test)]
 mod meeting;
 #[cfg(test)]
 mod tests;
 
+#[cfg(test)]
 pub use meeting::{hundred, tell, two_hundred, visit};

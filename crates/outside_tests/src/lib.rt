@@ -7,20 +7,26 @@
 //! hand, and is the same whatever the schedule. Knows nothing of what is private in the crates below.
 #![tactic(auto)]
 
+#[cfg(test)]
 mod ends;
 #[cfg(test)]
 mod folder_tests;
 #[cfg(test)]
 mod link_tests;
+#[cfg(test)]
 mod listing;
 #[cfg(test)]
 mod plan_tests;
 #[cfg(test)]
 mod scan_tests;
+#[cfg(test)]
 mod trials;
 #[cfg(test)]
 mod wait_tests;
 
+#[cfg(test)]
 pub use ends::{ask, receive, send_all, serve};
+#[cfg(test)]
 pub use listing::{depth, file_named, is_gone, show};
+#[cfg(test)]
 pub use trials::{end_trial, net_trial};

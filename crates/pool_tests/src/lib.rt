@@ -6,12 +6,18 @@
 //! what is private in the crates below.
 #![tactic(auto)]
 
+#[cfg(test)]
 mod gate;
+#[cfg(test)]
 mod queue_board;
 #[cfg(test)]
 mod tests;
+#[cfg(test)]
 mod worker_job;
 
+#[cfg(test)]
 pub use gate::LateGate;
+#[cfg(test)]
 pub use queue_board::QueueBoard;
+#[cfg(test)]
 pub use worker_job::{WorkerJob, WorkerOut, begin_all, finish_all, put_all, workers};

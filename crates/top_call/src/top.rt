@@ -1,0 +1,121 @@
+// The top call: words, an input, a folder and a net to a status and an output.
+ghost use Rattle.std.specs.Prelude.{◌≡◌, ◌⊎◌, ◌+◌, ◌∷◌, [], None, map, IfSome, false, string_bytes, true};
+ghost use Rattle.std.specs.Io.KnownBytes.{Keeps};
+ghost use Rattle.handler_table.specs.Shelf.{marks_of};
+ghost use Rattle.hmr_base.specs.Causes.{Rose};
+ghost use Rattle.hmr_world.specs.Shelves.{AreHosts};
+ghost use Rattle.play_script.specs.Script.{script_of};
+ghost use Rattle.command_words.specs.Words.{command_of};
+ghost use Rattle.jobs.specs.Begun.{none_begun};
+ghost use Rattle.input_commands.specs.Headline.{ShowsAreFresh};
+ghost use Rattle.input_commands.specs.Outputs.{output_of, reads_input};
+ghost use Rattle.top_call.specs.Outside.{HasServed, IfJoin, IfServe, IsJoined, MayAsk, MayHaveOpened, is_join, opening_of};
+ghost use Rattle.top_call.specs.Runs.{AnswersWords, IsComplete, IsStatus, ReadsInput, WritesOutput};
+
+use crate::join::join_server;
+use crate::serve::serve_folder;
+use command_words::{Command, read_words};
+use const_eval::Ran;
+use folders::Tree;
+use handler_table::Shelf;
+use hmr_base::{Sink, Source};
+use input_commands::run_alone;
+use jobs::{Gate, Spawner};
+use links::Net;
+use retained_data::Bag;
+use std::alloc::{AllocError, Global};
+use std::sync::Wait;
+use std::thread::Threads;
+
+/// What the program does, but for making the real input and output: it answers the exit status.
+///
+/// `play` reads a script from the input, plays it on a world whose clients get the closures of the shelves,
+/// and writes the lines of each step as the step is made. `check NAME` reads a module text from the input,
+/// and writes its canonical text and its analysis, or the line of its first fault. `make N SEED` reads
+/// nothing: it plays the script of a page of N modules that the seed gives, and writes one line that sums
+/// the run up. What there is to write for these and an input is the definition `output_of`. `serve FOLDER
+/// ROOT..` serves the modules of a folder, with the edits of the input where its words ask for them. `join
+/// PORT` is one client to a server on this machine, with the closures of the first shelf.
+///
+/// 0: the whole output is written, and a command that reads the input read it to its end. 2: the words are
+/// no command; the usage line is written. 3: the input of `play` is no script, or that of `serve` no edits;
+/// the line of its first fault is written. 4: the input failed; nothing is written. 5: the output failed; a
+/// front of the output is written. 6: the folder failed, in `serve`. 7: the net, an end of a connection or
+/// the start of a thread failed, in `serve` and `join`. 8: a limit was passed, whose line is written last: of
+/// the input, a text, the names, the sources, the transcript or the passes, or of a client's instances. 9:
+/// memory ran out; a front of the output is written. 10: what the server sent is no answer, in `join`. A
+/// cause keeps its status where its line can't be written.
+///
+/// `fresh_load`: at each place of a script where a client is shown and is up, its lines are those of the
+/// modules that a fresh load of its own roots writes there, and behind them stale edges alone.
+pub fn run<
+    F: FnOnce(Bag) -> Result<Ran, AllocError> + Drop + Send + 'static,
+    S: Source,
+    K: Sink,
+    T: Tree,
+    N: Net,
+    P: Spawner,
+    G: Gate + Clone + Drop + Send + 'static,
+    R: Threads + Wait + Sync + Copy + Drop + Send + 'static,
+>(
+    rt: &R,
+    alloc: Global,
+    words: &[String],
+    input: &mut S,
+    out: &mut K,
+    tree: &mut T,
+    net: &mut N,
+    spawner: &mut P,
+    gate: G,
+    shelves: Vec<Shelf<F>>,
+) -> u8
+where
+    N::End: Drop + Send + 'static,
+    requires callable { (f : F) → F.IsAlwaysCallable f }
+    requires hosts { AreHosts F.post shelves.items }
+    requires unopened { T.asked tree.old ≡ None }
+    requires unasked { (N.asked net.old ≡ None) × (N.heard net.old ≡ None) }
+    requires none_begun { P.begun spawner.old ≡ none_begun }
+    ensures known { IsStatus result }
+    ensures words { AnswersWords (command_of (map string_bytes words.now))
+        (K.written out.old) (K.written out.new) (K.faults out.old) (K.faults out.new) result }
+    ensures output { WritesOutput
+        (output_of (map marks_of shelves.items) (map string_bytes words.now) (S.left input.old))
+        (K.written out.old) (K.written out.new) (K.faults out.old) (K.faults out.new) result }
+    ensures complete { IsComplete
+        (output_of (map marks_of shelves.items) (map string_bytes words.now) (S.left input.old)) result }
+    ensures input { ReadsInput (command_of (map string_bytes words.now)) (S.left input.new)
+        (S.faults input.old) (S.faults input.new) (K.written out.old) (K.written out.new) result }
+    ensures untouched { reads_input (command_of (map string_bytes words.now)) ≡ false
+        → input.new ≡ input.old }
+    ensures unwritten { result ≡ 5 → Rose (K.faults out.old) (K.faults out.new) }
+    ensures fresh_load { IfSome (S.left input.old) (λ bytes.
+        ShowsAreFresh (map marks_of shelves.items) (script_of bytes)) }
+
+    ensures served { IfServe (command_of (map string_bytes words.now)) (λ plan.
+        HasServed plan (S.left input.old) (T.coming tree.old) (N.heard net.new)
+        (K.written out.old) (K.written out.new) (K.faults out.old) (K.faults out.new) result
+        ⊎ ((result ≡ 9) × Keeps (K.written out.old) (K.written out.new))) }
+    ensures begun { IfServe (command_of (map string_bytes words.now)) (λ plan. result ≡ 0
+        → P.begun spawner.new ≡ plan.workers ∷ (plan.clients + plan.outside) ∷ plan.clients ∷ []) }
+    ensures joined { IfJoin (command_of (map string_bytes words.now)) (λ port roots turns.
+        IsJoined (opening_of (map marks_of shelves.items) roots) turns (N.coming net.old)
+        (K.written out.old) (K.written out.new) (K.faults out.old) (K.faults out.new) result
+        ⊎ ((result ≡ 9) × Keeps (K.written out.old) (K.written out.new))) }
+    ensures tree_failed { result ≡ 6 → Rose (T.faults tree.old) (T.faults tree.new) }
+    ensures net_failed { result ≡ 7
+        → Rose (N.faults net.old) (N.faults net.new) ⊎ Rose (P.faults spawner.old) (P.faults spawner.new) }
+    ensures bad_answer { result ≡ 10 → is_join (command_of (map string_bytes words.now)) ≡ true }
+    ensures asked { MayAsk (command_of (map string_bytes words.now)) (N.asked net.new) }
+    ensures opened { MayHaveOpened (command_of (map string_bytes words.now)) (T.asked tree.new) }
+{
+    match read_words(alloc, words) {
+        Ok(Command::Serve(plan)) => serve_folder(
+            rt, alloc, plan, input, out, tree, net, spawner, gate, shelves,
+        ),
+        Ok(Command::Join { port, roots, turns }) => {
+            join_server(alloc, port, roots.into_vec(), turns, net, out, shelves)
+        }
+        read => run_alone(alloc, words, read, input, out, shelves),
+    }
+}

@@ -1,0 +1,96 @@
+"""What `play` tells of bytes that are no script, and what scripts of each command bring.
+
+In the tables `~` stands for LF. Faults and lines are those of docs/SCRIPT.md.
+"""
+from rows import Run, play, rows_of
+
+# The line and the word of the first fault, and the script.
+FAULTS = """
+1 cut-line=open
+1 cut-line=# no end
+1 cut-line=|x
+2 cut-line=root /m.js~open
+1 text-without-edit=|x~
+2 text-without-edit=root /m.js~|x~
+4 text-without-edit=root /m.js~edit /m.js~~|x~
+4 text-without-edit=root /m.js~edit /m.js~# a~|x~
+4 text-without-edit=root /m.js~edit /m.js~quiet~|x~
+1 unknown-word= quiet~
+1 unknown-word=opens m.js 0~
+1 unknown-word=Open~
+1 unknown-word=open1~
+1 word-count=root~
+1 word-count=quiet ~
+1 word-count=edit  /m.js~
+1 word-count=settle m.js~
+1 word-count=turns 1~
+1 word-count=fates x y~
+1 word-count=fresh 0 0~
+1 bad-name=root m.js~
+1 bad-name=edit ~
+1 bad-name=settle m.js 0~
+1 bad-name=open /m.js 1~
+1 bad-name=open ~
+1 bad-name=open2 1~
+1 bad-number=show ~
+1 bad-number=turn 0~
+1 bad-number=turn 01~
+1 bad-number=turn +1~
+1 bad-number=close 4294967296~
+1 bad-number=turns 1 4294967296~
+1 bad-number=settle /m.js 9007199254740992~
+1 bad-number=fresh /m.js~
+1 root-place=open~
+1 root-place=open2 /m.js~
+1 root-place=edit /m.js~
+2 root-place=root /m.js~root /m.js~
+3 root-place=root /m.js~quiet~root /n.js~
+17 root-place=root /a~root /b~root /c~root /d~root /e~root /f~root /g~root /h~root /i~root /j~root /k~root /l~root /m~root /n~root /o~root /p~root /q~
+2 bad-number=root /m.js~turn 0~|x~
+"""
+
+# What a script writes, and the script.
+OUTPUTS = """
+=
+=root /m.js~
+=root /m.js~root /n.js~
+=~# nothing is said here~
+=root /m.js~quiet~
+edit /m.js job 1~=root /m.js~edit /m.js~|let a;~|~
+edit /m.js job 1~=root /m.js~edit /m.js~|# a~||~|~quiet~
+edit /m.js job 1~edit /n.js job 2~open 1~=root /m.js~# a~edit /m.js~|x~~edit /n.js~open~
+remove /n/a.js same~=root /m.js~remove /n/a.js~
+edit /m.js job 1~remove /m.js 2~=root /m.js~edit /m.js~|~remove /m.js~
+edit /m.js job 1~settle /m.js 1 served~=root /m.js~edit /m.js~settle~
+settle /n.js 9007199254740991 none~=root /m.js~settle /n.js 9007199254740991~
+open bad-roots~=root /m.js~open /n.js /m.js /n.js~
+open 1~open 2~=root /m.js~open2~open2 /n.js~
+unknown 4294967295~=root /m.js~close 4294967295~
+unknown 9~=root /m.js~turn 9~
+unknown 4294967295~=root /m.js~turns 4294967295 1~
+unknown 1~unknown 2~unknown 3~=root /m.js~show 1~values 2~fates 3~
+fresh~missing /m.js~unknown 4294967295~=root /m.js~fresh~fresh 4294967295~
+"""
+
+
+def fault(script, line, word):
+    """A script that is none."""
+    return play(script, f"script fault at line {line}: {word}\n", status=3)
+
+
+def runs():
+    for at, script in rows_of(FAULTS, "="):
+        line, word = at.split(" ")
+        yield fault(script, line, word)
+    for output, script in rows_of(OUTPUTS, "="):
+        yield play(script, output)
+    # A line has at most 65,535 bytes, and bytes that are no text are told before a line that is too long.
+    yield play("#" * 65_535 + "\n", "")
+    yield fault("#" * 65_536 + "\n", 1, "line-too-long")
+    yield fault("x" * 65_536, 1, "line-too-long")
+    yield fault(b"\xff" * 65_536, 1, "not-utf8")
+    yield fault(b"\xff\n", 1, "not-utf8")
+    yield play("\n" * 1_000, "")
+    # An input has at most 16,777,216 bytes.
+    yield Run(["play"], b"#" * 16_777_217, 8, b"limit input 16777216\n")
+    yield fault("#" * 16_777_216, 1, "line-too-long")
