@@ -138,6 +138,8 @@ if (import.meta.hot) { import.meta.hot.on('a', () => {}) } export const on = 1; 
 import './s.js'; const a = 7; console.log(((a ?? 1) - (2 - 3)) * -(-a) ? undefined : "it's\\\"\n\t\r", import.meta.hot.data.k); throw a|import "./s.js";~const a = 7;~console.log(((a ?? 1) - (2 - 3)) * -(-a) ? undefined : "it's\\\"\n\t\r", import.meta.hot.data.k);~throw new Error(a);~imports /a/s.js~
 import.meta.hot.accept(host('L')); import.meta.hot.accept([]); import.meta.hot.prune(host("P"))|import.meta.hot.accept(host("L"));~import.meta.hot.accept([]);~import.meta.hot.prune(host("P"));~self~
 const a = 1; import.meta.hot.accept(['./x.js', './y.js'], ([m, k]) => { if (m) { if (a) { import.meta.hot.invalidate() } } else { import.meta.hot.invalidate(k.x) } })|const a = 1;~import.meta.hot.accept(["./x.js", "./y.js"], ([m, k]) => {~  if (m) {~    if (a) {~      import.meta.hot.invalidate();~    }~  } else {~    import.meta.hot.invalidate(k.x);~  }~});~
+import.meta.hot.decline(); import.meta.hot.accept(); import './x.js'|import.meta.hot.decline();~import.meta.hot.accept();~import "./x.js";~imports /a/x.js~self~declines~
+import { a } from './x.js'; export let n = a; import.meta.hot.accept(); import.meta.hot.accept('./x.js'); import.meta.hot.decline()|import { a } from "./x.js";~export let n = a;~import.meta.hot.accept();~import.meta.hot.accept("./x.js");~import.meta.hot.decline();~imports /a/x.js~exports n~self~accepts /a/x.js~declines~
 import.meta.hot.dispose((d) => { d.k = 1 }); import.meta.hot.decline()|import.meta.hot.dispose(() => {~  import.meta.hot.data.k = 1;~});~import.meta.hot.decline();~declines~
 let /* ' **/$_9Z//"' y~= 0|let $_9Z = 0;~
 let a = 9007199254740991/**/-12|let a = 9007199254740991 - 12;~

@@ -119,6 +119,17 @@ def commands():
         yield Run([folder if word == "FOLDER" else word for word in words.split(" ")], b"# nothing\n\n", 0, report)
 
 
+def edits():
+    """Edits are made in their order, each under the next version; a removal of what isn't there counts for nothing."""
+    folder = str(pathlib.Path(__file__).parent)
+    text = b"edit /m.js\n|let a = 1;\n|\nremove /n.js\n# so far\n\nedit /n.js\n|import './m.js'\nedit /m.js\n"
+    report = re.compile(rb"listening \d+\nsteps \d+\nfresh\n/m\.js 3\n/n\.js 2\n")
+    yield Run(["serve", folder, "/n.js", "--edits"], text, 0, report)
+    removed = text + b"remove /m.js\n"
+    report = re.compile(rb"listening \d+\nsteps \d+\nfresh\n/n\.js 2\nmissing /m\.js\n")
+    yield Run(["serve", folder, "/n.js", "--edits"], removed, 0, report)
+
+
 def runs():
     yield no_command("")
     for line in OTHERS.strip("\n").split("\n"):
@@ -127,3 +138,4 @@ def runs():
         line, word = at.split(" ")
         yield Run(["serve", ".", "/m.js", "--edits"], text, 3, f"script fault at line {line}: {word}\n".encode())
     yield from commands()
+    yield from edits()
