@@ -3,8 +3,10 @@
 ghost use Rattle.std.specs.Prelude.{◌≡◌};
 ghost use Rattle.hmr_hub.specs.Passes.{IsPassOf, number_of};
 
+use crate::filling::fill;
+use crate::loading::load_and_leave;
+use crate::serving::{edit, settle};
 use crate::words::{all_said, lines_said};
-use crate::{edit, fill, load_and_leave, settle};
 use hmr_hub::{Hub, HubStop, Pass};
 use hmr_types::{EditRefusal, ModName, Table};
 use server_core::{Event, Reply};

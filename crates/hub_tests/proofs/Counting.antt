@@ -8,7 +8,7 @@ use Rattle.turn_lock.specs.Histories.{calls}
 use Rattle.hmr_hub.specs.declared.pass.Pass.{Pass}
 use Rattle.hmr_hub.specs.Calls.{Called, SameKnower}
 use Rattle.hmr_hub.specs.Passes.{known_of, number_of, seen_of}
-use Rattle.hub_meeting_tests.specs.Counts.{made_by}
+use Rattle.hub_tests.specs.Counts.{made_by}
 
 -- an event that was answered is one entry more
 pub one_more : (event : Event) (reply : Reply) (p q : Pass) → Called event (Ok reply) p q → SameKnower p q → made_by q ≡ made_by p + 1

@@ -3,7 +3,7 @@ ghost use Rattle.std.specs.Prelude.{◌≡◌, ◌+◌, [], IfSome, IsSome, true
 ghost use Rattle.server_core.specs.Said.{event_of};
 ghost use Rattle.hmr_hub.specs.Passes.{IsPassOf, number_of, seen_of};
 ghost use Rattle.hmr_hub.specs.Transcripts.{HasVersion, may_make};
-ghost use Rattle.hub_meeting_tests.specs.Counts.{made_by};
+ghost use Rattle.hub_tests.specs.Counts.{made_by};
 
 use hmr_hub::{Hub, Pass};
 use server_core::{Event, Reply};

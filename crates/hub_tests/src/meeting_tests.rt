@@ -1,5 +1,5 @@
 // What a hub reports of clients that came and went in two threads.
-use super::*;
+use crate::meeting::two_hundred;
 use hmr_hub::{Hub, ReportLine};
 use hmr_types::ModName;
 use std::alloc::{AllocError, Global};

@@ -1,8 +1,8 @@
 use Rattle.std.proofs.Common.{subst}
 use Rattle.server_core.specs.Said.{event_of}
 use Rattle.hmr_hub.specs.Calls.{Called}
-use Rattle.hub_meeting_tests.proofs.Counting.{one_more}
-use Rattle.hub_meeting_tests.proofs.meeting.tell.Goals as goal
+use Rattle.hub_tests.proofs.Counting.{one_more}
+use Rattle.hub_tests.proofs.meeting.tell.Goals as goal
 
 pub returns-in-Ok-clause-made : goal.returns-in-Ok-clause-made
 returns-in-Ok-clause-made g c = λ _.
