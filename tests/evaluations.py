@@ -32,6 +32,8 @@ a => 1
 b => uninitialised b
 gone => uninitialised gone
 1 ?? gone => 1
+undefined => undefined
+-9007199254740991 => -9007199254740991
 a ? 3 : gone => 3
 """
 
@@ -195,6 +197,16 @@ dep code {1}
     yield play(loaded + saved + SAVE + "fates 1\n", told)
 
 
+def failing():
+    """A callback on the module itself, and a prune handler, that fail; the message of an empty text keeps its space."""
+    text = "import './a.js'; import.meta.hot.accept(() => { console.log('own'); throw '' }); throw ''"
+    pruned = edit("/a.js", "import.meta.hot.prune(() => { console.log('prune'); console.log(1 - 'a') })")
+    told = "1 fault /m.js module thrown \n1 loaded\n" + UPDATE
+    told += "1 log /m.js own\n1 fault /m.js own thrown \n1 updated\n"
+    told += "1 log /a.js prune\n1 fault /a.js prune not-number\n1 pruned /a.js\n"
+    yield play(script(edit("/m.js", text), pruned, LOAD, edit("/m.js", ""), SAVE), told)
+
+
 def unset():
     """A handler of an instance whose evaluation failed finds its later variables unset; a parameter past the last module
     that a list names is undefined."""
@@ -256,6 +268,7 @@ def runs():
         yield body(text, want.strip(), is_given=False)
     yield from bags()
     yield from handlers()
+    yield from failing()
     yield from unset()
     yield from long_rows()
     yield from escapes()

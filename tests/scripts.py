@@ -91,6 +91,13 @@ def runs():
     yield fault(b"\xff" * 65_536, 1, "not-utf8")
     yield fault(b"\xff\n", 1, "not-utf8")
     yield play("\n" * 1_000, "")
+    # A 33rd client is refused; a text has at most 131,072 bytes, and there are at most 8,192 names.
+    yield play("root /m.js\nquiet\n" + "open\n" * 33, "open refused\n")
+    for length, line in [(131_072, "edit /m.js job 1\n"), (131_073, "edit /m.js refused text-too-long\n")]:
+        lines = "|" + "x" * 65_000 + "\n|" + "x" * 65_000 + "\n|" + "x" * (length - 130_003) + "\n"
+        yield play(f"root /m.js\nedit /m.js\n{lines}", line)
+    edits = "".join(f"edit /m{number}.js\n" for number in range(8_193))
+    yield play(f"root /m.js\nquiet\n{edits}", "edit /m8192.js refused too-many-names\n")
     # An input has at most 16,777,216 bytes.
     yield Run(["play"], b"#" * 16_777_217, 8, b"limit input 16777216\n")
     yield fault("#" * 16_777_216, 1, "line-too-long")

@@ -96,7 +96,6 @@ FAULTS = r"""
 1:11 open-string=const a = "x
 1:1 open-string='a~b'
 1:2 open-string= 'a"
-1:16 bad-byte=console.log(1 ++ 2)
 1:6 bad-byte=a - --b
 1:2 bad-byte=01
 1:3 bad-byte=12a
