@@ -233,6 +233,13 @@ def long_rows():
     yield play(script(edit("/m.js", text), LOAD, edit("/m.js", ""), SAVE), told)
 
 
+def assignments():
+    """The last of many assignments of a handler stays: few are made one by one, more by an index of their names."""
+    for number in (15, 16, 17, 5_000):
+        held = f"a {1 + number}; b {2 + number}"
+        yield body("a = a + 1; " * (number - 1) + "b = a + 2; a = a + 1", held)
+
+
 def escapes():
     """In a message, a console line, a thrown text and a label a backslash, LF and CR are escaped; in quotes a tab and a
     quote are too."""
@@ -271,5 +278,6 @@ def runs():
     yield from failing()
     yield from unset()
     yield from long_rows()
+    yield from assignments()
     yield from escapes()
     yield from texts()

@@ -5,3 +5,4 @@ pub mod Taking
 pub mod Gaining
 pub mod Losing
 pub mod Shown
+pub mod Assigning

@@ -4,3 +4,4 @@ pub mod Scopes
 pub mod Taking
 pub mod Holding
 pub mod Showing
+pub mod Assigning
