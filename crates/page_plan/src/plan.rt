@@ -75,25 +75,30 @@ impl Plan {
         version: Ver,
         analysis: Analysis,
     ) -> Result<(), AllocError>
-        ensures ok { (p : Plan) → IsSamePlan p self.old → OnOk result (IsSamePlan (record p { staged = with_row name (record { version = version; analysis = analysis }) p.staged }) self.new) }
-        ensures staged { OnOk result (self.new ≡ record self.old { staged = put_entry name (record { version = version; analysis = analysis }) self.old.staged }) }
+        ensures ok { (p : Plan) → IsSamePlan p self.old
+            → OnOk result
+            (IsSamePlan
+            (record p {
+              staged = with_row name
+                  (record { version = version; analysis = analysis }) p.staged;
+            }) self.new) }
+        ensures staged { OnOk result
+            (self.new
+            ≡ record self.old {
+              staged = put_entry name
+                  (record { version = version; analysis = analysis }) self.old.staged;
+            }) }
         ensures err { OnErr result (self.new ≡ self.old) }
     {
         self.staged.put(name, version, analysis)?;
         Ok(())
     }
 
-    /// What was fetched of a module: its version and its analysis. It takes no memory.
-    pub fn fetched(&self, name: &ModName) -> Option<(Ver, &Analysis)>
-        ensures { option_map (λ found. record { version = found.0; analysis = found.1.now }) result ≡ at self.now.staged name.now }
-    {
-        self.staged.get(name)
-    }
-
     /// The entry that a module has in the plan, over the page's modules: kept or fetched. It takes no
     /// memory.
     pub fn entry<'a>(&'a self, view: &'a View, name: &ModName) -> Option<(Ver, &'a Analysis)>
-        ensures { option_map (λ found. record { version = found.0; analysis = found.1.now }) result ≡ entry_at self.now view.now name.now }
+        ensures { option_map (λ found. record { version = found.0; analysis = found.1.now }) result
+            ≡ entry_at self.now view.now name.now }
     {
         if self.keeps(name)
             && let Some(kept) = view.get(name)

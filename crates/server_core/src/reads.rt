@@ -4,7 +4,6 @@ ghost use Rattle.std.specs.Option.{option_map};
 ghost use Rattle.core_model.specs.Core as model;
 ghost use Rattle.core_model.specs.Core.{client_at, core_after};
 ghost use Rattle.core_model.specs.Names.{at};
-ghost use Rattle.version_map.specs.Entries.{serving_of};
 ghost use Rattle.version_map.specs.Standing.{outstanding_in};
 ghost use Rattle.server_core.specs.Fresh.{load_of};
 ghost use Rattle.server_core.specs.Kept.{StandsFor};
@@ -15,19 +14,12 @@ use crate::fresh::{Fresh, fresh_load};
 use crate::page_core::Core;
 use hmr_types::{ClientId, ModName, Table};
 use std::alloc::{AllocError, Global};
-use version_map::Served;
 
 impl Core {
-    /// What is served of the name. It takes no memory.
-    pub fn served(&self, name: &ModName) -> Option<&Served>
-        ensures { (past : List model.Event) → StandsFor past self.now → option_map (λ s. serving_of s.now) result ≡ at (core_after self.now.roots past).sources.served name.now }
-    {
-        self.versions.served(name)
-    }
-
     /// Whether the name has a source for which no result came yet. It takes no memory.
     pub fn outstanding(&self, name: &ModName) -> bool
-        ensures { (past : List model.Event) → StandsFor past self.now → result ≡ outstanding_in (at (core_after self.now.roots past).sources.current name.now) }
+        ensures { (past : List model.Event) → StandsFor past self.now
+            → result ≡ outstanding_in (at (core_after self.now.roots past).sources.current name.now) }
     {
         self.versions.outstanding(name)
     }
@@ -35,7 +27,8 @@ impl Core {
     /// Whether the client is connected and nothing is to be done for it: its page is loaded, no plan is
     /// under way, and nothing is changed, dropped, forced or waiting as a notice. It takes no memory.
     pub fn at_rest(&self, client: ClientId) -> bool
-        ensures { (past : List model.Event) → StandsFor past self.now → result ≡ is_resting (core_after self.now.roots past) client }
+        ensures { (past : List model.Event) → StandsFor past self.now
+            → result ≡ is_resting (core_after self.now.roots past) client }
     {
         let Some(known) = record_of(&self.clients, client) else {
             return false;
@@ -45,7 +38,8 @@ impl Core {
 
     /// The roots of a connected client's page. It takes no memory.
     pub fn roots_of(&self, client: ClientId) -> Option<&[ModName]>
-        ensures { (past : List model.Event) → StandsFor past self.now → option_map (λ names. names.now) result ≡ roots_of (core_after self.now.roots past) client }
+        ensures { (past : List model.Event) → StandsFor past self.now
+            → option_map (λ names. names.now) result ≡ roots_of (core_after self.now.roots past) client }
     {
         let Some(known) = record_of(&self.clients, client) else {
             return None;
@@ -55,7 +49,8 @@ impl Core {
 
     /// The modules of a connected client's page with their versions, as the server has them.
     pub fn table(&self, alloc: Global, client: ClientId) -> Result<Option<Table>, AllocError>
-        ensures stands { (past : List model.Event) → StandsFor past self.now → IfOk result (λ table. table ≡ page_of (core_after self.now.roots past) client) }
+        ensures stands { (past : List model.Event) → StandsFor past self.now
+            → IfOk result (λ table. table ≡ page_of (core_after self.now.roots past) client) }
         ensures unknown { client_at self.now.clients client ≡ None → IsOk result }
     {
         let Some(known) = record_of(&self.clients, client) else {
@@ -68,7 +63,9 @@ impl Core {
     /// What a connected client's page would load anew, from its own roots. It looks at each reached
     /// module once, and reads the text of each that is served.
     pub fn fresh_of(&self, alloc: Global, client: ClientId) -> Result<Option<Fresh>, AllocError>
-        ensures stands { (past : List model.Event) → StandsFor past self.now → IfOk result (λ fresh. option_map load_of fresh ≡ load_at (core_after self.now.roots past) client) }
+        ensures stands { (past : List model.Event) → StandsFor past self.now
+            → IfOk result
+            (λ fresh. option_map load_of fresh ≡ load_at (core_after self.now.roots past) client) }
         ensures unknown { client_at self.now.clients client ≡ None → IsOk result }
     {
         let Some(known) = record_of(&self.clients, client) else {
