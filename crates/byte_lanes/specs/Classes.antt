@@ -32,4 +32,5 @@ is_in StringStop b = stops_string b
 
 -- bit i of the mask is set exactly where byte i passes
 abbrev pub IsMaskOf : (ℕ → Bool) → List ℕ → ℕ → Type 0
-IsMaskOf p bytes mask = (i : ℕ) → i < length bytes → bit_at mask i ≡ (if p (slice_index bytes i) then 1 else 0)
+IsMaskOf p bytes mask = (i : ℕ) → i < length bytes
+    → bit_at mask i ≡ (if p (slice_index bytes i) then 1 else 0)

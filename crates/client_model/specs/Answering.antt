@@ -111,7 +111,8 @@ invalidated n message r = and_then (write (line.Invalidated r.client n message) 
 -- an invalidation was ignored
 abbrev pub ignored : Name → Runtime → Did
 ignored n r =
-    and_then (write (line.Ignored r.client n) r) (λ r. nothing (record r { unsent = without_first r.unsent }))
+    and_then (write (line.Ignored r.client n) r)
+    (λ r. nothing (record r { unsent = without_first r.unsent }))
 
 -- `done`, by what was told
 abbrev pub done : ClientMsg → Language → Runtime → Did

@@ -103,7 +103,8 @@ abbrev pub run_handler : Language → FaultPlace → (Runtime → Handler → Li
     Option Handler → Runtime → Did
 run_handler language at arguments i spot None r = nothing r
 run_handler language at arguments i spot (Some h) r =
-    did_run at i spot h (run_deed language h.deed (scope_of language r i) (arguments r h) (bag_of r i.name)) r
+    did_run at i spot h
+    (run_deed language h.deed (scope_of language r i) (arguments r h) (bag_of r i.name)) r
 
 -- the handler at a place of an instance is run
 abbrev pub run_of : Language → FaultPlace → (Runtime → Handler → List (Option Slots)) →

@@ -43,7 +43,8 @@ pub record IsStale (r : Runtime) (b x : Name) : Type 0 where
 -- the stale edges, rising by importer and then by dependency
 abbrev pub stale_from : Runtime → Name → List (Name × Name)
 stale_from r b = map (λ x. (b, x))
-    (filter (λ x. not (same_link (link_of r b x) (live_number r x))) (sorted (imports_of (at r.page.view b))))
+    (filter
+    (λ x. not (same_link (link_of r b x) (live_number r x))) (sorted (imports_of (at r.page.view b))))
 
 -- all stale edges, rising by importer and then by dependency
 abbrev pub stale_of : Runtime → List (Name × Name)

@@ -1,5 +1,6 @@
 -- Names in a row, each once, and a map from each name to its place. The marked ones come first.
-use Rattle.std.specs.Prelude.{◌≡◌, ℕ, Bool, List, Option, Some, map, nat_eq, nat_lt, slice_get, if◌then◌else◌}
+use Rattle.std.specs.Prelude.{◌≡◌}
+use Rattle.std.specs.Prelude.{ℕ, Bool, List, Option, Some, map, nat_eq, nat_lt, slice_get, if◌then◌else◌}
 use Rattle.std.specs.BTreeMap.{IsOrdered}
 use Rattle.std.specs.Cmp.Lexicographic.{slice_cmp}
 use Rattle.std.specs.Option.{option_map}

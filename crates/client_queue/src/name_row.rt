@@ -1,6 +1,7 @@
 // Names in a row, each once, with a map from each name to its place. So a name is found, put to another
 // place and taken out in the time of a few look-ups, and none of that takes memory.
-ghost use Rattle.std.specs.Prelude.{◌≡◌, ◌+◌, ◌-◌, ◌<◌, ◌≤◌, ◌++◌, ◌∷◌, ℕ, [], None, Some, IsSome, OnErr, OnOk, if◌then◌else◌, length, take};
+ghost use Rattle.std.specs.Prelude.{◌≡◌, ◌+◌, ◌-◌, ◌<◌, ◌≤◌, ◌++◌, ◌∷◌, []};
+ghost use Rattle.std.specs.Prelude.{ℕ, None, Some, IsSome, OnErr, OnOk, if◌then◌else◌, length, take};
 ghost use Rattle.std.specs.BTreeMap.{IsOrdered};
 ghost use Rattle.std.specs.Cmp.Lexicographic.{slice_cmp};
 ghost use Rattle.std.specs.List.{swap};
@@ -53,7 +54,9 @@ impl NameRow {
         requires row { IsRow self.old }
         requires unknown { at self.old.places.entries name ≡ None }
         ensures row { IsRow self.new }
-        ensures places { OnOk result (IsSetAt name (Some (length self.old.names.items)) self.old.places.entries self.new.places.entries) }
+        ensures places { OnOk result
+            (IsSetAt name
+            (Some (length self.old.names.items)) self.old.places.entries self.new.places.entries) }
         ensures names { OnOk result (self.new.names.items ≡ self.old.names.items ++ name ∷ []) }
         ensures places_kept { OnErr result (self.new.places.entries ≡ self.old.places.entries) }
         ensures names_kept { OnErr result (self.new.names.items ≡ self.old.names.items) }
@@ -72,7 +75,8 @@ impl NameRow {
         requires i_within { i < length self.old.names.items }
         requires j_within { j < length self.old.names.items }
         ensures row { IsRow self.new }
-        ensures places { (m : Name) → at self.new.places.entries m ≡ option_map (exchanged i j) (at self.old.places.entries m) }
+        ensures places { (m : Name) → at self.new.places.entries m
+            ≡ option_map (exchanged i j) (at self.old.places.entries m) }
         ensures names { self.new.names.items ≡ swap self.old.names.items i j }
     {
         self.names.swap(i, j);
@@ -85,7 +89,10 @@ impl NameRow {
         requires row { IsRow self.old }
         requires there { at self.old.places.entries name.now ≡ Some place }
         ensures row { IsRow self.new }
-        ensures places { (m : Name) → at self.new.places.entries m ≡ (if same_name name.now m then None else option_map (exchanged place (length self.old.names.items - 1)) (at self.old.places.entries m)) }
+        ensures places { (m : Name) → at self.new.places.entries m
+            ≡ (if same_name name.now m then None
+            else option_map (exchanged place (length self.old.names.items - 1))
+            (at self.old.places.entries m)) }
         ensures len { length self.new.names.items + 1 ≡ length self.old.names.items }
     {
         let last = self.names.len() - 1;

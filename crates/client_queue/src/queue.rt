@@ -1,11 +1,13 @@
 // What the server has in store for a client: the names that it knows, of which some are marked, the
 // forced names, the waiting notices and the hold.
-ghost use Rattle.std.specs.Prelude.{◌≡◌, ◌≤◌, [], None, Some, IfOk, IsOk, OnOk, OnErr, drop, filter, not, true, false};
+ghost use Rattle.std.specs.Prelude.{◌≡◌, ◌≤◌, []};
+ghost use Rattle.std.specs.Prelude.{None, Some, IfOk, IsOk, OnOk, OnErr, drop, filter, not, true, false};
 ghost use Rattle.std.specs.Cmp.Lexicographic.{slice_cmp};
 ghost use Rattle.std.specs.List.Sorted.{IsStrictlySortedBy};
 ghost use Rattle.std.specs.Ordering.{nat_cmp};
 ghost use Rattle.core_model.specs.Names.{Name, at, first_of, has, names_of, put_name, same_name, without};
-ghost use Rattle.client_queue.specs.Queue.{MarkIs, is_clear, is_marked, mark_where_known, marked_of, put_row};
+ghost use Rattle.client_queue.specs.Queue.{MarkIs, is_clear, is_marked, mark_where_known};
+ghost use Rattle.client_queue.specs.Queue.{marked_of, put_row};
 
 use crate::known::KnownNames;
 use crate::sorted::{first, put_name, put_row, without_name, without_row};
@@ -35,9 +37,17 @@ impl Model for ClientQueue {
 
     ghost Value = { Queue };
 
-    ghost view = { λ q. record { known = q.known; forced = q.forced.items; notices = q.notices.items; held = q.held; spare = vec_capacity q.notices - vec_len q.notices } };
+    ghost view = { λ q.
+        record {
+          known = q.known;
+          forced = q.forced.items;
+          notices = q.notices.items;
+          held = q.held;
+          spare = vec_capacity q.notices - vec_len q.notices;
+        } };
 
-    ghost invariant = { λ q. IsStrictlySortedBy (slice_cmp nat_cmp) q.forced.items × IsStrictlySortedBy (slice_cmp nat_cmp) (names_of q.notices.items) };
+    ghost invariant = { λ q. IsStrictlySortedBy (slice_cmp nat_cmp) q.forced.items
+        × IsStrictlySortedBy (slice_cmp nat_cmp) (names_of q.notices.items) };
 }
 
 impl ClientQueue {
@@ -77,7 +87,8 @@ impl ClientQueue {
 
     /// The name is marked from now on, where it is known; else nothing changes. It takes no memory.
     pub fn mark(&mut self, name: &ModName)
-        ensures mark { MarkIs name.now (mark_where_known true (at self.old.known name.now)) self.old self.new }
+        ensures mark { MarkIs name.now
+            (mark_where_known true (at self.old.known name.now)) self.old self.new }
         ensures kept { self.new ≡ record self.old { known = self.new.known } }
     {
         self.known.mark(name);
@@ -85,7 +96,8 @@ impl ClientQueue {
 
     /// The name is marked no more. It takes no memory.
     pub fn unmark(&mut self, name: &ModName)
-        ensures mark { MarkIs name.now (mark_where_known false (at self.old.known name.now)) self.old self.new }
+        ensures mark { MarkIs name.now
+            (mark_where_known false (at self.old.known name.now)) self.old self.new }
         ensures kept { self.new ≡ record self.old { known = self.new.known } }
     {
         self.known.unmark(name);
@@ -121,7 +133,8 @@ impl ClientQueue {
 
     /// The name is forced no more. It takes no memory.
     pub fn unforce(&mut self, name: &ModName)
-        ensures { self.new ≡ record self.old { forced = filter (λ m. not (same_name m name.now)) self.old.forced } }
+        ensures { self.new
+            ≡ record self.old { forced = filter (λ m. not (same_name m name.now)) self.old.forced } }
     {
         without_name(&mut self.forced, name);
     }
@@ -144,7 +157,9 @@ impl ClientQueue {
     /// A fault of this module waits to be told, in place of an earlier one. With `spare` at least 1 it
     /// isn't refused. A refusal changes nothing.
     pub fn notice(&mut self, name: ModName, fault: TextFault) -> Result<(), AllocError>
-        ensures ok { OnOk result (self.new ≡ record self.old { notices = put_row name fault self.old.notices; spare = self.new.spare }) }
+        ensures ok { OnOk result
+            (self.new
+            ≡ record self.old { notices = put_row name fault self.old.notices; spare = self.new.spare }) }
         ensures err { OnErr result (self.new ≡ record self.old { spare = self.new.spare }) }
         ensures room { 1 ≤ self.old.spare → IsOk result }
     {
@@ -153,7 +168,8 @@ impl ClientQueue {
 
     /// No fault of this module waits to be told. It takes no memory.
     pub fn drop_notice(&mut self, name: &ModName)
-        ensures { self.new ≡ record self.old { notices = without name.now self.old.notices; spare = self.new.spare } }
+        ensures { self.new
+            ≡ record self.old { notices = without name.now self.old.notices; spare = self.new.spare } }
     {
         without_row(&mut self.notices, name);
     }
@@ -161,7 +177,8 @@ impl ClientQueue {
     /// Takes the waiting fault of the least name. It takes no memory.
     pub fn next_notice(&mut self) -> Option<(ModName, TextFault)>
         ensures notice { result ≡ first_of self.old.notices }
-        ensures left { self.new ≡ record self.old { notices = drop 1 self.old.notices; spare = self.new.spare } }
+        ensures left { self.new
+            ≡ record self.old { notices = drop 1 self.old.notices; spare = self.new.spare } }
         ensures rising { IsStrictlySortedBy (slice_cmp nat_cmp) (names_of self.old.notices) }
     {
         first(&mut self.notices)

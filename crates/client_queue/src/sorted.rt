@@ -1,5 +1,6 @@
 // Names, and entries by name, that rise by bytes: putting in, taking out, and the first.
-ghost use Rattle.std.specs.Prelude.{◌≡◌, ◌≤◌, ◌<◌, ◌-◌, IfOk, IfErr, IsOk, OnOk, OnErr, drop, filter, length, not, slice_set, vec_len, vec_capacity};
+ghost use Rattle.std.specs.Prelude.{◌≡◌, ◌≤◌, ◌<◌, ◌-◌, IfOk, IfErr, IsOk, OnOk, OnErr, drop};
+ghost use Rattle.std.specs.Prelude.{filter, length, not, slice_set, vec_len, vec_capacity};
 ghost use Rattle.std.specs.Cmp.Lexicographic.{slice_cmp};
 ghost use Rattle.std.specs.List.{insert};
 ghost use Rattle.std.specs.List.Sorted.{IsStrictlySortedBy};
@@ -15,7 +16,8 @@ use std::alloc::AllocError;
 pub(crate) fn put_name(names: &mut Vec<ModName>, name: ModName) -> Result<(), AllocError>
     ensures ok { OnOk result (names.new.items ≡ put_name name names.old.items) }
     ensures err { OnErr result (names.new.items ≡ names.old.items) }
-    ensures rising { IsStrictlySortedBy (slice_cmp nat_cmp) names.old.items → IsStrictlySortedBy (slice_cmp nat_cmp) names.new.items }
+    ensures rising { IsStrictlySortedBy (slice_cmp nat_cmp) names.old.items
+        → IsStrictlySortedBy (slice_cmp nat_cmp) names.new.items }
 {
     if let Err(place) = name_place(names, &name) {
         names.insert(place, name)?;
@@ -43,7 +45,8 @@ fn name_place(names: &[ModName], name: &ModName) -> Result<usize, usize>
 /// Takes a name out.
 pub(crate) fn without_name(names: &mut Vec<ModName>, name: &ModName)
     ensures items { names.new.items ≡ filter (λ m. not (same_name m name.now)) names.old.items }
-    ensures rising { IsStrictlySortedBy (slice_cmp nat_cmp) names.old.items → IsStrictlySortedBy (slice_cmp nat_cmp) names.new.items }
+    ensures rising { IsStrictlySortedBy (slice_cmp nat_cmp) names.old.items
+        → IsStrictlySortedBy (slice_cmp nat_cmp) names.new.items }
 {
     names.retain(|n| n != name);
 }
@@ -58,7 +61,8 @@ pub(crate) fn put_row(
     ensures ok { OnOk result (rows.new.items ≡ put_row name fault rows.old.items) }
     ensures err { OnErr result (rows.new.items ≡ rows.old.items) }
     ensures room { 1 ≤ vec_capacity rows.old - vec_len rows.old → IsOk result }
-    ensures rising { IsStrictlySortedBy (slice_cmp nat_cmp) (names_of rows.old.items) → IsStrictlySortedBy (slice_cmp nat_cmp) (names_of rows.new.items) }
+    ensures rising { IsStrictlySortedBy (slice_cmp nat_cmp) (names_of rows.old.items)
+        → IsStrictlySortedBy (slice_cmp nat_cmp) (names_of rows.new.items) }
 {
     match row_place(rows, &name) {
         Ok(place) => {
@@ -74,9 +78,11 @@ pub(crate) fn put_row(
 
 // Where the entry of a name stands, or else where it belongs.
 fn row_place(rows: &[(ModName, TextFault)], name: &ModName) -> Result<usize, usize>
-    ensures there { IfOk result (λ i. (x : TextFault) → put_row name.now x rows.now ≡ slice_set rows.now i (name.now, x)) }
+    ensures there { IfOk result
+        (λ i. (x : TextFault) → put_row name.now x rows.now ≡ slice_set rows.now i (name.now, x)) }
     ensures there_within { IfOk result (λ i. i < length rows.now) }
-    ensures free { IfErr result (λ i. (x : TextFault) → put_row name.now x rows.now ≡ insert rows.now i (name.now, x)) }
+    ensures free { IfErr result
+        (λ i. (x : TextFault) → put_row name.now x rows.now ≡ insert rows.now i (name.now, x)) }
     ensures free_within { IfErr result (λ i. i ≤ length rows.now) }
 {
     for place in 0..rows.len() {
@@ -93,7 +99,8 @@ fn row_place(rows: &[(ModName, TextFault)], name: &ModName) -> Result<usize, usi
 /// Takes the entry of a name out.
 pub(crate) fn without_row(rows: &mut Vec<(ModName, TextFault)>, name: &ModName)
     ensures items { rows.new.items ≡ without name.now rows.old.items }
-    ensures rising { IsStrictlySortedBy (slice_cmp nat_cmp) (names_of rows.old.items) → IsStrictlySortedBy (slice_cmp nat_cmp) (names_of rows.new.items) }
+    ensures rising { IsStrictlySortedBy (slice_cmp nat_cmp) (names_of rows.old.items)
+        → IsStrictlySortedBy (slice_cmp nat_cmp) (names_of rows.new.items) }
 {
     rows.retain(|row| row.0 != *name);
 }
@@ -102,7 +109,8 @@ pub(crate) fn without_row(rows: &mut Vec<(ModName, TextFault)>, name: &ModName)
 pub(crate) fn first(rows: &mut Vec<(ModName, TextFault)>) -> Option<(ModName, TextFault)>
     ensures first { result ≡ first_of rows.old.items }
     ensures left { rows.new.items ≡ drop 1 rows.old.items }
-    ensures rising { IsStrictlySortedBy (slice_cmp nat_cmp) (names_of rows.old.items) → IsStrictlySortedBy (slice_cmp nat_cmp) (names_of rows.new.items) }
+    ensures rising { IsStrictlySortedBy (slice_cmp nat_cmp) (names_of rows.old.items)
+        → IsStrictlySortedBy (slice_cmp nat_cmp) (names_of rows.new.items) }
 {
     if rows.len() == 0 {
         return None;

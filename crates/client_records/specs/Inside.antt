@@ -14,7 +14,17 @@ use Rattle.client_records.specs.declared.client_record.ClientRecord.TheInside.{I
 
 -- the parts, as contracts see them
 abbrev pub kept_of : Inside → Kept
-kept_of a = record { roots = a.roots; batches = a.batches; loaded = a.loaded; view = a.view; queue = a.queue; plan = a.plan; plan_at = a.plan_at; dropped = a.dropped }
+kept_of a =
+    record {
+      roots = a.roots;
+      batches = a.batches;
+      loaded = a.loaded;
+      view = a.view;
+      queue = a.queue;
+      plan = a.plan;
+      plan_at = a.plan_at;
+      dropped = a.dropped;
+    }
 
 -- the version of a module is that of a counted edit
 abbrev pub IsCounted : Entry → Type 0

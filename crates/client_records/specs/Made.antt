@@ -14,15 +14,19 @@ pub record IsGrown (old new : Queue) : Type 0 where
 
 -- the mark of a name, where this is the page: by its version there; what isn't on the page isn't known
 abbrev pub mark_on : View → Sources → Name → Option Bool → Option Bool
-mark_on page s n old = if is_in page n then mark_where_known (differs (at page n) (at s.served n)) old else None
+mark_on page s n old = if is_in page n then mark_where_known (differs (at page n) (at s.served n)) old
+    else None
 
 -- these names are marked as their versions on the page want it
 pub record AreRenewed (names : List Name) (page : View) (s : Sources) (old new : Queue) : Type 0 where
-  pub known : (n : Name) → at new.known n ≡ (if has names n then mark_on page s n (at old.known n) else at old.known n)
+  pub known : (n : Name)
+      → at new.known n ≡ (if has names n then mark_on page s n (at old.known n) else at old.known n)
   pub kept : new ≡ record old { known = new.known }
 
 -- the page has the modules that were made, each is marked as its version wants it, and no plan is under way
 pub record HasMade (s : Sources) (made : View) (old new : Kept) : Type 0 where
-  pub kept : new ≡ record old { loaded = true; view = made; queue = new.queue; plan = None; dropped = dropped_of made old.roots }
+  pub kept : new
+      ≡ record old
+      { loaded = true; view = made; queue = new.queue; plan = None; dropped = dropped_of made old.roots }
   pub queue : new.queue ≡ record old.queue { known = new.queue.known; forced = []; held = None }
   pub marks : (n : Name) → is_marked new.queue n ≡ differs (at made n) (at s.served n)

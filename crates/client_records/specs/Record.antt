@@ -39,7 +39,8 @@ pub record IsRecord (s : Sources) (c : Client) (kept : Kept) : Type 0 where
   pub held : kept.queue.held ≡ c.held_at
   pub notices : (n : Name) → at kept.queue.notices n ≡ at c.notices n
   pub dropped : kept.dropped ≡ dropped c
-  pub marks : (n : Name) → is_marked kept.queue n ≡ differs (at c.page.view n) (at s.served n)  -- what isn't as it is served
+  -- what isn't as it is served
+  pub marks : (n : Name) → is_marked kept.queue n ≡ differs (at c.page.view n) (at s.served n)
 
 -- of each other name the same is served
 abbrev pub SameBut : Name → Sources → Sources → Type 0
@@ -47,4 +48,6 @@ SameBut n s t = (m : Name) → same_name n m ≡ false → at t.served m ≡ at 
 
 -- nothing is to be done for the client
 abbrev pub is_at_rest : Sources → Client → Bool
-is_at_rest s c = c.page.loaded && is_none c.page.plan && is_none_left (changed s c) && is_none_left c.page.forced && is_none_left (dropped c) && is_none_left c.notices
+is_at_rest s c =
+    c.page.loaded && is_none c.page.plan && is_none_left (changed s c) && is_none_left c.page.forced
+    && is_none_left (dropped c) && is_none_left c.notices

@@ -1,5 +1,6 @@
 -- The steps of the core's definitions, on what is kept.
-use Rattle.std.specs.Prelude.{◌≡◌, ◌≤◌, ◌++◌, ⊤, List, [], ◌∷◌, length, Option, Some, None, Bool, true, false}
+use Rattle.std.specs.Prelude.{◌≡◌, ◌≤◌, ◌++◌, ⊤, [], ◌∷◌}
+use Rattle.std.specs.Prelude.{List, length, Option, Some, None, Bool, true, false}
 use Rattle.propagate.specs.Passing.{cause_in, path_of}
 use Rattle.core_model.specs.Names.{Name, with_row, sorted}
 use Rattle.core_model.specs.Sources.{Sources}
@@ -7,7 +8,8 @@ use Rattle.core_model.specs.Page.{Plan}
 use Rattle.core_model.specs.View.{View, Entry, changed_of}
 use Rattle.core_model.specs.Spread.{cause_of, reason_of, replaced_of, pairs_of}
 use Rattle.core_model.specs.Client.{same_number}
-use Rattle.core_model.specs.Asking.{AskRow, load, idle, prune, reload, update, row_loaded, row_dropped, row_held, row_reason, row_replaced}
+use Rattle.core_model.specs.Asking.{AskRow, load, idle, prune, reload, update, row_loaded}
+use Rattle.core_model.specs.Asking.{row_dropped, row_held, row_reason, row_replaced}
 use Rattle.core_model.specs.Requests.{FetchRow, text, not_yet, broken, missing}
 use Rattle.client_records.specs.Record.{Kept}
 use Rattle.client_records.specs.declared.row.Row.{Row}
@@ -15,7 +17,8 @@ use Rattle.client_records.specs.declared.row.Row.TheVariants as rows
 
 -- the plan after a Fetch: a served text is staged
 abbrev pub fetched_plan : FetchRow → Name → Plan → Plan
-fetched_plan (text s) n p = record p { staged = with_row n (record { version = s.version; analysis = s.analysis }) p.staged }
+fetched_plan (text s) n p =
+    record p { staged = with_row n (record { version = s.version; analysis = s.analysis }) p.staged }
 fetched_plan not_yet n p = p
 fetched_plan (broken fault) n p = p
 fetched_plan missing n p = p
@@ -28,11 +31,13 @@ is_held_at s k = same_number k.queue.held s.served_no
 abbrev pub due_row : Sources → Kept → AskRow
 due_row s k =
     row_reason (reason_of k.view k.roots (changed_of s.served k.view) k.queue.forced)
-    (row_replaced (replaced_of k.view (changed_of s.served k.view) k.queue.forced) (pairs_of k.view (replaced_of k.view (changed_of s.served k.view) k.queue.forced) k.queue.forced))
+    (row_replaced (replaced_of k.view (changed_of s.served k.view) k.queue.forced)
+    (pairs_of k.view (replaced_of k.view (changed_of s.served k.view) k.queue.forced) k.queue.forced))
 
 -- what there is to do where no plan is under way and no notice waits
 abbrev pub next_row : Sources → Kept → AskRow
-next_row s k = row_loaded k.loaded (is_held_at s k) (row_dropped k.dropped (row_held (is_held_at s k) (due_row s k)))
+next_row s k =
+    row_loaded k.loaded (is_held_at s k) (row_dropped k.dropped (row_held (is_held_at s k) (due_row s k)))
 
 -- the names that a reload or an update is for
 abbrev pub triggered_by : Sources → Kept → List Name
@@ -59,7 +64,8 @@ abbrev pub IsTellable : View → Row → Type 0
 IsTellable view rows.Idle = ⊤
 IsTellable view rows.Load = ⊤
 IsTellable view rows.Prune = ⊤
-IsTellable view (rows.Reload reason triggered) = (cause_in reason ≡ cause_of view (path_of reason)) × (1 ≤ length (path_of reason))
+IsTellable view (rows.Reload reason triggered) =
+    (cause_in reason ≡ cause_of view (path_of reason)) × (1 ≤ length (path_of reason))
 IsTellable view (rows.Update replaced pairs triggered) = ⊤
 
 -- what there is to do before anything that changed is looked at, if there is

@@ -15,8 +15,10 @@ impl ClientRecord {
     /// The plan under way is given up, and the client is held until something is served or removed. It
     /// takes no memory.
     pub fn aborted(&mut self, _sources: &VersionMap) -> Answer
-        ensures stands { (i : ℕ) (c : Client) → IsRecord _sources.now c self.old → IsRecord _sources.now (heard i _sources.now c aborted).0 self.new }
-        ensures reply { (i : ℕ) (c : Client) → IsRecord _sources.now c self.old → reply_of result ≡ (heard i _sources.now c aborted).1 }
+        ensures stands { (i : ℕ) (c : Client) → IsRecord _sources.now c self.old
+            → IsRecord _sources.now (heard i _sources.now c aborted).0 self.new }
+        ensures reply { (i : ℕ) (c : Client) → IsRecord _sources.now c self.old
+            → reply_of result ≡ (heard i _sources.now c aborted).1 }
         ensures written { IsWritten result }
     {
         if self.plan.is_none() {

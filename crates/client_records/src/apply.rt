@@ -35,10 +35,13 @@ impl ClientRecord {
         sources: &VersionMap,
         table: &Table,
     ) -> Result<Answer, AllocError>
-        ensures stands { (i : ℕ) (c : Client) → IsRecord sources.now c self.old → OnOk result (IsRecord sources.now (heard i sources.now c (applied_as table.now)).0 self.new) }
-        ensures reply { (i : ℕ) (c : Client) → IsRecord sources.now c self.old → IfOk result (λ answer. reply_of answer ≡ (heard i sources.now c (applied_as table.now)).1) }
+        ensures stands { (i : ℕ) (c : Client) → IsRecord sources.now c self.old
+            → OnOk result (IsRecord sources.now (heard i sources.now c (applied_as table.now)).0 self.new) }
+        ensures reply { (i : ℕ) (c : Client) → IsRecord sources.now c self.old
+            → IfOk result (λ answer. reply_of answer ≡ (heard i sources.now c (applied_as table.now)).1) }
         ensures written { IfOk result IsWritten }
-        ensures unchanged { (s : Sources) (c : Client) → IsRecord s c self.old → OnErr result (IsRecord s c self.new) }
+        ensures unchanged { (s : Sources) (c : Client) → IsRecord s c self.old
+            → OnErr result (IsRecord s c self.new) }
     {
         let Some(plan) = &self.plan else {
             return Ok(Answer::Refused(Refusal::OutOfTurn));
@@ -60,7 +63,8 @@ impl ClientRecord {
         requires rising { IsStrictlySortedBy (slice_cmp nat_cmp) (names_of made) }
         requires counted { AreCounted made }
         ensures made { OnOk result (HasMade sources.now made self.old self.new) }
-        ensures unchanged { (s : Sources) (c : Client) → IsRecord s c self.old → OnErr result (IsRecord s c self.new) }
+        ensures unchanged { (s : Sources) (c : Client) → IsRecord s c self.old
+            → OnErr result (IsRecord s c self.new) }
     {
         let dropped = unreached(alloc, &made, self.roots.as_slice())?;
         let names = both_names(alloc, &self.view, &made)?;

@@ -32,10 +32,13 @@ impl ClientRecord {
         sources: &VersionMap,
     ) -> Result<Answer, AllocError>
         requires { IsBetween 1 LARGEST_CLIENT number }
-        ensures stands { (c : Client) → IsRecord sources.now c self.old → OnOk result (IsRecord sources.now (heard number sources.now c ask).0 self.new) }
-        ensures reply { (c : Client) → IsRecord sources.now c self.old → IfOk result (λ answer. reply_of answer ≡ (heard number sources.now c ask).1) }
+        ensures stands { (c : Client) → IsRecord sources.now c self.old
+            → OnOk result (IsRecord sources.now (heard number sources.now c ask).0 self.new) }
+        ensures reply { (c : Client) → IsRecord sources.now c self.old
+            → IfOk result (λ answer. reply_of answer ≡ (heard number sources.now c ask).1) }
         ensures written { (c : Client) → IsRecord sources.now c self.old → IfOk result IsWritten }
-        ensures unchanged { (s : Sources) (c : Client) → IsRecord s c self.old → OnErr result (IsRecord s c self.new) }
+        ensures unchanged { (s : Sources) (c : Client) → IsRecord s c self.old
+            → OnErr result (IsRecord s c self.new) }
     {
         if !is_idle(&self.plan) {
             return Ok(Answer::Refused(Refusal::OutOfTurn));
@@ -54,8 +57,12 @@ impl ClientRecord {
         sources: &VersionMap,
     ) -> Result<Answer, AllocError>
         requires { IsBetween 1 LARGEST_CLIENT number }
-        ensures stands { (c : Client) → IsRecord sources.now c self.old → ask_row sources.now c ≡ next_row sources.now self.old → OnOk result (IsRecord sources.now (heard number sources.now c ask).0 self.new) }
-        ensures reply { (c : Client) → IsRecord sources.now c self.old → ask_row sources.now c ≡ next_row sources.now self.old → IfOk result (λ answer. reply_of answer ≡ (heard number sources.now c ask).1) }
+        ensures stands { (c : Client) → IsRecord sources.now c self.old
+            → ask_row sources.now c ≡ next_row sources.now self.old
+            → OnOk result (IsRecord sources.now (heard number sources.now c ask).0 self.new) }
+        ensures reply { (c : Client) → IsRecord sources.now c self.old
+            → ask_row sources.now c ≡ next_row sources.now self.old
+            → IfOk result (λ answer. reply_of answer ≡ (heard number sources.now c ask).1) }
         ensures written { (c : Client) → IsRecord sources.now c self.old → IfOk result IsWritten }
         ensures unchanged { OnErr result (self.new ≡ self.old) }
     {
@@ -72,9 +79,17 @@ impl ClientRecord {
         row: Row,
     ) -> Result<Answer, AllocError>
         requires { IsBetween 1 LARGEST_CLIENT number }
-        ensures stands { (c : Client) → IsRecord sources.now c self.old → OnOk result (IsRecord sources.now (asked (row_of self.old.dropped row) sources.now c) self.new) }
-        ensures reply { (c : Client) → IsRecord sources.now c self.old → IsFor row (triggered_by sources.now self.old) → IsTellable self.old.view row → IfOk result (λ answer. reply_of answer ≡ ask_reply number sources.now (asked (row_of self.old.dropped row) sources.now c) (row_of self.old.dropped row)) }
-        ensures written { (s : Sources) → IsFor row (triggered_by s self.old) → IsTellable self.old.view row → IfOk result IsWritten }
+        ensures stands { (c : Client) → IsRecord sources.now c self.old
+            → OnOk result
+            (IsRecord sources.now (asked (row_of self.old.dropped row) sources.now c) self.new) }
+        ensures reply { (c : Client) → IsRecord sources.now c self.old
+            → IsFor row (triggered_by sources.now self.old) → IsTellable self.old.view row
+            → IfOk result
+            (λ answer. reply_of answer
+            ≡ ask_reply number sources.now (asked (row_of self.old.dropped row) sources.now c)
+            (row_of self.old.dropped row)) }
+        ensures written { (s : Sources) → IsFor row (triggered_by s self.old) → IsTellable self.old.view row
+            → IfOk result IsWritten }
         ensures unchanged { OnErr result (self.new ≡ self.old) }
     {
         match row {

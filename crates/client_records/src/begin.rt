@@ -35,8 +35,10 @@ impl ClientRecord {
         sources: &VersionMap,
     ) -> Result<Answer, AllocError>
         requires { IsBetween 1 LARGEST_CLIENT number }
-        ensures stands { (c : Client) → IsRecord sources.now c self.old → OnOk result (IsRecord sources.now (asked asking.load sources.now c) self.new) }
-        ensures reply { IfOk result (λ answer. reply_of answer ≡ to_client (msg.Connected number self.old.roots)) }
+        ensures stands { (c : Client) → IsRecord sources.now c self.old
+            → OnOk result (IsRecord sources.now (asked asking.load sources.now c) self.new) }
+        ensures reply { IfOk result
+            (λ answer. reply_of answer ≡ to_client (msg.Connected number self.old.roots)) }
         ensures written { IfOk result IsWritten }
         ensures unchanged { OnErr result (self.new ≡ self.old) }
     {
@@ -56,8 +58,11 @@ impl ClientRecord {
         reason: Reason,
         triggered: Sequence<ModName>,
     ) -> Answer
-        ensures stands { (c : Client) → IsRecord sources.now c self.old → IsRecord sources.now (asked (asking.reload (path_of reason)) sources.now c) self.new }
-        ensures reply { reply_of result ≡ to_client (msg.FullReload (cause_in reason) (path_of reason) (next_batch self.old.batches) triggered) }
+        ensures stands { (c : Client) → IsRecord sources.now c self.old
+            → IsRecord sources.now (asked (asking.reload (path_of reason)) sources.now c) self.new }
+        ensures reply { reply_of result
+            ≡ to_client
+            (msg.FullReload (cause_in reason) (path_of reason) (next_batch self.old.batches) triggered) }
         ensures written { 1 ≤ length (path_of reason) → rise triggered ≡ true → IsWritten result }
     {
         let batch = self.count();
@@ -81,8 +86,14 @@ impl ClientRecord {
         pairs: &[(ModName, ModName)],
         triggered: Sequence<ModName>,
     ) -> Result<Answer, AllocError>
-        ensures stands { (c : Client) → IsRecord sources.now c self.old → OnOk result (IsRecord sources.now (asked (asking.update replaced pairs.now) sources.now c) self.new) }
-        ensures reply { IfOk result (λ answer. reply_of answer ≡ to_client (msg.Update replaced (map (js_update sources.now) pairs.now) (next_batch self.old.batches) triggered)) }
+        ensures stands { (c : Client) → IsRecord sources.now c self.old
+            → OnOk result
+            (IsRecord sources.now (asked (asking.update replaced pairs.now) sources.now c) self.new) }
+        ensures reply { IfOk result
+            (λ answer. reply_of answer
+            ≡ to_client
+            (msg.Update replaced (map (js_update sources.now) pairs.now)
+            (next_batch self.old.batches) triggered)) }
         ensures written { rise triggered ≡ true → IfOk result IsWritten }
         ensures unchanged { OnErr result (self.new ≡ self.old) }
     {

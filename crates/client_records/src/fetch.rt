@@ -32,10 +32,13 @@ impl ClientRecord {
         sources: &VersionMap,
         name: ModName,
     ) -> Result<Answer, AllocError>
-        ensures stands { (i : ℕ) (c : Client) → IsRecord sources.now c self.old → OnOk result (IsRecord sources.now (heard i sources.now c (fetch name)).0 self.new) }
-        ensures reply { (i : ℕ) (c : Client) → IsRecord sources.now c self.old → IfOk result (λ answer. reply_of answer ≡ (heard i sources.now c (fetch name)).1) }
+        ensures stands { (i : ℕ) (c : Client) → IsRecord sources.now c self.old
+            → OnOk result (IsRecord sources.now (heard i sources.now c (fetch name)).0 self.new) }
+        ensures reply { (i : ℕ) (c : Client) → IsRecord sources.now c self.old
+            → IfOk result (λ answer. reply_of answer ≡ (heard i sources.now c (fetch name)).1) }
         ensures written { IfOk result IsWritten }
-        ensures unchanged { (s : Sources) (c : Client) → IsRecord s c self.old → OnErr result (IsRecord s c self.new) }
+        ensures unchanged { (s : Sources) (c : Client) → IsRecord s c self.old
+            → OnErr result (IsRecord s c self.new) }
     {
         let Some(plan) = &mut self.plan else {
             return Ok(Answer::Refused(Refusal::OutOfTurn));
@@ -51,7 +54,8 @@ fn fetch_for(
     sources: &VersionMap,
     name: ModName,
 ) -> Result<Answer, AllocError>
-    ensures plan { (p : page.Plan) → IsSamePlan p plan.old → OnOk result (IsSamePlan (fetched_plan (fetch_row sources.now name) name p) plan.new) }
+    ensures plan { (p : page.Plan) → IsSamePlan p plan.old
+        → OnOk result (IsSamePlan (fetched_plan (fetch_row sources.now name) name p) plan.new) }
     ensures reply { IfOk result (λ answer. reply_of answer ≡ fetch_reply (fetch_row sources.now name) name) }
     ensures written { IfOk result IsWritten }
     ensures counted { AreFetched plan.old.staged → AreFetched plan.new.staged }

@@ -19,10 +19,13 @@ impl ClientRecord {
     /// The module is forced, where it is on the page at this version and accepts itself. A want of
     /// memory changes nothing.
     pub fn invalidate(&mut self, name: ModName, version: Ver) -> Result<Answer, AllocError>
-        ensures stands { (i : ℕ) (s : Sources) (c : Client) → IsRecord s c self.old → OnOk result (IsRecord s (heard i s c (invalidate name version)).0 self.new) }
-        ensures reply { (i : ℕ) (s : Sources) (c : Client) → IsRecord s c self.old → IfOk result (λ answer. reply_of answer ≡ (heard i s c (invalidate name version)).1) }
+        ensures stands { (i : ℕ) (s : Sources) (c : Client) → IsRecord s c self.old
+            → OnOk result (IsRecord s (heard i s c (invalidate name version)).0 self.new) }
+        ensures reply { (i : ℕ) (s : Sources) (c : Client) → IsRecord s c self.old
+            → IfOk result (λ answer. reply_of answer ≡ (heard i s c (invalidate name version)).1) }
         ensures written { IfOk result IsWritten }
-        ensures unchanged { (s : Sources) (c : Client) → IsRecord s c self.old → OnErr result (IsRecord s c self.new) }
+        ensures unchanged { (s : Sources) (c : Client) → IsRecord s c self.old
+            → OnErr result (IsRecord s c self.new) }
     {
         if self.plan.is_some() {
             return Ok(Answer::Refused(Refusal::OutOfTurn));

@@ -25,7 +25,8 @@ pub(crate) fn differs(view: &View, sources: &VersionMap, name: &ModName) -> bool
 
 /// Marks the name or not, where it is known. It takes no memory.
 pub(crate) fn set_mark(queue: &mut ClientQueue, name: &ModName, mark: bool)
-    ensures mark { MarkIs name.now (mark_where_known mark (at queue.old.known name.now)) queue.old queue.new }
+    ensures mark { MarkIs name.now
+        (mark_where_known mark (at queue.old.known name.now)) queue.old queue.new }
     ensures kept { queue.new ≡ record queue.old { known = queue.new.known } }
 {
     if mark {
@@ -72,7 +73,8 @@ pub(crate) fn renew_all(
 }
 
 fn renew(queue: &mut ClientQueue, name: &ModName, page: &View, sources: &VersionMap)
-    ensures mark { MarkIs name.now (mark_on page.now sources.now name.now (at queue.old.known name.now)) queue.old queue.new }
+    ensures mark { MarkIs name.now
+        (mark_on page.now sources.now name.now (at queue.old.known name.now)) queue.old queue.new }
     ensures kept { queue.new ≡ record queue.old { known = queue.new.known } }
 {
     if is_on(page, name) {

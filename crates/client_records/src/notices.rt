@@ -16,7 +16,8 @@ impl ClientRecord {
     /// marked where its version on the page isn't the served one, and its notice is taken away. It takes
     /// no memory.
     pub fn source_changed(&mut self, sources: &VersionMap, name: &ModName)
-        ensures { (s : Sources) (c : Client) → IsRecord s c self.old → SameBut name.now s sources.now → IsRecord sources.now (without_notice name.now c) self.new }
+        ensures { (s : Sources) (c : Client) → IsRecord s c self.old → SameBut name.now s sources.now
+            → IsRecord sources.now (without_notice name.now c) self.new }
     {
         let differs = differs(&self.view, sources, name);
         set_mark(&mut self.queue, name, differs);
@@ -27,7 +28,8 @@ impl ClientRecord {
     /// refusal changes nothing.
     pub fn room_for_notice(&mut self) -> Result<(), AllocError>
         ensures room { OnOk result (1 ≤ self.new.queue.spare) }
-        ensures kept { self.new ≡ record self.old { queue = record self.old.queue { spare = self.new.queue.spare } } }
+        ensures kept { self.new
+            ≡ record self.old { queue = record self.old.queue { spare = self.new.queue.spare } } }
         ensures stands { (s : Sources) (c : Client) → IsRecord s c self.old → IsRecord s c self.new }
     {
         self.queue.room()
@@ -36,7 +38,8 @@ impl ClientRecord {
     /// This fault of the module waits to be told, in place of an earlier one. It takes no memory.
     pub fn notice(&mut self, name: ModName, fault: TextFault)
         requires { 1 ≤ self.old.queue.spare }
-        ensures { (s : Sources) (c : Client) → IsRecord s c self.old → IsRecord s (with_notice name fault c) self.new }
+        ensures { (s : Sources) (c : Client) → IsRecord s c self.old
+            → IsRecord s (with_notice name fault c) self.new }
     {
         // There is room, so that it isn't refused.
         self.queue.notice(name, fault).unwrap();

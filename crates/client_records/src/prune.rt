@@ -21,7 +21,8 @@ use update_msgs::ServerMsg;
 impl ClientRecord {
     /// The dropped modules leave the page, and are forced no more. It takes no memory.
     pub(crate) fn prune(&mut self, alloc: Global) -> Answer
-        ensures stands { (s : Sources) (c : Client) → IsRecord s c self.old → IsRecord s (asked (asking.prune self.old.dropped) s c) self.new }
+        ensures stands { (s : Sources) (c : Client) → IsRecord s c self.old
+            → IsRecord s (asked (asking.prune self.old.dropped) s c) self.new }
         ensures reply { reply_of result ≡ to_client (msg.Prune self.old.dropped) }
         ensures written { IsWritten result }
     {

@@ -9,7 +9,8 @@ ghost use Rattle.core_model.specs.Sources.{Sources};
 ghost use Rattle.core_model.specs.Spread.{cause_of};
 ghost use Rattle.core_model.specs.View.{View};
 ghost use Rattle.client_records.specs.Record.{IsRecord};
-ghost use Rattle.client_records.specs.Steps.{IsFor, IsTellable, before_of, due_row, next_row, row_of, triggered_by};
+ghost use Rattle.client_records.specs.Steps.{IsFor, IsTellable, before_of, due_row};
+ghost use Rattle.client_records.specs.Steps.{next_row, row_of, triggered_by};
 
 use crate::client_record::{ClientRecord, none_left};
 use hmr_types::{ModName, Sequence};
@@ -37,8 +38,10 @@ pub(crate) enum Row {
 impl ClientRecord {
     /// What there is to do, where no plan is under way and no notice waits.
     pub(crate) fn row(&self, alloc: Global, sources: &VersionMap) -> Result<Row, AllocError>
-        ensures row { (c : Client) → IsRecord sources.now c self.now → IfOk result (λ row. row_of self.now.dropped row ≡ next_row sources.now self.now) }
-        ensures names { (c : Client) → IsRecord sources.now c self.now → IfOk result (λ row. IsFor row (triggered_by sources.now self.now)) }
+        ensures row { (c : Client) → IsRecord sources.now c self.now
+            → IfOk result (λ row. row_of self.now.dropped row ≡ next_row sources.now self.now) }
+        ensures names { (c : Client) → IsRecord sources.now c self.now
+            → IfOk result (λ row. IsFor row (triggered_by sources.now self.now)) }
         ensures tellable { IfOk result (IsTellable self.now.view) }
     {
         let held = is_held(self.queue.held(), sources.served_no());
@@ -52,8 +55,10 @@ impl ClientRecord {
     /// What is to be done for what changed on the page and for what is forced. It takes the time of
     /// the spread of these.
     pub(crate) fn due(&self, alloc: Global) -> Result<Row, AllocError>
-        ensures row { (s : Sources) (c : Client) → IsRecord s c self.now → IfOk result (λ row. (dropped : List Name) → row_of dropped row ≡ due_row s self.now) }
-        ensures names { (s : Sources) (c : Client) → IsRecord s c self.now → IfOk result (λ row. IsFor row (triggered_by s self.now)) }
+        ensures row { (s : Sources) (c : Client) → IsRecord s c self.now
+            → IfOk result (λ row. (dropped : List Name) → row_of dropped row ≡ due_row s self.now) }
+        ensures names { (s : Sources) (c : Client) → IsRecord s c self.now
+            → IfOk result (λ row. IsFor row (triggered_by s self.now)) }
         ensures tellable { IfOk result (IsTellable self.now.view) }
     {
         let changed = self.queue.marked(alloc)?;
@@ -88,9 +93,11 @@ fn before(loaded: bool, held: bool, undropped: bool) -> Option<Row>
 
 // The row of what a change comes to.
 fn row_for(spread: Spread, triggered: Sequence<ModName>) -> Row
-    ensures row { (dropped : List Name) → row_of dropped result ≡ row_reason (option_map path_of spread.reload) (row_replaced spread.replaced spread.pairs) }
+    ensures row { (dropped : List Name) → row_of dropped result
+        ≡ row_reason (option_map path_of spread.reload) (row_replaced spread.replaced spread.pairs) }
     ensures names { IsFor result triggered }
-    ensures tellable { (view : View) → IfSome spread.reload (λ r. (cause_in r ≡ cause_of view (path_of r)) × (1 ≤ length (path_of r))) → IsTellable view result }
+    ensures tellable { (view : View) → IfSome spread.reload
+        (λ r. (cause_in r ≡ cause_of view (path_of r)) × (1 ≤ length (path_of r))) → IsTellable view result }
 {
     let Spread {
         reload,

@@ -48,7 +48,8 @@ lines_by is_stopped = []
 -- the lines of each answer that was taken
 abbrev pub lines_of : Opening → Past → List ServerMsg → List OutLine
 lines_of opening past [] = []
-lines_of opening past (m ∷ ms) = lines_by (taken_after opening past m) ++ lines_of opening (message m ∷ past) ms
+lines_of opening past (m ∷ ms) =
+    lines_by (taken_after opening past m) ++ lines_of opening (message m ∷ past) ms
 
 -- the last request that is known, once so many were answered: bye, or that of the runtime
 abbrev pub next_asked : Bool → Opening → Past → ClientMsg

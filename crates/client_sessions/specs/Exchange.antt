@@ -17,7 +17,8 @@ use Rattle.client_model.specs.Runtime.{Opening}
 use Rattle.client_model.specs.Taking.{unexpected, instances_full}
 use Rattle.sessions.specs.Course.{IsAllButLast}
 use Rattle.sessions.specs.declared.ended.Ended.{Ended}
-use Rattle.sessions.specs.declared.ended.Ended.TheVariants.{Closed, LinkFault, BadMessage, Stopped, NoMemory, Unexpected, InstancesFull}
+use Rattle.sessions.specs.declared.ended.Ended.TheVariants.{Closed, LinkFault, BadMessage, Stopped}
+use Rattle.sessions.specs.declared.ended.Ended.TheVariants.{NoMemory, Unexpected, InstancesFull}
 use Rattle.client_sessions.specs.Asking.{taken_after}
 
 -- bytes read in a format as this message
@@ -31,7 +32,8 @@ pub record IsRefusedIn (format : ℕ) (bytes : List ℕ) (fault : MsgFault) : Ty
   pub known : fault ≢ faults.NoMemory
 
 -- the request was sent, and its answer read
-pub record Exchanged (format : ℕ) (asked : ClientMsg) (left left' sent sent' : Option (List (List ℕ))) (answer : ServerMsg) : Type 0 where
+pub record Exchanged (format : ℕ) (asked : ClientMsg) (left left' sent sent' : Option (List (List ℕ)))
+    (answer : ServerMsg) : Type 0 where
   pub bytes : List ℕ
   pub left_is : left ≡ told_front (bytes ∷ []) left'
   pub sent_is : sent' ≡ told_and sent (client_text asked ∷ [])
@@ -43,20 +45,28 @@ TookOne Last taken = (bytes : List ℕ) × (taken ≡ bytes ∷ []) × Last byte
 
 -- one message was taken that reads as an answer at which the session ends so
 abbrev pub TookLast : (ServerMsg → Ended → Type 0) → ℕ → Ended → List (List ℕ) → Type 0
-TookLast Takes format ended taken = TookOne (λ bytes. (m : ServerMsg) × ReadsIn format bytes m × Takes m ended) taken
+TookLast Takes format ended taken =
+    TookOne (λ bytes. (m : ServerMsg) × ReadsIn format bytes m × Takes m ended) taken
 
 -- how far a request had come when the session ended
-abbrev pub EndsBy : (ServerMsg → Ended → Type 0) → ℕ → List (List ℕ) → Ended → List (List ℕ) → List (List ℕ) → Option (List (List ℕ)) → Type 0
-EndsBy Takes format asked Closed taken sent left = (sent ≡ asked) × (((taken ≡ []) × IsNoneLeft left) ⊎ TookLast Takes format Closed taken)
+abbrev pub EndsBy : (ServerMsg → Ended → Type 0) → ℕ → List (List ℕ) → Ended → List (List ℕ) → List (List ℕ)
+    → Option (List (List ℕ)) → Type 0
+EndsBy Takes format asked Closed taken sent left =
+    (sent ≡ asked) × (((taken ≡ []) × IsNoneLeft left) ⊎ TookLast Takes format Closed taken)
 EndsBy Takes format asked LinkFault taken sent left = IsAllButLast sent asked × (taken ≡ [])
-EndsBy Takes format asked (BadMessage fault) taken sent left = (sent ≡ asked) × TookOne (λ bytes. IsRefusedIn format bytes fault) taken
+EndsBy Takes format asked (BadMessage fault) taken sent left =
+    (sent ≡ asked) × TookOne (λ bytes. IsRefusedIn format bytes fault) taken
 EndsBy Takes format asked Stopped taken sent left = (sent ≡ asked) × TookLast Takes format Stopped taken
-EndsBy Takes format asked NoMemory taken sent left = IsAllButLast sent asked × ((taken ≡ []) ⊎ TookOne (λ bytes. ⊤) taken)
-EndsBy Takes format asked (Unexpected wanted got) taken sent left = (sent ≡ asked) × TookLast Takes format (Unexpected wanted got) taken
-EndsBy Takes format asked InstancesFull taken sent left = (sent ≡ asked) × TookLast Takes format InstancesFull taken
+EndsBy Takes format asked NoMemory taken sent left =
+    IsAllButLast sent asked × ((taken ≡ []) ⊎ TookOne (λ bytes. ⊤) taken)
+EndsBy Takes format asked (Unexpected wanted got) taken sent left =
+    (sent ≡ asked) × TookLast Takes format (Unexpected wanted got) taken
+EndsBy Takes format asked InstancesFull taken sent left =
+    (sent ≡ asked) × TookLast Takes format InstancesFull taken
 
 -- the session ended at this request
-pub record Ends (format : ℕ) (asked : ClientMsg) (Takes : ServerMsg → Ended → Type 0) (left left' sent sent' : Option (List (List ℕ))) (ended : Ended) : Type 0 where
+pub record Ends (format : ℕ) (asked : ClientMsg) (Takes : ServerMsg → Ended → Type 0)
+    (left left' sent sent' : Option (List (List ℕ))) (ended : Ended) : Type 0 where
   pub takes : List (List ℕ)
   pub sends : List (List ℕ)
   pub left_is : left ≡ told_front takes left'

@@ -106,7 +106,8 @@ pub fn turn<L: Link, F: FnOnce(Bag) -> Result<Ran, AllocError> + Drop>(
     requires callable { (f : F) → F.IsAlwaysCallable f }
     requires words { KeepsWords F.post runtime.old }
     ensures is_open { L.phase link.new ≡ Phase.Open }
-    ensures turns { (opening : Opening) (past : Past) → StandsFor opening past runtime.old → Turns opening past
+    ensures turns { (opening : Opening) (past : Past) → StandsFor opening past runtime.old
+        → Turns opening past
         runtime.old.format (L.left link.old) (L.left link.new) (L.sent link.old) (L.sent link.new)
         runtime.new lines.old.items lines.new.items result }
     ensures later { L.faults link.old ≤ L.faults link.new }

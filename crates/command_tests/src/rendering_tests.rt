@@ -1,5 +1,5 @@
-// Lines that no run of a script shows: the largest numbers, and words for what takes too long to come to. The
-// other lines are those of `examples/` and of the rows of `tests/`.
+// Lines that no run of a script shows: the largest numbers, and words for what takes too long to come to.
+// The other lines are those of `examples/` and of the rows of `tests/`.
 use hmr_types::{EditRefusal, FaultWord, ModName, Sequence, TextFault};
 use output_lines::{EditWord, EndWord, OutLine, RemoveWord, SettleWord};
 use play_text::render;

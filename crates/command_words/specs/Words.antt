@@ -1,8 +1,11 @@
 -- Which words of the command line are a command, and which command they are.
-use Rattle.std.specs.Prelude.{◌≡◌, ◌≤◌, ◌<◌, ◌^◌, ◌&&◌, ℕ, pos, Bool, true, false, not, List, [], ◌∷◌, Option, Some, None, Result, Ok, Err, codes, if◌then◌else◌, option_and_then, option_map, unwrap_or}
+use Rattle.std.specs.Prelude.{◌≡◌, ◌≤◌, ◌<◌, ◌^◌, ◌&&◌, ℕ, pos, Bool, true, false, not, List}
+use Rattle.std.specs.Prelude.{[], ◌∷◌, Option, Some, None, Result, Ok, Err, codes, if◌then◌else◌}
+use Rattle.std.specs.Prelude.{option_and_then, option_map, unwrap_or}
 use Rattle.std.specs.List.{list_all}
 use Rattle.std.specs.Str.Parse.{digits_value, without_leading_plus}
-use Rattle.clap.specs.Words.{App, Rule, Row, Text, new_rule, new_app, with_rule, fault_of, first_of, all_of, one_of, one_text, matches_of, without_minus, IsSignedIn}
+use Rattle.clap.specs.Words.{App, Rule, Row, Text, new_rule, new_app, with_rule, fault_of, first_of}
+use Rattle.clap.specs.Words.{all_of, one_of, one_text, matches_of, without_minus, IsSignedIn}
 use Rattle.clap.specs.Simple.{on_top}
 use Rattle.clap.specs.Kinds.{Kinds}
 use Rattle.clap.specs.declared.parser.matches.Found.{Found}
@@ -114,7 +117,8 @@ serve_app = with_rules (bare (codes "serve"))
 abbrev pub join_app : App
 join_app = with_rules (bare (codes "join")) (join_port_rule ∷ join_roots_rule ∷ turns_rule ∷ [])
 
--- what is wrong with the words of a command, and what is found in them, by clap's meaning of a simple command
+-- what is wrong with the words of a command, and what is found in them, by clap's meaning of a simple
+-- command
 unfoldable pub faults_of : App → List Text → Kinds
 faults_of app words = fault_of app words
 

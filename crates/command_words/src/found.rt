@@ -1,8 +1,10 @@
 // What `clap` finds in the words of a command, and how it is read: a word, several, a number, a flag.
-ghost use Rattle.std.specs.Prelude.{◌≡◌, ◌≢◌, ◌≤◌, ◌<◌, ◌^◌, ℕ, [], true, IfOk, IfSome, IsErrOf, codes, map, option_map, string_bytes};
+ghost use Rattle.std.specs.Prelude.{◌≡◌, ◌≢◌, ◌≤◌, ◌<◌, ◌^◌, []};
+ghost use Rattle.std.specs.Prelude.{ℕ, true, IfOk, IfSome, IsErrOf, codes, map, option_map, string_bytes};
 ghost use Rattle.clap.specs.Words.{IsParsedFrom, app_of, found_of, is_simple, is_simple_and_free, rows_of};
 ghost use Rattle.hmr_types.specs.ModName.{is_text};
-ghost use Rattle.command_words.specs.Words.{Between, Fits, IsWithin, faults_of, flag_of, found_in, number_of, number_or, says_true, word_of, words_of};
+ghost use Rattle.command_words.specs.Words.{Between, Fits, IsWithin, faults_of, flag_of, found_in};
+ghost use Rattle.command_words.specs.Words.{number_of, number_or, says_true, word_of, words_of};
 
 use crate::command::WordsFault;
 use clap::ArgMatches;

@@ -3,7 +3,11 @@
 ghost use Rattle.std.specs.Prelude.{◌≡◌, ◌∷◌, [], IfOk, Some, false, codes};
 ghost use Rattle.clap.specs.Words.{app_of, new_rule, rule_of};
 ghost use Rattle.clap.specs.declared.builder.action.ArgAction.TheVariants.{Set};
-ghost use Rattle.command_words.specs.Words.{bare, check_app, clients_rule, count_rule, edits_rule, folder_rule, join_app, join_port_rule, make_app, name_rule, outside_rule, play_app, port_rule, repeated, roots_rule, rounds_rule, seed_rule, serve_app, turns_rule, wanted, with_rules, workers_rule};
+ghost use Rattle.command_words.specs.Words.{bare, check_app, clients_rule, count_rule, edits_rule};
+ghost use Rattle.command_words.specs.Words.{folder_rule, join_app, join_port_rule, make_app, name_rule};
+ghost use Rattle.command_words.specs.Words.{outside_rule, play_app, port_rule, repeated, roots_rule};
+ghost use Rattle.command_words.specs.Words.{rounds_rule, seed_rule, serve_app, turns_rule, wanted};
+ghost use Rattle.command_words.specs.Words.{with_rules, workers_rule};
 
 use clap::{Arg, ArgAction, Command};
 use std::alloc::{AllocError, Global};

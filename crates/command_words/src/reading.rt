@@ -1,7 +1,9 @@
 // The words of the command line, read.
 ghost use Rattle.std.specs.Prelude.{◌≡◌, ◌≢◌, ◌≤◌, [], IfOk, IfSome, IsErrOf, codes, map, string_bytes};
 ghost use Rattle.clap.specs.Words.{found_of, rows_of};
-ghost use Rattle.command_words.specs.Words.{Gives, HasMakeNumbers, HasRanges, check_app, check_of, checking, command_of, faults_of, found_in, make_app, make_of, making, named_command, number_of, play_app, play_of};
+ghost use Rattle.command_words.specs.Words.{Gives, HasMakeNumbers, HasRanges, check_app, check_of, checking};
+ghost use Rattle.command_words.specs.Words.{command_of, faults_of, found_in, make_app, make_of, making};
+ghost use Rattle.command_words.specs.Words.{named_command, number_of, play_app, play_of};
 
 use crate::command::{Command, WordsFault};
 use crate::found::{is_text, number_in, taken, word_in};

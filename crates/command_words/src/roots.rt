@@ -1,5 +1,6 @@
 // The roots of a page, from words: names, 16 at most, no two equal.
-ghost use Rattle.std.specs.Prelude.{◌≡◌, ◌∷◌, [], true, false, not, ◌&&◌, length, map, IfOk, if◌then◌else◌, Some, None};
+ghost use Rattle.std.specs.Prelude.{◌≡◌, ◌∷◌, [], ◌&&◌};
+ghost use Rattle.std.specs.Prelude.{true, false, not, length, map, IfOk, if◌then◌else◌, Some, None};
 ghost use Rattle.std.specs.List.{list_all};
 ghost use Rattle.hmr_types.specs.ModName.{is_name};
 ghost use Rattle.core_model.specs.Names.{has};

@@ -1,8 +1,12 @@
 // The words of `serve` and `join`, read: a folder or a port, roots, and options with their standard values.
-ghost use Rattle.std.specs.Prelude.{◌≡◌, ◌≢◌, ◌≤◌, [], false, IfOk, IfSome, IsErrOf, codes, map, string_bytes};
+ghost use Rattle.std.specs.Prelude.{◌≡◌, ◌≢◌, ◌≤◌, []};
+ghost use Rattle.std.specs.Prelude.{false, IfOk, IfSome, IsErrOf, codes, map, string_bytes};
 ghost use Rattle.clap.specs.Words.{found_of, rows_of};
 ghost use Rattle.core_model.specs.Roots.{AreRoots, are_bad};
-ghost use Rattle.command_words.specs.Words.{Between, Gives, HasJoinNumbers, HasRanges, HasServeNumbers, IsServable, any_roots, faults_of, found_in, join_app, join_of, joining, number_of, number_or, plan_of, serve_app, serve_of, serving, some_roots, word_of, words_of};
+ghost use Rattle.command_words.specs.Words.{Between, Gives, HasJoinNumbers, HasRanges, HasServeNumbers};
+ghost use Rattle.command_words.specs.Words.{IsServable, any_roots, faults_of, found_in, join_app, join_of};
+ghost use Rattle.command_words.specs.Words.{joining, number_of, number_or, plan_of, serve_app, serve_of};
+ghost use Rattle.command_words.specs.Words.{serving, some_roots, word_of, words_of};
 
 use crate::command::{Command, ServePlan, WordsFault};
 use crate::found::{flag_in, number_or, port_in, taken, word_in, words_in};

@@ -28,10 +28,11 @@ pub struct Ran {
 }
 
 /// Runs the body of a callback, where the variables of its own module hold what `own` says and the locals of
-/// its imports what `imports` says, with these modules as its parameters and this bag. A name of `own` stands
-/// before the same name of `imports`. A parameter past the end of `mods` is `undefined`. Only want of memory
-/// refuses; the bag is then gone. No variable is copied but for a value that the body reads or assigns. It
-/// takes time in proportion to the body and to both lists, but for the logarithm of the number of names.
+/// its imports what `imports` says, with these modules as its parameters and this bag. A name of `own`
+/// stands before the same name of `imports`. A parameter past the end of `mods` is `undefined`. Only want of
+/// memory refuses; the bag is then gone. No variable is copied but for a value that the body reads or
+/// assigns. It takes time in proportion to the body and to both lists, but for the logarithm of the number
+/// of names.
 pub fn run_body(
     alloc: Global,
     code: &HandlerCode,
@@ -40,7 +41,8 @@ pub fn run_body(
     mods: &[ModParam],
     bag: Bag,
 ) -> Result<Ran, AllocError>
-    ensures { IfOk result (λ r. ran_seen r ≡ body_run (handler_of code.now) (own.now ++ imports.now.vars) mods.now bag) }
+    ensures { IfOk result
+        (λ r. ran_seen r ≡ body_run (handler_of code.now) (own.now ++ imports.now.vars) mods.now bag) }
 {
     let none: Vec<(Name, Slot)> = Vec::new(alloc);
     let no_imports = Slots::walked(&none, &none);

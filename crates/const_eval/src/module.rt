@@ -6,7 +6,8 @@ ghost use Rattle.std.specs.Ordering.{nat_cmp};
 ghost use Rattle.module_tree.specs.Tree.{expr_of, handler_of, item_of, module_of, once_of};
 ghost use Rattle.module_semantics.specs.Bodies.{opening, scope_of, with_result};
 ghost use Rattle.module_semantics.specs.Evaluation.{value_of};
-ghost use Rattle.module_semantics.specs.Modules.{declare, declared_by, declared_names, item_run, items_run, module_run, register, register_deps, register_own, unset};
+ghost use Rattle.module_semantics.specs.Modules.{declare, declared_by, declared_names, item_run, items_run};
+ghost use Rattle.module_semantics.specs.Modules.{module_run, register, register_deps, register_own, unset};
 ghost use Rattle.const_eval.specs.Answers.{evaluated_seen};
 ghost use Rattle.hmr_types.specs.declared.value.Slot.{Slot};
 ghost use Rattle.const_eval.specs.Names.{AreAmong, AreDeclared};
@@ -49,7 +50,8 @@ pub fn eval_module(
     imports: &Env,
     bag: Bag,
 ) -> Result<Evaluated, AllocError>
-    ensures { IfOk result (λ r. evaluated_seen r ≡ module_run (module_of «module».now) imports.now.vars bag) }
+    ensures { IfOk result
+        (λ r. evaluated_seen r ≡ module_run (module_of «module».now) imports.now.vars bag) }
 {
     let mut vars = unset(alloc, &module.items)?;
     let (fault, made) = evaluate(alloc, &module.items, &vars, imports, bag)?;
@@ -73,7 +75,10 @@ fn evaluate(
     bag: Bag,
 ) -> Result<(Option<EvalFault>, State), AllocError>
     requires declared { AreDeclared vars.now items.now }
-    ensures { IfOk result (λ r. (state_from vars.now r.1, r.0) ≡ items_run (record { imports = imports.now.vars; mods = [] }) (map item_of items.now) (opening vars.now bag)) }
+    ensures { IfOk result
+        (λ r. (state_from vars.now r.1, r.0)
+        ≡ items_run (record { imports = imports.now.vars; mods = [] }) (map item_of items.now)
+        (opening vars.now bag)) }
 {
     let mods: Vec<ModParam> = Vec::new(alloc);
     let none: Vec<(Name, Slot)> = Vec::new(alloc);
@@ -134,7 +139,8 @@ fn unset(alloc: Global, items: &[Item]) -> Result<Vec<(Name, Slot)>, AllocError>
 
 fn eval_items(alloc: Global, items: &[Item], context: &Context, state: &mut State) -> Step
     requires declared { AreDeclared context.now.vars.now items.now }
-    ensures { Leaves result (state_of context.now state.new) (items_run (context_of context.now) (map item_of items.now) (state_of context.now state.old)) }
+    ensures { Leaves result (state_of context.now state.new)
+        (items_run (context_of context.now) (map item_of items.now) (state_of context.now state.old)) }
 {
     for item in items {
         eval_item(alloc, item, context, state)?;
@@ -144,7 +150,8 @@ fn eval_items(alloc: Global, items: &[Item], context: &Context, state: &mut Stat
 
 fn eval_item(alloc: Global, item: &Item, context: &Context, state: &mut State) -> Step
     requires declared { AreAmong context.now.vars.now (declared_by (item_of item.now)) }
-    ensures { Leaves result (state_of context.now state.new) (item_run (context_of context.now) (item_of item.now) (state_of context.now state.old)) }
+    ensures { Leaves result (state_of context.now state.new)
+        (item_run (context_of context.now) (item_of item.now) (state_of context.now state.old)) }
 {
     match item {
         Item::Import { spec: _, names: _ } | Item::Decline => Ok(()),
@@ -174,14 +181,19 @@ fn eval_declaration(
     state: &mut State,
 ) -> Step
     requires declared { IsSome (place_among name.now context.now.vars.now) }
-    ensures { Leaves result (state_of context.now state.new) (with_result (state_of context.now state.old) (value_of (scope_of (context_of context.now) (state_of context.now state.old)) (expr_of e.now)) (declare name.now (state_of context.now state.old))) }
+    ensures { Leaves result (state_of context.now state.new)
+        (with_result (state_of context.now state.old)
+        (value_of (scope_of (context_of context.now) (state_of context.now state.old)) (expr_of e.now))
+        (declare name.now (state_of context.now state.old))) }
 {
     let value = eval_expr(alloc, e, &reads(context, state))?;
     declare(name, value, context, state)
 }
 
 fn register(alloc: Global, kind: HandlerKind, what: &Once, state: &mut State) -> Step
-    ensures { (first : List (List ℕ × Slot)) → Leaves result (state_from first state.new) (register kind [] (once_of what.now) (state_from first state.old)) }
+    ensures { (first : List (List ℕ × Slot))
+        → Leaves result (state_from first state.new)
+        (register kind [] (once_of what.now) (state_from first state.old)) }
 {
     let what = what.copy(alloc)?;
     state.registered.push(Registered {
@@ -193,7 +205,9 @@ fn register(alloc: Global, kind: HandlerKind, what: &Once, state: &mut State) ->
 }
 
 fn register_own(alloc: Global, what: &Option<Once>, state: &mut State) -> Step
-    ensures { (first : List (List ℕ × Slot)) → Leaves result (state_from first state.new) (register_own (option_map once_of what.now) (state_from first state.old)) }
+    ensures { (first : List (List ℕ × Slot))
+        → Leaves result (state_from first state.new)
+        (register_own (option_map once_of what.now) (state_from first state.old)) }
 {
     match what {
         Some(what) => register(alloc, HandlerKind::Own, what, state),
@@ -207,7 +221,9 @@ fn register_deps(
     code: &Option<HandlerCode>,
     state: &mut State,
 ) -> Step
-    ensures { (first : List (List ℕ × Slot)) → Leaves result (state_from first state.new) (register_deps specs.now (option_map handler_of code.now) (state_from first state.old)) }
+    ensures { (first : List (List ℕ × Slot))
+        → Leaves result (state_from first state.new)
+        (register_deps specs.now (option_map handler_of code.now) (state_from first state.old)) }
 {
     let code = match code {
         Some(code) => code.copy(alloc)?,

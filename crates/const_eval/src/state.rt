@@ -72,7 +72,8 @@ pub fn reads<'c, 's>(context: &Context<'c>, state: &'s State) -> Scope<'c, 's>
 
 /// Adds a line of values.
 pub fn add_line(alloc: Global, values: &[Value], state: &mut State) -> Step
-    ensures { (first : List (List ℕ × Slot)) → Leaves result (state_from first state.new) (add_line (state_from first state.old) values.now) }
+    ensures { (first : List (List ℕ × Slot))
+        → Leaves result (state_from first state.new) (add_line (state_from first state.old) values.now) }
 {
     state.lines.push(line_of(alloc, values)?)?;
     Ok(())
@@ -82,7 +83,8 @@ pub fn add_line(alloc: Global, values: &[Value], state: &mut State) -> Step
 #[tactic(auto, using(crate::proofs::Variables::given_later))]
 pub fn declare(name: &Name, value: Value, context: &Context, state: &mut State) -> Step
     requires declared { IsSome (place_among name.now context.now.vars.now) }
-    ensures { Leaves result (state_of context.now state.new) (declare name.now (state_of context.now state.old) value) }
+    ensures { Leaves result (state_of context.now state.new)
+        (declare name.now (state_of context.now state.old) value) }
 {
     match context.vars.place_of(name) {
         Some(place) => state.given.insert(place, Slot::Val(value))?,
@@ -94,7 +96,8 @@ pub fn declare(name: &Name, value: Value, context: &Context, state: &mut State) 
 /// Assigns a variable, which has to have a value already.
 #[tactic(auto, using(crate::proofs::Variables::given_later, crate::proofs::Variables::found_now, crate::proofs::Variables::none_now))]
 pub fn assign(name: &Name, value: Value, context: &Context, state: &mut State) -> Step
-    ensures { Leaves result (state_of context.now state.new) (assign name.now (state_of context.now state.old) value) }
+    ensures { Leaves result (state_of context.now state.new)
+        (assign name.now (state_of context.now state.old) value) }
 {
     let Some(place) = context.vars.place_of(name) else {
         return Err(Stop::Fault(EvalFault::Uninitialised(name.clone()?)));
@@ -109,7 +112,8 @@ pub fn assign(name: &Name, value: Value, context: &Context, state: &mut State) -
 
 /// Keeps a value at a key of the bag.
 pub fn keep(key: &Name, value: Value, state: &mut State) -> Step
-    ensures { (first : List (List ℕ × Slot)) → Leaves result (state_from first state.new) (keep key.now (state_from first state.old) value) }
+    ensures { (first : List (List ℕ × Slot))
+        → Leaves result (state_from first state.new) (keep key.now (state_from first state.old) value) }
 {
     match state.bag.set(key.clone()?, value) {
         Ok(()) => Ok(()),
@@ -120,7 +124,9 @@ pub fn keep(key: &Name, value: Value, state: &mut State) -> Step
 
 /// Adds an invalidation with this message.
 pub fn add_invalidation(message: Text, state: &mut State) -> Step
-    ensures { (first : List (List ℕ × Slot)) → Leaves result (state_from first state.new) (add_invalidation (state_from first state.old) message) }
+    ensures { (first : List (List ℕ × Slot))
+        → Leaves result (state_from first state.new)
+        (add_invalidation (state_from first state.old) message) }
 {
     state.invalidations.push(message)?;
     Ok(())

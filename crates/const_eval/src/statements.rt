@@ -2,7 +2,8 @@
 ghost use Rattle.std.specs.Prelude.{◌≡◌, map, slice_get};
 ghost use Rattle.std.specs.Option.{option_map};
 ghost use Rattle.module_tree.specs.Tree.{cond_of, expr_of, stmt_of, stmts_of};
-ghost use Rattle.module_semantics.specs.Bodies.{add_line, holds, invalidate, is_module, run, run_all, scope_of, with_result};
+ghost use Rattle.module_semantics.specs.Bodies.{add_line, holds, invalidate, is_module};
+ghost use Rattle.module_semantics.specs.Bodies.{run, run_all, scope_of, with_result};
 ghost use Rattle.module_semantics.specs.Evaluation.{values_of};
 ghost use Rattle.const_eval.specs.States.{context_of, state_of};
 ghost use Rattle.const_eval.specs.Stops.{Gives, Leaves};
@@ -19,7 +20,8 @@ use std::alloc::Global;
 /// Runs statements in order, up to the first fault.
 #[cycle(statements)]
 pub fn run_stmts(alloc: Global, stmts: &[Stmt], context: &Context, state: &mut State) -> Step
-    ensures { Leaves result (state_of context.now state.new) (run_all (context_of context.now) (stmts_of stmts.now) (state_of context.now state.old)) }
+    ensures { Leaves result (state_of context.now state.new)
+        (run_all (context_of context.now) (stmts_of stmts.now) (state_of context.now state.old)) }
 {
     for stmt in stmts {
         run_stmt(alloc, stmt, context, state)?;
@@ -30,7 +32,8 @@ pub fn run_stmts(alloc: Global, stmts: &[Stmt], context: &Context, state: &mut S
 /// Runs one statement.
 #[cycle(statements)]
 pub fn run_stmt(alloc: Global, stmt: &Stmt, context: &Context, state: &mut State) -> Step
-    ensures { Leaves result (state_of context.now state.new) (run (context_of context.now) (stmt_of stmt.now) (state_of context.now state.old)) }
+    ensures { Leaves result (state_of context.now state.new)
+        (run (context_of context.now) (stmt_of stmt.now) (state_of context.now state.old)) }
 {
     match stmt {
         Stmt::Log(es) => {
@@ -61,7 +64,9 @@ pub fn run_stmt(alloc: Global, stmt: &Stmt, context: &Context, state: &mut State
 }
 
 fn invalidate(alloc: Global, e: &Option<Expr>, context: &Context, state: &mut State) -> Step
-    ensures { Leaves result (state_of context.now state.new) (invalidate (scope_of (context_of context.now) (state_of context.now state.old)) (state_of context.now state.old) (option_map expr_of e.now)) }
+    ensures { Leaves result (state_of context.now state.new)
+        (invalidate (scope_of (context_of context.now) (state_of context.now state.old))
+        (state_of context.now state.old) (option_map expr_of e.now)) }
 {
     match e {
         None => add_invalidation(Text::from_string(String::new(alloc)), state),
@@ -74,7 +79,8 @@ fn invalidate(alloc: Global, e: &Option<Expr>, context: &Context, state: &mut St
 
 /// Whether a condition holds.
 fn holds(alloc: Global, cond: &Cond, context: &Context, state: &State) -> Result<bool, Stop>
-    ensures { Gives result (holds (scope_of (context_of context.now) (state_of context.now state.now)) (cond_of cond.now)) }
+    ensures { Gives result
+        (holds (scope_of (context_of context.now) (state_of context.now state.now)) (cond_of cond.now)) }
 {
     match cond {
         Cond::Param(place) => Ok(is_module(context.mods, *place)),

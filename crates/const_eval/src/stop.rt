@@ -51,7 +51,8 @@ impl<T: Drop> From<AllocFailed<T>> for Stop {
 
 /// The fault that ended the evaluation, None where it came to its end. Want of memory stays an error.
 pub fn fault_of(ended: Result<(), Stop>) -> Result<Option<EvalFault>, AllocError>
-    ensures { IfOk result (λ fault. (s : State) (meant : Progress) → Leaves ended s meant → meant ≡ (s, fault)) }
+    ensures { IfOk result
+        (λ fault. (s : State) (meant : Progress) → Leaves ended s meant → meant ≡ (s, fault)) }
 {
     match ended {
         Ok(()) => Ok(None),

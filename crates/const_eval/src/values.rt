@@ -1,6 +1,7 @@
 // What the operators make of values. A result that doesn't fit is a fault and never wraps.
 ghost use Rattle.std.specs.Prelude.{◌≡◌, ◌++◌, IfOk, OnOk, pos, ◌+ℤ◌, ◌-ℤ◌, ◌*ℤ◌, neg_ℤ, string_bytes};
-ghost use Rattle.module_semantics.specs.Values.{number, text, in_range, written, added, subtracted, multiplied, negated, truth, with_op};
+ghost use Rattle.module_semantics.specs.Values.{number, text, in_range, written, added, subtracted};
+ghost use Rattle.module_semantics.specs.Values.{multiplied, negated, truth, with_op};
 ghost use Rattle.const_eval.specs.Stops.{Gives};
 
 use crate::stop::Stop;

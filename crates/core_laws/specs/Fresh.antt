@@ -13,8 +13,8 @@ pub record IsUpToDate (s : Sources) (c : Client) : Type 0 where
   pub unchanged : changed s c ≡ []
   pub whole : dropped c ≡ []
 
--- the page has exactly what would be loaded anew from its own roots: its modules and their versions, with the
--- served analyses; and nothing that would be loaded is missing
+-- the page has exactly what would be loaded anew from its own roots: its modules and their versions, with
+-- the served analyses; and nothing that would be loaded is missing
 pub record IsFreshLoad (s : Sources) (c : Client) : Type 0 where
   pub table : table_of c.page.view ≡ fresh_table s.served c.roots
   pub entries : (n : Name) →

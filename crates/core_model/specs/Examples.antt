@@ -100,11 +100,13 @@ abbrev pub one_text : Text
 one_text = codes "export const n = 1;\n"
 
 abbrev pub one : Analysis
-one = record { imports = []; exports = codes "n" ∷ []; self_accepts = false; accepted = []; declined = false }
+one =
+    record { imports = []; exports = codes "n" ∷ []; self_accepts = false; accepted = []; declined = false }
 
 -- a core that serves m, which exports n, at version 1
 abbrev pub serving_one : Core
-serving_one = replay (m ∷ []) (change (edit m (Some one_text)) ∷ change (result m one_text (Good one) 1) ∷ [])
+serving_one =
+    replay (m ∷ []) (change (edit m (Some one_text)) ∷ change (result m one_text (Good one) 1) ∷ [])
 
 -- a client asks out of turn, tells tables that aren't its plan's, and invalidates what doesn't accept itself
 abbrev pub lies : List Event

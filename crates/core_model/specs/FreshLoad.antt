@@ -1,5 +1,6 @@
 -- What a page would load anew: the names that imports lead to from its roots, among what is served.
-use Rattle.std.specs.Prelude.{◌≡◌, ℕ, Bool, not, List, [], filter, map, flat_map, Option, Some, None, is_some}
+use Rattle.std.specs.Prelude.{◌≡◌, []}
+use Rattle.std.specs.Prelude.{ℕ, Bool, not, List, filter, map, flat_map, Option, Some, None, is_some}
 use Rattle.core_model.specs.Names.{Name, same_name, has, at, collect, sorted}
 use Rattle.core_model.specs.Rounds.{reached_of}
 use Rattle.core_model.specs.Sources.{Text, Serving}

@@ -63,7 +63,8 @@ sorted (n ∷ names) = put_name n (sorted names)
 -- the name put into a list before the first that isn't below it
 abbrev pub insert_name : Name → List Name → List Name
 insert_name n [] = n ∷ []
-insert_name n (m ∷ names) = if is_lt (slice_cmp nat_cmp m n) then m ∷ insert_name n names else n ∷ (m ∷ names)
+insert_name n (m ∷ names) = if is_lt (slice_cmp nat_cmp m n) then m ∷ insert_name n names
+    else n ∷ (m ∷ names)
 
 -- the names of a list, rising by bytes; a repeated name stays
 abbrev pub in_order : List Name → List Name

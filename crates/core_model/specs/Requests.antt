@@ -1,5 +1,6 @@
 -- The requests of a client: what each one makes of the client's record, and the reply.
-use Rattle.std.specs.Prelude.{ℕ, ◌==◌, Bool, true, false, not, ◌&&◌, List, [], ◌∷◌, ◌++◌, map, filter, Option}
+use Rattle.std.specs.Prelude.{◌==◌, ◌&&◌, [], ◌∷◌, ◌++◌}
+use Rattle.std.specs.Prelude.{ℕ, Bool, true, false, not, List, map, filter, Option}
 use Rattle.std.specs.Prelude.{Some, None}
 use Rattle.hmr_types.specs.declared.analysis.TextFault.{TextFault}
 use Rattle.update_msgs.specs.declared.message.ServerMsg.{ServerMsg}

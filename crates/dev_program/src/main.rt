@@ -1,8 +1,8 @@
 //! The program: the top call over the real input, output, folder, net and threads.
 //!
 //! It makes them, and the closures that stand for an embedding program, and answers the status of the top
-//! call; where there is no memory for its words or the closures, it answers 9. Stands on `top_call` and on what
-//! makes the real outside. Keeps: nothing of its own is read or written. Knows nothing of commands.
+//! call; where there is no memory for its words or the closures, it answers 9. Stands on `top_call` and on
+//! what makes the real outside. Keeps: nothing of its own is read or written. Knows nothing of commands.
 #![tactic(auto)]
 
 use const_eval::Ran;

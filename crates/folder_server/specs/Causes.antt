@@ -29,7 +29,8 @@ HasStopped (Some coming) stop = (scans : ℕ) × StopsFor (next_files (after_sca
 
 -- where the work ended by this limit, as the editor's pass has seen it
 abbrev pub IsLimitCause : Option (List Files) → Pass → Limit → Type 0
-IsLimitCause coming p limits.Text = ((path : List ℕ) × HasStopped coming (scans.TextTooLong path)) ⊎ HasRefused p TextTooLong
+IsLimitCause coming p limits.Text =
+    ((path : List ℕ) × HasStopped coming (scans.TextTooLong path)) ⊎ HasRefused p TextTooLong
 IsLimitCause coming p limits.Names = HasStopped coming scans.TooManyNames ⊎ HasRefused p TooManyNames
 IsLimitCause coming p limits.Sources = HasRefused p SourceTotal
 IsLimitCause coming p limits.Transcript = IsNearlyFull (seen_of p)

@@ -1,5 +1,6 @@
 -- The edits between scans of a folder, one after another, and behind them those of a script.
-use Rattle.std.specs.Prelude.{◌≡◌, ℕ, ⊤, List, [], ◌∷◌, ◌++◌, length, map, flat_map, Option, Result, OnOk, IfSome}
+use Rattle.std.specs.Prelude.{◌≡◌, ⊤, [], ◌∷◌, ◌++◌}
+use Rattle.std.specs.Prelude.{ℕ, List, length, map, flat_map, Option, Result, OnOk, IfSome}
 use Rattle.std.specs.Option.{option_map}
 use Rattle.folders.specs.Files.{files_after, next_files}
 use Rattle.folder_watch.specs.Edits.{AreEdits}
@@ -28,9 +29,10 @@ AreRounds coming old (edits ∷ rounds) =
 abbrev pub edits_of : List (List Edit) → List Edit
 edits_of rounds = flat_map (λ edits. edits) rounds
 
--- Later edits were made: a front of those of the rounds, and behind them of those of the script, each once and
--- in order. Where nothing stopped them, these are all, of so many rounds.
-pub record MakesEdits {E : Type 0} (coming : Option (List Files)) (old : Files) (script : List Edit) (many : ℕ)
+-- Later edits were made: a front of those of the rounds, and behind them of those of the script, each once
+-- and in order. Where nothing stopped them, these are all, of so many rounds.
+pub record MakesEdits {E : Type 0} (coming : Option (List Files)) (old : Files) (script : List Edit)
+    (many : ℕ)
     (before now : List Made) (result : Result (Unit {0}) E) : Type 0 where
   pub rounds : List (List Edit)
   pub are : AreRounds coming old rounds
@@ -40,7 +42,8 @@ pub record MakesEdits {E : Type 0} (coming : Option (List Files)) (old : Files) 
   pub many_are : OnOk result (length rounds ≡ many)
 
 -- a front of these edits was made, and all of them where nothing stopped them
-pub record MakesEach {E : Type 0} (edits : List Edit) (before now : List Made) (result : Result (Unit {0}) E) : Type 0 where
+pub record MakesEach {E : Type 0} (edits : List Edit) (before now : List Made)
+    (result : Result (Unit {0}) E) : Type 0 where
   pub rest : List Edit
   pub front : map edit_of now ++ rest ≡ map edit_of before ++ edits
   pub all : OnOk result (rest ≡ [])

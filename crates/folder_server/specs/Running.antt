@@ -9,9 +9,10 @@ use Rattle.folder_server.specs.declared.stop.ServeStop.{ServeStop}
 use Rattle.folder_server.specs.declared.stop.ServeStop.TheVariants.{Fault}
 use Rattle.folder_server.specs.Rounds.{Files, MakesEdits}
 
--- The later edits, from the pass p to q: a front of those of the rounds and the script, and all of them where
--- nothing stopped the server; then the last job of each name has its result.
-pub record Later (coming : Option (List Files)) (listing : Files) (script : List Edit) (many : ℕ) (p q : Pass)
+-- The later edits, from the pass p to q: a front of those of the rounds and the script, and all of them
+-- where nothing stopped the server; then the last job of each name has its result.
+pub record Later (coming : Option (List Files)) (listing : Files) (script : List Edit) (many : ℕ)
+    (p q : Pass)
     (made : List Made) (ended : Result (Unit {0}) ServeStop) : Type 0 where
   pub edited : Edited p q made
   pub makes : MakesEdits coming listing script many [] made ended

@@ -73,10 +73,11 @@ abbrev pub HasCause : Option (List Files) → Pass → End → Type 0
 HasCause coming p (Ok done) = ⊤
 HasCause coming p (Err stop) = IsCause coming p stop
 
--- What a server of a folder did, as the editor's pass has seen it at the end. There is one transcript. It begins
--- with the first scan's edits and their results. Under the editor's number it has besides these just the later
--- edits, each once and in order, and of some of their jobs the result, each once.
-pub record Served (roots : List Name) (coming : Option (List Files)) (script : List Edit) (many : ℕ) (ended : End)
+-- What a server of a folder did, as the editor's pass has seen it at the end. There is one transcript. It
+-- begins with the first scan's edits and their results. Under the editor's number it has besides these just
+-- the later edits, each once and in order, and of some of their jobs the result, each once.
+pub record Served (roots : List Name) (coming : Option (List Files)) (script : List Edit) (many : ℕ)
+    (ended : End)
     (p : Pass) : Type 0 where
   pub transcript : HasTranscript p
   pub roots_are : roots_of p ≡ roots
@@ -88,16 +89,19 @@ pub record Served (roots : List Name) (coming : Option (List Files)) (script : L
   pub made : List Made
   pub makes : MakesEdits (option_map files_after coming) listing script many [] made ended
   pub settled : List Task
-  pub mine : calls (0 ∷ []) (seen_of p) ≡ opening first ++ (flat_map entries_of made ++ map result_entry settled)
+  pub mine : calls (0 ∷ []) (seen_of p)
+      ≡ opening first ++ (flat_map entries_of made ++ map result_entry settled)
   pub each : IsPermutation (flat_map jobs_at_end made) settled
   pub answered : All (IsAnswered p) made
   pub results : All (HasOwnResults (seen_of p)) made
   pub last_results : OnOk ended (HaveLastResults p made)
   pub cause : HasCause coming p ended
 
--- The port that it listens at was written, and the report of that transcript; at a limit its line stands last.
--- Where the output failed or memory ran out, a front of that was written. The counts are those of the output.
-pub record Wrote (port : ℕ) (p : Pass) (ended : End) (old new : Option (List ℕ)) (before now : ℕ) : Type 0 where
+-- The port that it listens at was written, and the report of that transcript; at a limit its line stands
+-- last. Where the output failed or memory ran out, a front of that was written. The counts are those of the
+-- output.
+pub record Wrote (port : ℕ) (p : Pass) (ended : End) (old new : Option (List ℕ))
+    (before now : ℕ) : Type 0 where
   pub logs : List Log
   pub front : WritesFront old new (header port ++ (report_with p logs ++ last_text ended))
   pub whole : IsReported ended → ¬ Rose before now

@@ -10,8 +10,8 @@ use folder_watch::{Listing, edits_between};
 use hmr_types::ModName;
 use std::alloc::{AllocError, Global};
 
-/// The edits, in order of their names, that turn the modules of one listing into those of another. Each has a
-/// name and a text that a message has room for.
+/// The edits, in order of their names, that turn the modules of one listing into those of another. Each has
+/// a name and a text that a message has room for.
 pub(crate) fn changes_between(
     alloc: Global,
     old: &Listing,

@@ -36,9 +36,9 @@ pub(crate) fn end_of(run: &RunEnd) -> Result<(), ServeStop>
     Ok(())
 }
 
-/// Joins the passes of the jobs, and writes the report and the lines of the program's own clients. It is left
-/// away where memory ran out before. The end is the one that was given, or `Unwritten` where the output failed,
-/// or `NoMemory`.
+/// Joins the passes of the jobs, and writes the report and the lines of the program's own clients. It is
+/// left away where memory ran out before. The end is the one that was given, or `Unwritten` where the output
+/// failed, or `NoMemory`.
 pub(crate) fn write_end<R: Wait, K: Sink>(
     rt: &R,
     alloc: Global,

@@ -1,4 +1,5 @@
-// The later edits of a server: those between one look at its folder and the next, and then those of a script.
+// The later edits of a server: those between one look at its folder and the next, and then those of a
+// script.
 ghost use Rattle.std.specs.Prelude.{◌≡◌, ◌≤◌, [], All, Err, IfErr, true, false};
 ghost use Rattle.hmr_base.specs.Causes.{Rose};
 ghost use Rattle.hmr_types.specs.declared.limits.TheConstants.{MESSAGE_BYTES};
@@ -51,7 +52,8 @@ pub(crate) fn make_edits<T: Tree, R: Wait>(
     ensures of { IsPassOf hub.now pass.new }
     ensures same { SameKnower pass.old pass.new }
     ensures transcript { HasTranscript pass.old → HasTranscript pass.new }
-    ensures edited { (p : Pass) → Edited p pass.old (made_by editor.old) → Edited p pass.new (made_by editor.new) }
+    ensures edited { (p : Pass) → Edited p pass.old (made_by editor.old)
+        → Edited p pass.new (made_by editor.new) }
     ensures makes { MakesEdits (T.coming tree.old) listing (edits_in script.items) rounds
         (made_by editor.old) (made_by editor.new) result }
     ensures of_queue { pool.IsPassOf queue.now jobs.new }
@@ -92,7 +94,8 @@ fn edit_rounds<T: Tree, R: Wait>(
     ensures of { IsPassOf hub.now pass.new }
     ensures same { SameKnower pass.old pass.new }
     ensures transcript { HasTranscript pass.old → HasTranscript pass.new }
-    ensures edited { (p : Pass) → Edited p pass.old (made_by editor.old) → Edited p pass.new (made_by editor.new) }
+    ensures edited { (p : Pass) → Edited p pass.old (made_by editor.old)
+        → Edited p pass.new (made_by editor.new) }
     ensures going { IsGoing (made_by editor.new) }
     ensures makes { MakesEdits (T.coming tree.old) listing [] rounds
         (made_by editor.old) (made_by editor.new) result }
@@ -134,7 +137,8 @@ fn edit_each<R: Wait>(
     ensures of { IsPassOf hub.now pass.new }
     ensures same { SameKnower pass.old pass.new }
     ensures transcript { HasTranscript pass.old → HasTranscript pass.new }
-    ensures edited { (p : Pass) → Edited p pass.old (made_by editor.old) → Edited p pass.new (made_by editor.new) }
+    ensures edited { (p : Pass) → Edited p pass.old (made_by editor.old)
+        → Edited p pass.new (made_by editor.new) }
     ensures going { IsGoing (made_by editor.new) }
     ensures makes { MakesEach (edits_in edits.items) (made_by editor.old) (made_by editor.new) result }
     ensures of_queue { pool.IsPassOf queue.now jobs.new }

@@ -1,5 +1,6 @@
 // A server while it runs: jobs are begun, the editor makes the later edits, and all jobs are finished.
-ghost use Rattle.std.specs.Prelude.{◌≡◌, ◌≤◌, ◌<◌, ◌⊎◌, ◌+◌, ◌∷◌, [], All, Err, IfErr, IfOk, IsOk, List, OnErr, OnOk, Some, false, length, true};
+ghost use Rattle.std.specs.Prelude.{◌≡◌, ◌≤◌, ◌<◌, ◌⊎◌, ◌+◌, ◌∷◌, [], All, Err, IfErr, IfOk};
+ghost use Rattle.std.specs.Prelude.{IsOk, List, OnErr, OnOk, Some, false, length, true};
 ghost use Rattle.std.specs.Arc.{arc_value};
 ghost use Rattle.hmr_base.specs.Causes.{Rose};
 ghost use Rattle.hmr_types.specs.declared.limits.TheConstants.{MESSAGE_BYTES};
@@ -46,10 +47,10 @@ pub(crate) struct RunEnd {
     pub ended: Result<(), ServeStop>,
 }
 
-/// Begins the workers, the clients of the program's own and the sessions, makes the later edits, and finishes
-/// all jobs. After the first stop no further edit is made; the jobs that were begun are finished all the same.
-/// Where all went well, each name's last job has its result at the end. No run comes only for want of memory,
-/// before anything was begun.
+/// Begins the workers, the clients of the program's own and the sessions, makes the later edits, and
+/// finishes all jobs. After the first stop no further edit is made; the jobs that were begun are finished
+/// all the same. Where all went well, each name's last job has its result at the end. No run comes only for
+/// want of memory, before anything was begun.
 pub(crate) fn run<
     F: FnOnce(Bag) -> Result<Ran, AllocError> + Drop + Send + 'static,
     T: Tree,
@@ -110,7 +111,8 @@ where
         (N.faults net.old) (N.faults net.new) (P.faults spawner.old) (P.faults spawner.new)) }
     ensures tree_fault { IfOk result (λ r. r.ended ≡ Err ServeStop.Tree
         → Rose (T.faults tree.old) (T.faults tree.new)) }
-    ensures later_counts { (N.faults net.old ≤ N.faults net.new) × (P.faults spawner.old ≤ P.faults spawner.new)
+    ensures later_counts { (N.faults net.old ≤ N.faults net.new)
+        × (P.faults spawner.old ≤ P.faults spawner.new)
         × (T.faults tree.old ≤ T.faults tree.new) }
     ensures same_asked { (N.asked net.new ≡ N.asked net.old) × (N.heard net.new ≡ N.heard net.old) }
     ensures no_other { MayOpen (T.asked tree.new) folder.now }
@@ -278,12 +280,14 @@ fn settle_after<R: Wait>(
     ensures of { IsPassOf hub.now pass.new }
     ensures same { SameKnower pass.old pass.new }
     ensures transcript { HasTranscript pass.old → HasTranscript pass.new }
-    ensures edited { (p : Pass) → Edited p pass.old (made_by editor.old) → Edited p pass.new (made_by editor.new) }
+    ensures edited { (p : Pass) → Edited p pass.old (made_by editor.old)
+        → Edited p pass.new (made_by editor.new) }
     ensures edits { SameEdits (made_by editor.old) (made_by editor.new) }
     ensures results { OnOk result ((p : Pass) → Edited p pass.old (made_by editor.old)
         → HaveLastResults pass.new (made_by editor.new)) }
     ensures well { OnOk result (IsOk ended) }
-    ensures cause { IfErr result (λ stop. ((ended ≡ Err stop) × (pass.new ≡ pass.old)) ⊎ IsSettleCause pass.new stop) }
+    ensures cause { IfErr result
+        (λ stop. ((ended ≡ Err stop) × (pass.new ≡ pass.old)) ⊎ IsSettleCause pass.new stop) }
 {
     ended?;
     editor.settle_rest(rt, alloc, hub, pass)?;

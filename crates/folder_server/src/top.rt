@@ -35,16 +35,16 @@ use transform_pool::JobQueue;
 /// The folder is scanned, its modules are edited in order of their names and settled, and then the net
 /// listens and `listening PORT` is written. Workers are begun, then a session and a client for each of the
 /// program's own clients, then a session for each client from outside, for which it waits. The caller's
-/// thread is the editor: it scans the folder `rounds` times more, makes the edits between each two scans, and
-/// then those of the script, each of a name and a text of at most 16,777,216 bytes together. At the end all
-/// jobs are finished, what is left of results is settled, all ends are given back to the net, and the report
-/// is written with the lines of the program's own clients. The closures of the shelves are for these.
+/// thread is the editor: it scans the folder `rounds` times more, makes the edits between each two scans,
+/// and then those of the script, each of a name and a text of at most 16,777,216 bytes together. At the end
+/// all jobs are finished, what is left of results is settled, all ends are given back to the net, and the
+/// report is written with the lines of the program's own clients. The closures of the shelves are for these.
 ///
-/// [`ServeStop::Unwritten`], [`ServeStop::Tree`] and [`ServeStop::Fault`] come only where the count of faults
-/// of the output, of the tree, of the net or of the spawner rose in this call; [`ServeStop::Limit`] where a
-/// limit was passed, whose line is written last; [`ServeStop::NoMemory`] for want of memory. The first stop of
-/// the editor counts, and else that of a job. After a stop no further edit is made; the report is written all
-/// the same, but for `Unwritten`, `NoMemory` and a stop before it listened. It waits.
+/// [`ServeStop::Unwritten`], [`ServeStop::Tree`] and [`ServeStop::Fault`] come only where the count of
+/// faults of the output, of the tree, of the net or of the spawner rose in this call; [`ServeStop::Limit`]
+/// where a limit was passed, whose line is written last; [`ServeStop::NoMemory`] for want of memory. The
+/// first stop of the editor counts, and else that of a job. After a stop no further edit is made; the report
+/// is written all the same, but for `Unwritten`, `NoMemory` and a stop before it listened. It waits.
 pub fn serve<
     F: FnOnce(Bag) -> Result<Ran, AllocError> + Drop + Send + 'static,
     K: Sink,
@@ -102,7 +102,8 @@ where
 
 // Writes the line of a limit, where the server ended by one.
 fn write_last<K: Sink>(out: &mut K, ended: Result<(), ServeStop>)
-    ensures last { WroteEarly ended (K.written out.old) (K.written out.new) (K.faults out.old) (K.faults out.new) }
+    ensures last { WroteEarly ended (K.written out.old) (K.written out.new) (K.faults out.old)
+        (K.faults out.new) }
     ensures later { K.faults out.old ≤ K.faults out.new }
 {
     let _ = write_all(out, last_line(ended).as_bytes());

@@ -29,7 +29,8 @@ abbrev pub edit_at : List (List ℕ × Option (List ℕ)) → List ℕ → Optio
 edit_at edits name = lookup (is_text name) edits
 
 -- each name that changed has its edit, and no other has one
-abbrev pub AreEdits : List (List ℕ × List ℕ) → List (List ℕ × List ℕ) → List (List ℕ × Option (List ℕ)) → Type 0
+abbrev pub AreEdits : List (List ℕ × List ℕ) → List (List ℕ × List ℕ) → List (List ℕ × Option (List ℕ))
+    → Type 0
 AreEdits old new edits = (name : List ℕ) → edit_at edits name ≡ change (text_at old name) (text_at new name)
 
 -- the text of a name after an edit, where there is one

@@ -1,5 +1,6 @@
 -- Which files of a folder are modules, by their paths.
-use Rattle.std.specs.Prelude.{ℕ, List, [], ◌∷◌, Bool, true, false, not, ◌&&◌, ◌||◌, ◌==◌, nat_eq, cond, codes, Option, None}
+use Rattle.std.specs.Prelude.{[], ◌∷◌, ◌&&◌, ◌||◌, ◌==◌}
+use Rattle.std.specs.Prelude.{ℕ, List, Bool, true, false, not, nat_eq, cond, codes, Option, None}
 use Rattle.std.specs.List.{ends_with, list_any}
 use Rattle.hmr_types.specs.ModName.{is_name, is_text, parts}
 use Rattle.folders.specs.Files.{below, text_at}

@@ -1,6 +1,8 @@
 // A folder is gone through level by level: the folders of one level are listed, their files are read, and
 // the folders in them are the next level. A path has at most 255 bytes, so that there are no more levels.
-ghost use Rattle.std.specs.Prelude.{◌≡◌, ◌≤◌, ◌+◌, ◌++◌, ◌∷◌, [], List, ℕ, Option, Some, true, false, length, map, All, IfOk, IfErr, IfSome, OnOk, is_some, not, ◌&&◌, string_bytes};
+ghost use Rattle.std.specs.Prelude.{◌≡◌, ◌≤◌, ◌+◌, ◌++◌, ◌∷◌, [], List, ℕ, Option, Some};
+ghost use Rattle.std.specs.Prelude.{true, false, length, map, All, IfOk, IfErr, IfSome};
+ghost use Rattle.std.specs.Prelude.{OnOk, is_some, not, ◌&&◌, string_bytes};
 ghost use Rattle.std.specs.List.{list_any};
 ghost use Rattle.std.specs.Option.{option_map};
 ghost use Rattle.hmr_base.specs.Causes.{Rose};
@@ -10,8 +12,10 @@ ghost use Rattle.folders.specs.Files.{MayOpen, below, files_after, next_files, r
 ghost use Rattle.folder_watch.specs.declared.scan_stop.ScanStop.{ScanStop};
 ghost use Rattle.folder_watch.specs.Listings.{AreShort, Rises, most_names};
 ghost use Rattle.folder_watch.specs.Pending.{Adds, AddsIf, AreDeep, ArePlaced, paths_of};
-ghost use Rattle.folder_watch.specs.Scans.{AreOf, Covers, IsPlaced, IsRoot, IsScanOf, StopsFor, Takes, is_pending};
-ghost use Rattle.folder_watch.specs.Watched.{are_looked_into, begins_with_dot, ends_in_js, is_kept, is_open, is_passed};
+ghost use Rattle.folder_watch.specs.Scans.{AreOf, Covers, IsPlaced, IsRoot, IsScanOf};
+ghost use Rattle.folder_watch.specs.Scans.{StopsFor, Takes, is_pending};
+ghost use Rattle.folder_watch.specs.Watched.{are_looked_into, begins_with_dot, ends_in_js};
+ghost use Rattle.folder_watch.specs.Watched.{is_kept, is_open, is_passed};
 
 use crate::folder::Folder;
 use crate::{Listing, ScanStop};

@@ -29,8 +29,10 @@ module _ {D F : Type 0} (dir_path : D → List ℕ) (file_path : F → List ℕ)
 
   -- the entries of a folder: each has its place and a plain name, each file is there, and each file below
   -- the folder is an entry or below one
-  pub record IsListed (files : List (List ℕ × List ℕ)) (folder : List ℕ) (entries : List (Entry D F)) : Type 0 where
+  pub record IsListed (files : List (List ℕ × List ℕ)) (folder : List ℕ)
+      (entries : List (Entry D F)) : Type 0 where
     pub placed : All (λ entry. path_of entry.node ≡ below folder (string_bytes entry.name)) entries
     pub plain : All (λ entry. has_slash (string_bytes entry.name) ≡ false) entries
     pub there : All (λ entry. is_there files entry.node ≡ true) entries
-    pub whole : (name : List ℕ) → has_file files (below folder name) ≡ true → list_any (λ entry. leads_to (below folder name) entry.node) entries ≡ true
+    pub whole : (name : List ℕ) → has_file files (below folder name) ≡ true
+        → list_any (λ entry. leads_to (below folder name) entry.node) entries ≡ true

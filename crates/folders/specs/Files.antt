@@ -1,6 +1,7 @@
 -- The files of a folder: each path, from the folder on and beginning with a slash, with its bytes. Of a
 -- path that stands twice the first counts.
-use Rattle.std.specs.Prelude.{◌≡◌, ℕ, ◌<◌, List, [], ◌∷◌, ◌++◌, length, Bool, false, cond, not, ◌==◌, Option, Some, None, is_some, ◌⊎◌}
+use Rattle.std.specs.Prelude.{◌≡◌, ◌<◌, [], ◌∷◌, ◌++◌, ◌==◌, ◌⊎◌}
+use Rattle.std.specs.Prelude.{ℕ, List, length, Bool, false, cond, not, Option, Some, None, is_some}
 use Rattle.std.specs.Map.{lookup}
 use Rattle.hmr_types.specs.ModName.{slash, is_text}
 

@@ -60,5 +60,6 @@ pub record IsEntryFor (folder path : List ℕ) (entry : Entry MemDir MemPlace) :
 
 -- what is listed of some files becomes what is listed of these and one at the path
 abbrev pub IsOneMore : List ℕ → List ℕ → List (Entry MemDir MemPlace) → List (Entry MemDir MemPlace) → Type 0
-IsOneMore folder path old new = (files : List (List ℕ × List ℕ)) (text : List ℕ) → IsListed dir_path_of file_path_of files folder old
+IsOneMore folder path old new = (files : List (List ℕ × List ℕ)) (text : List ℕ)
+    → IsListed dir_path_of file_path_of files folder old
     → IsListed dir_path_of file_path_of (files ++ (path, text) ∷ []) folder new

@@ -121,8 +121,8 @@ impl<R: Files + AllocGlobal + Wait + Clone + Drop> FolderTree<R> {
         }
     }
 
-    // Whether what was listed is no more what a look shows. Where nothing was listed, there is nothing to wait
-    // for.
+    // Whether what was listed is no more what a look shows. Where nothing was listed, there is nothing to
+    // wait for.
     fn has_changed(&self, alloc: Global) -> bool {
         if self.seen.is_empty() {
             return true;

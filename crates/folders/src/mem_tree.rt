@@ -1,12 +1,16 @@
 // A folder in memory. What it has at each `open` is given when it is made; a folder below it is there where
 // a path leads through it. No call waits.
-ghost use Rattle.std.specs.Prelude.{◌≡◌, ◌≤◌, ◌∷◌, [], ◌++◌, List, ℕ, Option, Some, None, true, false, IfSome, IfOk, OnOk, IfNone, IsNone, MatchOption, is_some, map, string_bytes};
+ghost use Rattle.std.specs.Prelude.{◌≡◌, ◌≤◌, ◌∷◌, [], ◌++◌, List, ℕ, Option, Some, None};
+ghost use Rattle.std.specs.Prelude.{true, false, IfSome, IfOk, OnOk, IfNone, IsNone, MatchOption};
+ghost use Rattle.std.specs.Prelude.{is_some, map, string_bytes};
 ghost use Rattle.std.specs.List.{list_any};
 ghost use Rattle.std.specs.Option.{option_map, option_copied};
 ghost use Rattle.hmr_base.specs.Plans.{faults_of, fresh_plan, plan_of};
 ghost use Rattle.folders.specs.Entries.{IsListed, has_slash, is_there, leads_to, path_of};
-ghost use Rattle.folders.specs.Files.{HasRead, below, files_after, has_file, next_files, rest_after, text_at};
-ghost use Rattle.folders.specs.Memory.{IfDir, IfFile, IsEntryFor, IsOneMore, dir_path_of, file_path_of, files_to_come, held_by, open_files, told_file};
+ghost use Rattle.folders.specs.Files.{HasRead, below, files_after, has_file};
+ghost use Rattle.folders.specs.Files.{next_files, rest_after, text_at};
+ghost use Rattle.folders.specs.Memory.{IfDir, IfFile, IsEntryFor, IsOneMore, dir_path_of, file_path_of};
+ghost use Rattle.folders.specs.Memory.{files_to_come, held_by, open_files, told_file};
 ghost use Rattle.hmr_types.specs.ModName.{is_text};
 
 use crate::{Entry, Node, OutFault, Tree};
@@ -65,8 +69,10 @@ impl MemTree {
 
     // Opens the folder once more.
     fn advance(&mut self)
-        ensures files { open_files self.new.is_open (held_by self.new) ≡ next_files (files_to_come self.old.is_open (held_by self.old)) }
-        ensures coming { files_to_come self.new.is_open (held_by self.new) ≡ files_after (files_to_come self.old.is_open (held_by self.old)) }
+        ensures files { open_files self.new.is_open (held_by self.new)
+            ≡ next_files (files_to_come self.old.is_open (held_by self.old)) }
+        ensures coming { files_to_come self.new.is_open (held_by self.new)
+            ≡ files_after (files_to_come self.old.is_open (held_by self.old)) }
         ensures plan { self.new.plan ≡ self.old.plan }
         ensures asked { self.new.asked ≡ self.old.asked }
     {
@@ -157,7 +163,8 @@ fn entries_of(
     files: &[MemFile],
     folder: &str,
 ) -> Result<Vec<Entry<MemDir, MemPlace>>, AllocError>
-    ensures { IfOk result (λ entries. IsListed dir_path_of file_path_of (map told_file files.now) folder.now entries.items) }
+    ensures { IfOk result
+        (λ entries. IsListed dir_path_of file_path_of (map told_file files.now) folder.now entries.items) }
 {
     let mut entries = Vec::new(alloc);
     for file in files {
@@ -186,7 +193,8 @@ fn enter(
 
 // Whether the last entry is a folder that the path leads through.
 fn is_entered(entries: &[Entry<MemDir, MemPlace>], path: &str) -> bool
-    ensures { result ≡ true → list_any (λ entry. leads_to dir_path_of file_path_of path.now entry.node) entries.now ≡ true }
+    ensures { result ≡ true
+        → list_any (λ entry. leads_to dir_path_of file_path_of path.now entry.node) entries.now ≡ true }
 {
     match entries.last() {
         Some(entry) => match &entry.node {
@@ -217,7 +225,8 @@ fn entry_of(
 
 fn dir_entry(alloc: Global, folder: &str, name: &str) -> Result<Entry<MemDir, MemPlace>, AllocError>
     ensures name { IfOk result (λ entry. string_bytes entry.name ≡ name.now) }
-    ensures node { IfOk result (λ entry. IfDir (λ dir. dir_path_of dir ≡ below folder.now name.now) entry.node) }
+    ensures node { IfOk result
+        (λ entry. IfDir (λ dir. dir_path_of dir ≡ below folder.now name.now) entry.node) }
 {
     let mut path = String::from_str(alloc, folder)?;
     path.push('/')?;

@@ -1,6 +1,7 @@
 // A folder and all below it. Contracts see which folder was asked for, how often a call failed and, where
 // the tree tells them, the files that the folder has: each path, from the folder on, with its bytes.
-ghost use Rattle.std.specs.Prelude.{◌≡◌, ◌≤◌, [], List, ℕ, Option, Some, false, length, IfOk, IfSome, OnOk, OnErr, MatchOption, IfNone};
+ghost use Rattle.std.specs.Prelude.{◌≡◌, ◌≤◌, [], List, ℕ, Option, Some, false, length};
+ghost use Rattle.std.specs.Prelude.{IfOk, IfSome, OnOk, OnErr, MatchOption, IfNone};
 ghost use Rattle.std.specs.Option.{option_map};
 ghost use Rattle.outside_calls.specs.Causes.{HasOutCause, is_failed};
 ghost use Rattle.hmr_base.specs.Plans.{AsPlanned, Plan};
@@ -74,7 +75,9 @@ pub trait Tree {
         alloc: Global,
         dir: &Self::Dir,
     ) -> Result<Vec<Entry<Self::Dir, Self::File>>, OutFault>
-        ensures listed { IfOk result (λ entries. IfSome (files self.old) (λ files. IsListed dir_path file_path files (dir_path dir.now) entries.items)) }
+        ensures listed { IfOk result
+            (λ entries. IfSome (files self.old)
+            (λ files. IsListed dir_path file_path files (dir_path dir.now) entries.items)) }
         ensures asked { asked self.new ≡ asked self.old }
         ensures files { files self.new ≡ files self.old }
         ensures coming { coming self.new ≡ coming self.old }
@@ -93,10 +96,13 @@ pub trait Tree {
         limit: usize,
     ) -> Result<Option<Vec<u8>>, OutFault>
         ensures bound { IfOk result (λ got. IfSome got (λ text. length text.items ≤ limit)) }
-        ensures told { IfOk result (λ got. IfSome (files self.old) (λ files. HasRead files (file_path file.now) limit (option_map (λ text. text.items) got))) }
+        ensures told { IfOk result
+            (λ got. IfSome (files self.old)
+            (λ files. HasRead files (file_path file.now) limit (option_map (λ text. text.items) got))) }
         ensures asked { asked self.new ≡ asked self.old }
         ensures files { files self.new ≡ files self.old }
         ensures coming { coming self.new ≡ coming self.old }
         ensures cause { HasOutCause (faults self.old) (faults self.new) result }
-        ensures planned { AsPlanned (plan self.old) (plan self.new) (is_failed result) (is_gone (files self.old) (file_path file.now)) };
+        ensures planned { AsPlanned (plan self.old) (plan self.new) (is_failed result)
+            (is_gone (files self.old) (file_path file.now)) };
 }

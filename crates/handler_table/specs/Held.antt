@@ -18,4 +18,5 @@ Answers F = F → Kept → Result body.Ran AllocError → Type 0
 
 -- each answer of a call of the closure is the run that is stated for its label and its number
 abbrev pub IsHost : {F : Type 0} → Answers F → Closure F → Type 0
-IsHost answers h = (bag : Kept) (ran : body.Ran) → answers h.call bag (Ok ran) → ran_seen ran ≡ host_ran h.label h.number bag
+IsHost answers h = (bag : Kept) (ran : body.Ran) → answers h.call bag (Ok ran)
+    → ran_seen ran ≡ host_ran h.label h.number bag

@@ -1,6 +1,7 @@
 // The handlers of one instance. There is at most one disposer and one prune handler; callbacks stand in
 // the order in which they registered.
-ghost use Rattle.std.specs.Prelude.{◌≡◌, ◌++◌, ◌∷◌, [], IfErr, OnOk, OnErr, None, Some, drop, length, slice_get};
+ghost use Rattle.std.specs.Prelude.{◌≡◌, ◌++◌, ◌∷◌, []};
+ghost use Rattle.std.specs.Prelude.{IfErr, OnOk, OnErr, None, Some, drop, length, slice_get};
 ghost use Rattle.std.specs.Option.{option_map};
 
 use crate::dep::Dep;
@@ -28,7 +29,8 @@ impl<F> Model for Handlers<F> {
 
     ghost coded = { Prim.hlevel (codes, stmt.the_row.coded) };
 
-    ghost view = { λ t. record { dispose = t.dispose; prune = t.prune; own = t.own.items; deps = t.deps.items } };
+    ghost view = { λ t.
+        record { dispose = t.dispose; prune = t.prune; own = t.own.items; deps = t.deps.items } };
 }
 
 impl<F> Handlers<F> {
@@ -101,7 +103,9 @@ impl<F> Handlers<F> {
     /// Adds a callback on these dependencies behind the others. Only want of memory refuses; callback and
     /// list are then gone, and the table is as before.
     pub fn add_dep(&mut self, deps: Vec<ModName>, code: HandlerCode) -> Result<(), AllocError>
-        ensures ok { OnOk result (self.new ≡ record self.old { deps = self.old.deps ++ record { deps = deps.items; code = code } ∷ [] }) }
+        ensures ok { OnOk result
+            (self.new
+            ≡ record self.old { deps = self.old.deps ++ record { deps = deps.items; code = code } ∷ [] }) }
         ensures err { OnErr result (self.new ≡ self.old) }
     {
         let deps = Sequence::from_vec(deps);

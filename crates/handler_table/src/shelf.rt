@@ -68,9 +68,11 @@ impl<F: FnOnce(Bag) -> Result<Ran, AllocError> + Drop> Shelf<F> {
     ) -> Result<(), AllocError>
         requires makes { M.IsAlwaysCallable make }
         requires callable { (f : F) → F.IsAlwaysCallable f }
-        requires hosts { (n : ℕ) (f : F) → M.post make n f → IsHost F.post (record { label = label.now; number = n; call = f }) }
+        requires hosts { (n : ℕ) (f : F) → M.post make n f
+            → IsHost F.post (record { label = label.now; number = n; call = f }) }
         ensures stays { Extends self.old self.new }
-        ensures numbers { OnOk result (marks_of self.new ≡ marks_of self.old ++ numbered label.now first (end - first)) }
+        ensures numbers { OnOk result
+            (marks_of self.new ≡ marks_of self.old ++ numbered label.now first (end - first)) }
         ensures hosts { All (IsHost F.post) self.old → All (IsHost F.post) self.new }
     {
         for number in first..end {

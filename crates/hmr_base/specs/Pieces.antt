@@ -1,5 +1,6 @@
 -- How many bytes one call moves, where a source or a sink tells it.
-use Rattle.std.specs.Prelude.{◌≡◌, ℕ, ◌+◌, ◌-◌, ◌^◌, min, ltb, List, length, Bool, false, Option, Some, None, ⊤}
+use Rattle.std.specs.Prelude.{◌≡◌, ◌+◌, ◌-◌, ◌^◌, ⊤}
+use Rattle.std.specs.Prelude.{ℕ, min, ltb, List, length, Bool, false, Option, Some, None}
 use Rattle.std.specs.Io.KnownBytes.{Consumes}
 
 -- a piece of what is left, as long as fits the room

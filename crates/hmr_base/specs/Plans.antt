@@ -20,7 +20,8 @@ is_to_fail plan = list_any (λ number. number == plan.call) plan.failing
 abbrev pub after_call : Plan → Plan
 after_call plan = record { call = min (plan.call + 1) (2 ^ 64 - 1); failing = plan.failing }
 
--- where the plan is told: the call was counted, and failed exactly where it was to, or for a cause of its own
+-- where the plan is told: the call was counted, and failed exactly where it was to, or for a cause of its
+-- own
 abbrev pub AsPlanned : Option Plan → Option Plan → Bool → Bool → Type 0
 AsPlanned None now failed own = now ≡ None
 AsPlanned (Some plan) now failed own = (now ≡ Some (after_call plan)) × (failed ≡ (is_to_fail plan || own))

@@ -52,7 +52,8 @@ pub fn read_all<S: Source>(
     ensures bytes { IfOk result (λ text. IfSome (S.left source.old) (λ bytes. text.items ≡ bytes)) }
     ensures end { OnOk result (IsAtEnd (S.left source.new)) }
     ensures limit { IfOk result (λ text. vec_len text ≤ limit) }
-    ensures too_long { IsErrOf result ReadFault.TooLong → IfSome (S.left source.old) (λ bytes. limit < length bytes) }
+    ensures too_long { IsErrOf result ReadFault.TooLong
+        → IfSome (S.left source.old) (λ bytes. limit < length bytes) }
     ensures rest { LeavesEnd (S.left source.old) (S.left source.new) }
     ensures failed { IsErrOf result ReadFault.Failed → Rose (S.faults source.old) (S.faults source.new) }
     ensures later { S.faults source.old ≤ S.faults source.new }

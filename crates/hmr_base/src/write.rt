@@ -19,7 +19,8 @@ pub struct WriteFault {
 /// `written` bytes of the text went out.
 pub fn write_all<K: Sink>(sink: &mut K, text: &[u8]) -> Result<(), WriteFault>
     ensures done { OnOk result (Appends (K.written sink.old) (K.written sink.new) text.now) }
-    ensures stopped { IfErr result (λ fault. Appends (K.written sink.old) (K.written sink.new) (take fault.written text.now)) }
+    ensures stopped { IfErr result
+        (λ fault. Appends (K.written sink.old) (K.written sink.new) (take fault.written text.now)) }
     ensures front { WritesFront (K.written sink.old) (K.written sink.new) text.now }
     ensures bound { IfErr result (λ fault. fault.written ≤ length text.now) }
     ensures failed { OnErr result (Rose (K.faults sink.old) (K.faults sink.new)) }

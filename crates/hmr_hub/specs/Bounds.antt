@@ -7,7 +7,8 @@ use Rattle.hmr_hub.specs.Recordings.{Kept}
 
 -- the entries, and for how many more there is room
 abbrev pub kept_of : Inside → Kept
-kept_of t = record { entries = map entry_of t.entries.items; spare = vec_capacity t.entries - vec_len t.entries }
+kept_of t =
+    record { entries = map entry_of t.entries.items; spare = vec_capacity t.entries - vec_len t.entries }
 
 -- there are no more entries than may be, and what is left are the bytes that they leave
 pub record IsBounded (t : Inside) : Type 0 where

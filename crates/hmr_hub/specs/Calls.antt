@@ -1,5 +1,6 @@
 -- What a call, a split and a join of passes leave, as their callers are told.
-use Rattle.std.specs.Prelude.{◌≡◌, ◌≢◌, ◌<◌, ◌↔◌, ◌⊎◌, ◌||◌, ℕ, ◌+◌, Bool, true, false, List, [], ◌∷◌, ◌++◌, length, Result, IfOk, IsErrOf}
+use Rattle.std.specs.Prelude.{◌≡◌, ◌≢◌, ◌<◌, ◌↔◌, ◌⊎◌, ◌||◌, ◌+◌, [], ◌∷◌, ◌++◌}
+use Rattle.std.specs.Prelude.{ℕ, Bool, true, false, List, length, Result, IfOk, IsErrOf}
 use Rattle.core_model.specs.Names.{Name}
 use Rattle.core_model.specs.Core.{Event}
 use Rattle.core_model.specs.Transcript.{Recorded, reply_after}
@@ -32,8 +33,8 @@ pub record SameKnower (p q : Pass) : Type 0 where
   pub roots : roots_of q ≡ roots_of p
 
 -- An event by a pass. The transcript begins with all that the pass had seen, goes on with entries under
--- numbers that it doesn't know, and ends with the event where it was answered. The reply is the step's in the
--- state that the transcript before the event makes.
+-- numbers that it doesn't know, and ends with the event where it was answered. The reply is the step's in
+-- the state that the transcript before the event makes.
 pub record Called (event : Event) (result : Result Reply HubStop) (p q : Pass) : Type 0 where
   pub before : List Recorded
   pub past : Past before (seen_of p) (known_of p)
@@ -41,8 +42,10 @@ pub record Called (event : Event) (result : Result Reply HubStop) (p q : Pass) :
   pub reply : IfOk result (λ reply. said (reply_after (roots_of p) before event) ≡ reply)
   pub written : IfOk result IsWritten
   pub full : IsErrOf result TranscriptFull ↔ (is_full before event ≡ true)
-  pub own : calls (number_of p ∷ []) (seen_of q) ≡ calls (number_of p ∷ []) (seen_of p) ++ recorded (number_of p) event result
-  pub known : calls (known_of p) (seen_of q) ≡ calls (known_of p) (seen_of p) ++ recorded (number_of p) event result
+  pub own : calls (number_of p ∷ []) (seen_of q)
+      ≡ calls (number_of p ∷ []) (seen_of p) ++ recorded (number_of p) event result
+  pub known : calls (known_of p) (seen_of q)
+      ≡ calls (known_of p) (seen_of p) ++ recorded (number_of p) event result
   pub alone : is_alone p ≡ true → before ≡ seen_of p
 
 -- a call that records nothing: what the pass has then seen has no further entry under a number that it knows
@@ -72,7 +75,9 @@ pub record IsHalf (p half : Pass) : Type 0 where
 
 -- one of two transcripts begins the other, with all entries under the numbers of its pass; the longer stays
 abbrev pub IsLonger : Pass → Pass → Pass → Type 0
-IsLonger p o q = ((seen_of q ≡ seen_of o) × Past (seen_of o) (seen_of p) (known_of p)) ⊎ ((seen_of q ≡ seen_of p) × Past (seen_of p) (seen_of o) (known_of o))
+IsLonger p o q =
+    ((seen_of q ≡ seen_of o) × Past (seen_of o) (seen_of p) (known_of p))
+    ⊎ ((seen_of q ≡ seen_of p) × Past (seen_of p) (seen_of o) (known_of o))
 
 -- The second pass was joined into the first. What is seen now is the longer transcript, with all entries
 -- under the numbers of both, each once.

@@ -17,7 +17,8 @@ use Rattle.hmr_hub.specs.Reports.{report_of}
 use Rattle.hmr_hub.specs.Transcripts.{IsTranscript, is_full, is_outstanding}
 
 -- the reply is the step's after the transcript, which had a place for the event, and can be written
-pub record IsReply (roots : List Name) (before : List Recorded) (event : Event) (reply : Reply) : Type 0 where
+pub record IsReply (roots : List Name) (before : List Recorded) (event : Event)
+    (reply : Reply) : Type 0 where
   pub is : said (reply_after roots before event) ≡ reply
   pub written : IsWritten reply
   pub room : is_full before event ≡ false
@@ -35,15 +36,18 @@ is_recorded (Err stop) = false
 
 -- an answer to a question, and whether it was recorded
 abbrev pub IsAnswer : List Name → List Recorded → Asked → Answer → Bool → Type 0
-IsAnswer roots before (tell event) (answer.Told result) kept = (kept ≡ is_recorded result) × IsOutcome roots before event result
+IsAnswer roots before (tell event) (answer.Told result) kept =
+    (kept ≡ is_recorded result) × IsOutcome roots before event result
 IsAnswer roots before (tell event) (answer.Outstanding told) kept = ⊥
 IsAnswer roots before (tell event) (answer.Report lines) kept = ⊥
 IsAnswer roots before (outstanding n) (answer.Told result) kept = ⊥
-IsAnswer roots before (outstanding n) (answer.Outstanding told) kept = (kept ≡ false) × (told ≡ is_outstanding roots before n)
+IsAnswer roots before (outstanding n) (answer.Outstanding told) kept =
+    (kept ≡ false) × (told ≡ is_outstanding roots before n)
 IsAnswer roots before (outstanding n) (answer.Report lines) kept = ⊥
 IsAnswer roots before report (answer.Told result) kept = ⊥
 IsAnswer roots before report (answer.Outstanding told) kept = ⊥
-IsAnswer roots before report (answer.Report lines) kept = (kept ≡ false) × IfOk lines (λ told. told.items ≡ report_of roots before)
+IsAnswer roots before report (answer.Report lines) kept =
+    (kept ≡ false) × IfOk lines (λ told. told.items ≡ report_of roots before)
 
 -- it is the answer to an event
 abbrev pub IsTold : Answer → Type 0
@@ -64,6 +68,7 @@ IsReported (answer.Outstanding told) = ⊥
 IsReported (answer.Report lines) = ⊤
 
 -- the answer in the state that a history makes of the opening value, and what the history then is
-pub record Answers (opening : Recording) (history : List (ℕ × Asked)) (by : ℕ) (asked : Asked) (told : Answer) (kept : Bool) : Type 0 where
+pub record Answers (opening : Recording) (history : List (ℕ × Asked)) (by : ℕ) (asked : Asked)
+    (told : Answer) (kept : Bool) : Type 0 where
   pub is : IsAnswer opening.roots (transcript_of history) asked told kept
   pub transcript : IsTranscript opening.roots (transcript_of (grown history by asked kept))

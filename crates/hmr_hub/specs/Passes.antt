@@ -45,6 +45,7 @@ all_given p = (lock.pass_view p.pass).all_given
 abbrev pub roots_of : Pass → List Name
 roots_of p = roots_in (lock.pass_view p.pass).opening
 
--- what it has seen is a transcript of a hub with its roots: it is legal, and each edit in it is under number 0
+-- what it has seen is a transcript of a hub with its roots: it is legal, and each edit in it is under number
+-- 0
 abbrev pub HasTranscript : Pass → Type 0
 HasTranscript p = IsTranscript (roots_of p) (seen_of p)

@@ -1,5 +1,6 @@
 -- Transcripts of a hub: what may be recorded, and what has a place.
-use Rattle.std.specs.Prelude.{◌≡◌, ℕ, ◌+◌, ◌==◌, nat_le, nat_lt, Bool, true, false, not, ◌||◌, ⊤, List, [], ◌∷◌, length, reverse, All, Result, Ok, Err}
+use Rattle.std.specs.Prelude.{◌≡◌, ℕ, ◌+◌, ◌==◌, nat_le, nat_lt, Bool, true, false, not, ◌||◌}
+use Rattle.std.specs.Prelude.{⊤, List, [], ◌∷◌, length, reverse, All, Result, Ok, Err}
 use Rattle.module_semantics.specs.Analysis.{transformed}
 use Rattle.module_semantics.specs.ModuleText.{parsing}
 use Rattle.core_model.specs.Names.{Name, at}
@@ -7,7 +8,8 @@ use Rattle.core_model.specs.Sources.{edit, result}
 use Rattle.core_model.specs.Requests.{Request, ask, fetch, applied_as, aborted, invalidate}
 use Rattle.core_model.specs.Formed.{IsVersion}
 use Rattle.core_model.specs.Core.{Event, change, connect, request, disconnect, core_after}
-use Rattle.core_model.specs.Transcript.{Recorded, IsLegal, event_bytes, events_of, most_bytes, most_entries, transcript_bytes}
+use Rattle.core_model.specs.Transcript.{Recorded, IsLegal, event_bytes, events_of, most_bytes}
+use Rattle.core_model.specs.Transcript.{most_entries, transcript_bytes}
 use Rattle.version_map.specs.Standing.{outstanding_in}
 
 -- the events of a transcript, the newest first
@@ -20,7 +22,8 @@ entry_bytes event = 64 + event_bytes event
 
 -- the transcript has no place for the event
 abbrev pub is_full : List Recorded → Event → Bool
-is_full entries event = nat_le most_entries (length entries) || nat_lt most_bytes (transcript_bytes entries + entry_bytes event)
+is_full entries event =
+    nat_le most_entries (length entries) || nat_lt most_bytes (transcript_bytes entries + entry_bytes event)
 
 abbrev pub is_edit : Event → Bool
 is_edit (change (edit n t)) = true

@@ -4,7 +4,8 @@ ghost use Rattle.hmr_types.specs.declared.limits.TheConstants.{ROOTS};
 ghost use Rattle.core_model.specs.Roots.{AreRoots, are_distinct};
 ghost use Rattle.server_core.specs.Kept.{StandsFor};
 ghost use Rattle.server_core.specs.Said.{event_of};
-ghost use Rattle.server_core.specs.declared.event.NewFault.TheVariants.{DuplicateRoot, NoRoots, TooManyRoots};
+ghost use Rattle.server_core.specs.declared.event.NewFault.TheVariants.{DuplicateRoot, NoRoots};
+ghost use Rattle.server_core.specs.declared.event.NewFault.TheVariants.{TooManyRoots};
 ghost use Rattle.hmr_hub.specs.Calls.{Called, IsFirst, IsHalf, Joined, Looked, SameKnower, SameSeen};
 ghost use Rattle.hmr_hub.specs.Outcomes.{IsOutstandingTold, IsReported, IsTold};
 ghost use Rattle.hmr_hub.specs.Passes.{HasTranscript, IsPassOf, all_given, number_of, roots_of, seen_of};
@@ -37,10 +38,10 @@ impl Pass {
 }
 
 impl Hub {
-    /// The hub of a server with these roots, before any event, and its first pass, which is alone until it is
-    /// split. [`NewFault::NoRoots`] comes exactly where there are no roots, [`NewFault::TooManyRoots`] where
-    /// there are more than 16, [`NewFault::DuplicateRoot`] where there are fewer and two are equal; else only
-    /// want of memory refuses.
+    /// The hub of a server with these roots, before any event, and its first pass, which is alone until it
+    /// is split. [`NewFault::NoRoots`] comes exactly where there are no roots, [`NewFault::TooManyRoots`]
+    /// where there are more than 16, [`NewFault::DuplicateRoot`] where there are fewer and two are equal;
+    /// else only want of memory refuses.
     pub fn new(alloc: Global, roots: Vec<ModName>) -> Result<(Hub, Pass), HubFault>
         ensures pass { IfOk result (λ made. IsPassOf made.0 made.1) }
         ensures first { IfOk result (λ made. IsFirst roots.items made.1) }
@@ -61,12 +62,13 @@ impl Hub {
 
     /// Tells the core an event, and answers its reply; an edit is told by the pass with number 0 alone, and
     /// the version of a result or of an invalidation is one that an edit can have, as [`crate::has_version`]
-    /// tells. It waits for the turn. The transcript that the call leaves begins with all that the pass had seen; past
-    /// that it has no entry under a number that the pass knows, but this one at its end, where it was answered.
-    /// A pass that is alone has seen all that there is before. The reply is the core's in the state that the
-    /// transcript before the event makes, and can be written. [`HubStop::TranscriptFull`] comes exactly where
-    /// the transcript has 1,000,000 entries or would have more than 268,435,456 bytes: an entry counts 64 and
-    /// those of the names and texts in its event. After a [`HubStop`] core and transcript are as before.
+    /// tells. It waits for the turn. The transcript that the call leaves begins with all that the pass had
+    /// seen; past that it has no entry under a number that the pass knows, but this one at its end, where it
+    /// was answered. A pass that is alone has seen all that there is before. The reply is the core's in the
+    /// state that the transcript before the event makes, and can be written. [`HubStop::TranscriptFull`]
+    /// comes exactly where the transcript has 1,000,000 entries or would have more than 268,435,456 bytes:
+    /// an entry counts 64 and those of the names and texts in its event. After a [`HubStop`] core and
+    /// transcript are as before.
     pub fn call<R: Wait>(&self, rt: &R, pass: &mut Pass, event: Event) -> Result<Reply, HubStop>
         requires pass { IsPassOf self.now pass.old }
         requires may { may_make (number_of pass.old) (event_of event) ≡ true }
@@ -113,8 +115,8 @@ impl Hub {
         self.lock.join(&mut into.pass, other.pass);
     }
 
-    /// Whether the name has a source whose result hasn't come, after all that the pass has then seen. It waits
-    /// for the turn, takes no memory and records nothing.
+    /// Whether the name has a source whose result hasn't come, after all that the pass has then seen. It
+    /// waits for the turn, takes no memory and records nothing.
     pub fn outstanding<R: Wait>(&self, rt: &R, pass: &mut Pass, name: ModName) -> bool
         requires { IsPassOf self.now pass.old }
         ensures pass { IsPassOf self.now pass.new }
@@ -130,15 +132,16 @@ impl Hub {
     }
 
     /// The report of all that the pass has then seen: how many entries there are, the fresh load of the
-    /// server's roots, and by number the page of each client that came, as it is or was when it went. It waits
-    /// for the turn and records nothing. Only want of memory refuses.
+    /// server's roots, and by number the page of each client that came, as it is or was when it went. It
+    /// waits for the turn and records nothing. Only want of memory refuses.
     pub fn report<R: Wait>(&self, rt: &R, pass: &mut Pass) -> Result<Vec<ReportLine>, AllocError>
         requires { IsPassOf self.now pass.old }
         ensures pass { IsPassOf self.now pass.new }
         ensures same { SameKnower pass.old pass.new }
         ensures looked { Looked pass.old pass.new }
         ensures transcript { HasTranscript pass.new }
-        ensures told { IfOk result (λ lines. lines.items ≡ report_of (roots_of pass.old) (seen_of pass.new)) }
+        ensures told { IfOk result
+            (λ lines. lines.items ≡ report_of (roots_of pass.old) (seen_of pass.new)) }
     {
         let question = Question { kind: Kind::Report };
         reported(self.lock.call(rt, &mut pass.pass, question))

@@ -36,7 +36,8 @@ impl RecordedCore {
     fn answer(&mut self, by: u64, kind: Kind) -> (Answer, bool)
         requires formed { IsFormedKind kind }
         requires may { may_ask by (asked_of kind) ≡ true }
-        ensures history { history_of self.new.entries ≡ grown (history_of self.old.entries) by (asked_of kind) result.1 }
+        ensures history { history_of self.new.entries
+            ≡ grown (history_of self.old.entries) by (asked_of kind) result.1 }
         ensures roots { self.new.roots ≡ self.old.roots }
         ensures answer { (opening : Recording) → self.old.roots ≡ opening.roots
             → Answers opening (history_of self.old.entries) by (asked_of kind) result.0 result.1 }

@@ -1,4 +1,5 @@
-// An event as a transcript keeps it. Of a result it keeps no outcome, which is that of transforming the text.
+// An event as a transcript keeps it. Of a result it keeps no outcome, which is that of transforming the
+// text.
 ghost use Rattle.std.specs.Prelude.{◌≡◌, IfOk};
 ghost use Rattle.std.specs.Option.{option_map};
 ghost use Rattle.server_core.specs.Said.{event_of};

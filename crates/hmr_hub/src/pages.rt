@@ -1,5 +1,5 @@
-// What an event is to the pages of clients: one comes, one goes, or neither. Of one that goes the core forgets
-// the page, so it is kept for the report.
+// What an event is to the pages of clients: one comes, one goes, or neither. Of one that goes the core
+// forgets the page, so it is kept for the report.
 ghost use Rattle.std.specs.Prelude.{◌≡◌, ◌∷◌, ◌<◌, ◌≤◌, ℕ, IfOk, List, length, vec_capacity, vec_len};
 ghost use Rattle.core_model.specs.Core as model;
 ghost use Rattle.core_model.specs.Core.{core_after, step};

@@ -8,7 +8,8 @@ ghost use Rattle.core_model.specs.Transcript.{IsTrueEvent, most_bytes, reply_aft
 ghost use Rattle.server_core.specs.Kept.{StandsFor};
 ghost use Rattle.server_core.specs.Said.{IsWritten, event_of, said};
 ghost use Rattle.hmr_hub.specs.Outcomes.{IsOutcome};
-ghost use Rattle.hmr_hub.specs.Transcripts.{IsTranscript, entry_bytes, is_full, is_outstanding, may_make, recorded};
+ghost use Rattle.hmr_hub.specs.Transcripts.{IsTranscript, entry_bytes, is_full, is_outstanding};
+ghost use Rattle.hmr_hub.specs.Transcripts.{may_make, recorded};
 
 use crate::kept_event::keep;
 use crate::pages::{note_passage, passage_of};
@@ -58,8 +59,8 @@ impl RecordedCore {
         }
     }
 
-    /// Tells the core an event that the pass `by` may make, and records it. Where the transcript has no place
-    /// for it, or there is no memory, nothing changes.
+    /// Tells the core an event that the pass `by` may make, and records it. Where the transcript has no
+    /// place for it, or there is no memory, nothing changes.
     pub fn tell(&mut self, by: u64, event: Event) -> Result<Reply, HubStop>
         requires formed { IsFormed (event_of event) }
         requires true_result { IsTrueEvent (transformed parsing) (event_of event) }
@@ -81,11 +82,13 @@ impl RecordedCore {
         requires true_result { IsTrueEvent (transformed parsing) (event_of event) }
         requires may { may_make by (event_of event) ≡ true }
         requires place { is_full self.old.entries (event_of event) ≡ false }
-        requires left { left + (transcript_bytes self.old.entries + entry_bytes (event_of event)) ≡ most_bytes }
+        requires left { left + (transcript_bytes self.old.entries + entry_bytes (event_of event))
+            ≡ most_bytes }
         ensures roots { self.new.roots ≡ self.old.roots }
         ensures told { OnOk result (self.new.entries ≡ self.old.entries ++ (by, event_of event) ∷ []) }
         ensures untold { OnErr result (self.new.entries ≡ self.old.entries) }
-        ensures reply { IfOk result (λ reply. said (reply_after self.old.roots self.old.entries (event_of event)) ≡ reply) }
+        ensures reply { IfOk result
+            (λ reply. said (reply_after self.old.roots self.old.entries (event_of event)) ≡ reply) }
         ensures written { IfOk result IsWritten }
         ensures transcript { IsTranscript self.new.roots self.new.entries }
     {

@@ -6,7 +6,8 @@ ghost use Rattle.world_model.specs.Steps.{fresh_lines};
 ghost use Rattle.server_core.specs.Fresh.{load_of};
 ghost use Rattle.server_core.specs.Kept.{StandsFor};
 ghost use Rattle.hmr_hub.specs.Pages.{ArePages, IsPage, last_page};
-ghost use Rattle.hmr_hub.specs.Reports.{client_lines, edge_line, missing_line, page_line, pages_lines, report_of};
+ghost use Rattle.hmr_hub.specs.Reports.{client_lines, edge_line, missing_line};
+ghost use Rattle.hmr_hub.specs.Reports.{page_line, pages_lines, report_of};
 ghost use Rattle.hmr_hub.specs.Transcripts.{IsTranscript};
 ghost use Rattle.hmr_hub.specs.declared.report_line.ReportLine.TheVariants.{Line};
 
@@ -18,9 +19,9 @@ use server_core::{Core, Fresh};
 use std::alloc::{AllocError, Global};
 
 impl RecordedCore {
-    /// How many entries the transcript has, the fresh load of the server's roots, and the pages of all clients
-    /// that ever came, by number: as they are, or as they were when the client went. It takes time in
-    /// proportion to the modules that it names.
+    /// How many entries the transcript has, the fresh load of the server's roots, and the pages of all
+    /// clients that ever came, by number: as they are, or as they were when the client went. It takes time
+    /// in proportion to the modules that it names.
     pub fn report(&self) -> Result<Vec<ReportLine>, AllocError>
         ensures told { IfOk result (λ lines. lines.items ≡ report_of self.now.roots self.now.entries) }
         ensures transcript { IsTranscript self.now.roots self.now.entries }

@@ -59,7 +59,9 @@ impl Transcript {
 
     /// How many bytes are left after this event; None exactly where it has no place. It takes no memory.
     pub fn left_after(&self, event: &Event) -> Option<usize>
-        ensures some { IfSome result (λ left. left + (transcript_bytes self.now.entries + entry_bytes (event_of event.now)) ≡ most_bytes) }
+        ensures some { IfSome result
+            (λ left. left + (transcript_bytes self.now.entries + entry_bytes (event_of event.now))
+            ≡ most_bytes) }
         ensures none { is_none result ≡ is_full self.now.entries (event_of event.now) }
     {
         if self.entries.len() >= ENTRIES {
@@ -80,7 +82,8 @@ impl Transcript {
     pub fn push(&mut self, by: u64, event: KeptEvent, left: usize)
         requires room { 1 ≤ self.old.spare }
         requires few { length self.old.entries < most_entries }
-        requires left { left + (transcript_bytes self.old.entries + entry_bytes (kept_as event)) ≡ most_bytes }
+        requires left { left + (transcript_bytes self.old.entries + entry_bytes (kept_as event))
+            ≡ most_bytes }
         ensures { self.new.entries ≡ self.old.entries ++ (by, kept_as event) ∷ [] }
     {
         self.entries.push_reserved(Entry { by, event });

@@ -10,7 +10,8 @@ use server_core::Event;
 /// What is left of so many bytes after those of the names and texts of an event; None where they are more.
 /// It takes no memory.
 pub(crate) fn left_after(left: usize, event: &Event) -> Option<usize>
-    ensures { SomeIff result (event_bytes (event_of event.now) ≤ left) (left - event_bytes (event_of event.now)) }
+    ensures { SomeIff result (event_bytes (event_of event.now) ≤ left)
+        (left - event_bytes (event_of event.now)) }
 {
     match event {
         Event::Edit(name, Some(text)) => after_text(left, name, text),
@@ -30,7 +31,8 @@ fn after_name(left: usize, name: &ModName) -> Option<usize>
 }
 
 fn after_text(left: usize, name: &ModName, text: &[u8]) -> Option<usize>
-    ensures { SomeIff result (length name.now + length text.now ≤ left) (left - (length name.now + length text.now)) }
+    ensures { SomeIff result (length name.now + length text.now ≤ left)
+        (left - (length name.now + length text.now)) }
 {
     after_name(left, name)?.checked_sub(text.len())
 }
@@ -46,7 +48,8 @@ fn after_names(left: usize, names: &[ModName]) -> Option<usize>
 }
 
 fn after_rows(left: usize, rows: &[(ModName, Ver)]) -> Option<usize>
-    ensures { SomeIff result (sum_by (λ row. length row.0) rows.now ≤ left) (left - sum_by (λ row. length row.0) rows.now) }
+    ensures { SomeIff result (sum_by (λ row. length row.0) rows.now ≤ left)
+        (left - sum_by (λ row. length row.0) rows.now) }
 {
     let mut rest = left;
     for row in rows.iter() {

@@ -1,5 +1,6 @@
 -- What the name of an event is, and the module that stands for an event: `my:ping` and `/event/my/ping`.
-use Rattle.std.specs.Prelude.{ℕ, List, ◌++◌, length, drop, Bool, ◌&&◌, ◌==◌, nat_eq, nat_le, codes, map, if◌then◌else◌, Option, Some, None}
+use Rattle.std.specs.Prelude.{ℕ, List, ◌++◌, length, drop, Bool, ◌&&◌, ◌==◌, nat_eq, nat_le}
+use Rattle.std.specs.Prelude.{codes, map, if◌then◌else◌, Option, Some, None}
 use Rattle.std.specs.List.{list_all, slice_split, starts_with}
 use Rattle.hmr_types.specs.ModName.{slash, is_segment}
 use Rattle.hmr_types.specs.declared.limits.TheConstants.{EVENT_BYTES}
@@ -10,7 +11,8 @@ colon = 58
 
 -- segments with this mark between each two, at most 64 bytes
 abbrev pub are_joined : ℕ → List ℕ → Bool
-are_joined mark text = nat_le (length text) EVENT_BYTES && list_all is_segment (slice_split (λ b. b == mark) text)
+are_joined mark text =
+    nat_le (length text) EVENT_BYTES && list_all is_segment (slice_split (λ b. b == mark) text)
 
 -- the text with one mark in place of another
 abbrev pub with_mark : ℕ → ℕ → List ℕ → List ℕ

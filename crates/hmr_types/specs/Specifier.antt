@@ -1,8 +1,10 @@
 -- Which module a specifier means, to the module that imports by it.
-use Rattle.std.specs.Prelude.{ℕ, List, [], ◌∷◌, ◌++◌, ◌-◌, length, take, drop, ◌==◌, ◌||◌, nat_eq, nat_le, codes, if◌then◌else◌, Result, Ok, Err, ⊤, ◌≡◌}
+use Rattle.std.specs.Prelude.{ℕ, List, [], ◌∷◌, ◌++◌, ◌-◌, length, take, drop, ◌==◌, ◌||◌, nat_eq}
+use Rattle.std.specs.Prelude.{nat_le, codes, if◌then◌else◌, Result, Ok, Err, ⊤, ◌≡◌}
 use Rattle.std.specs.List.{starts_with}
 use Rattle.hmr_types.specs.declared.specifier.SpecFault.{SpecFault}
-use Rattle.hmr_types.specs.declared.specifier.SpecFault.TheVariants.{Bare, Climbs, Empty, TooLong, BadSegment, NoMemory}
+use Rattle.hmr_types.specs.declared.specifier.SpecFault.TheVariants.{Bare, Climbs, Empty, TooLong}
+use Rattle.hmr_types.specs.declared.specifier.SpecFault.TheVariants.{BadSegment, NoMemory}
 use Rattle.hmr_types.specs.ModName.{slash, parts, is_text, here, above, is_segment}
 use Rattle.hmr_types.specs.Results.{◌>>=◌}
 
@@ -44,18 +46,21 @@ spelled (s ∷ more) = slash ∷ (s ++ spelled more)
 -- the name of these segments
 abbrev pub name_of : List (List ℕ) → Result (List ℕ) SpecFault
 name_of [] = Err Empty
-name_of (s ∷ more) = if nat_le (length (spelled (s ∷ more))) 255 then Ok (spelled (s ∷ more)) else Err TooLong
+name_of (s ∷ more) = if nat_le (length (spelled (s ∷ more))) 255 then Ok (spelled (s ∷ more))
+    else Err TooLong
 
 -- the name that the parts of a text lead to from these segments
 abbrev pub led_to : List (List ℕ) → List ℕ → Result (List ℕ) SpecFault
 led_to from text = walk from (parts text) >>= name_of
 
--- a leading slash starts from no segments and isn't a part; `./` and `../` start from the base's without its last
+-- a leading slash starts from no segments and isn't a part; `./` and `../` start from the base's without its
+-- last
 abbrev pub resolve : List ℕ → List ℕ → Result (List ℕ) SpecFault
 resolve base [] = Err Empty
 resolve base (b ∷ bs) =
     if b == slash then led_to [] bs
-    else if starts_with nat_eq (b ∷ bs) (codes "./") || starts_with nat_eq (b ∷ bs) (codes "../") then led_to (without_last (segments base)) (b ∷ bs)
+    else if starts_with nat_eq (b ∷ bs) (codes "./") || starts_with nat_eq (b ∷ bs) (codes "../")
+    then led_to (without_last (segments base)) (b ∷ bs)
     else Err Bare
 
 -- a refusal is the definition's, or want of memory

@@ -40,7 +40,8 @@ pub fn event_module(alloc: Global, event: &str) -> Result<Text, AllocError>
 /// An event and its module tell each other, and the module is named as modules are.
 pub fn events_and_modules_tell_each_other()
     ensures module { (event : List ℕ) → is_event event ≡ true → event_of (event_module event) ≡ Some event }
-    ensures event { (name event : List ℕ) → event_of name ≡ Some event → (event_module event ≡ name) × (is_event event ≡ true) }
+    ensures event { (name event : List ℕ) → event_of name ≡ Some event
+        → (event_module event ≡ name) × (is_event event ≡ true) }
     ensures named { (event : List ℕ) → is_event event ≡ true → is_name (event_module event) ≡ true }
 {}
 

@@ -4,7 +4,8 @@
 ghost use Rattle.std.specs.List.{list_all};
 ghost use Rattle.std.specs.Prelude.{◌≡◌, IfOk, IsTrue, map};
 ghost use Rattle.hmr_types.specs.ModName.{is_segment};
-ghost use Rattle.hmr_types.specs.Specifier.{Gives, led_to, name_of, resolve, segments, spelled, step, without_last};
+ghost use Rattle.hmr_types.specs.Specifier.{Gives, led_to, name_of, resolve, segments};
+ghost use Rattle.hmr_types.specs.Specifier.{spelled, step, without_last};
 
 use crate::ModName;
 use crate::limits::NAME_BYTES;
@@ -98,7 +99,9 @@ fn walked<'a>(alloc: Global, from: Vec<&'a [u8]>, rest: &'a [u8]) -> Result<ModN
 
 /// One part of a specifier.
 fn take_part<'a>(segments: &mut Vec<&'a [u8]>, part: &'a [u8]) -> Result<(), SpecFault>
-    ensures { Gives (λ _. map (λ s. s.now) segments.new.items) result (step (map (λ s. s.now) segments.old.items) part.now) }
+    ensures { Gives
+        (λ _. map (λ s. s.now) segments.new.items)
+        result (step (map (λ s. s.now) segments.old.items) part.now) }
 {
     match part {
         [b'.'] => Ok(()),

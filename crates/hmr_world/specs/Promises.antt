@@ -16,7 +16,8 @@ use Rattle.world_model.specs.World.{Step}
 use Rattle.world_laws.specs.Instances.{IsLiveAs}
 use Rattle.world_laws.specs.Stops.{IsStopped}
 use Rattle.world_laws.specs.Quiet.{IsSettled, AreQuiet, IsUpAmongLooks}
-use Rattle.journal_laws.specs.Counts.{AreDisposedOnce, ArePrunedOnce, AreTold, AreRegistered, AreFated, AreRunsOfHandlers}
+use Rattle.journal_laws.specs.Counts.{AreDisposedOnce, ArePrunedOnce, AreTold, AreRegistered}
+use Rattle.journal_laws.specs.Counts.{AreFated, AreRunsOfHandlers}
 use Rattle.journal_laws.specs.Ends.{AllEnd}
 use Rattle.journal_laws.specs.FreshValues.{IsAcyclic, NothingAssignedLive, AreFreshValues}
 use Rattle.journal_laws.specs.Isolated.{is_of_another, IsSpared}
@@ -30,7 +31,8 @@ use Rattle.world_laws.specs.Runs.{Run, sources_of, served_of, life_in, HasClient
 -- a caught-up client holds exactly a fresh load of what is served, of its own roots: a name is in that load
 -- at a version exactly where a live instance of the name has that version
 abbrev pub CaughtUpIsFresh : Run → Type 0
-CaughtUpIsFresh run = (i : ℕ) (c : Client) (r : Runtime) → HasClient run i c r → IsCaughtUp (sources_of run) c r →
+CaughtUpIsFresh run = (i : ℕ) (c : Client) (r : Runtime) → HasClient run i c r
+    → IsCaughtUp (sources_of run) c r →
     (n : Name) (v : ℕ) → Contains (fresh_table (served_of run) r.roots) (n, v) ↔ IsLiveAs r.instances n v
 
 -- and each import of a name that the dependency, as it is served, doesn't export is at an edge at which the
@@ -43,7 +45,8 @@ UnlinkedIsStale run = (i : ℕ) (c : Client) (r : Runtime) → HasClient run i c
 
 -- and that load reaches no module that isn't served
 abbrev pub NothingIsMissing : Run → Type 0
-NothingIsMissing run = (i : ℕ) (c : Client) (r : Runtime) → HasClient run i c r → IsCaughtUp (sources_of run) c r →
+NothingIsMissing run = (i : ℕ) (c : Client) (r : Runtime) → HasClient run i c r
+    → IsCaughtUp (sources_of run) c r →
     missing_of (served_of run) r.roots ≡ []
 
 -- a client's own roots are those that it named when it came, and where it named none the server's
@@ -56,8 +59,8 @@ abbrev pub StaleWhereStopped : Run → Type 0
 StaleWhereStopped run = (i : ℕ) (c : Client) (r : Runtime) → HasClient run i c r →
     (b x : Name) → IsStale r b x ↔ IsStopped module_language (life_in run i).opening (life_in run i).past b x
 
--- of each instance that registered a disposer, one ran where it was replaced or pruned, the one that was held;
--- none ran of an instance that is live or was reloaded
+-- of each instance that registered a disposer, one ran where it was replaced or pruned, the one that was
+-- held; none ran of an instance that is live or was reloaded
 abbrev pub DisposersRanOnce : Run → Type 0
 DisposersRanOnce run = (i : ℕ) (c : Client) (r : Runtime) → HasClient run i c r →
     AreDisposedOnce r (journal_of module_language (life_in run i).opening (life_in run i).past)
@@ -77,8 +80,8 @@ abbrev pub DataGoesToNoOther : Run → Type 0
 DataGoesToNoOther run = (i : ℕ) (c : Client) (r : Runtime) → HasClient run i c r →
     OthersInheritNothing r (journal_of module_language (life_in run i).opening (life_in run i).past)
 
--- the server answers a client's next request by a full reload exactly where an unaccepted path reaches a root
--- or a module that declines, and nothing else is to be done first
+-- the server answers a client's next request by a full reload exactly where an unaccepted path reaches a
+-- root or a module that declines, and nothing else is to be done first
 abbrev pub ReloadsAreExact : Run → Type 0
 ReloadsAreExact run = (i : ℕ) (c : Client) (r : Runtime) → HasClient run i c r →
     IsFullReload (next_reply run i r) ↔ IsReloadTurn run c r
@@ -97,8 +100,8 @@ abbrev pub PruneHandlersRanOnce : Run → Type 0
 PruneHandlersRanOnce run = (i : ℕ) (c : Client) (r : Runtime) → HasClient run i c r →
     ArePrunedOnce r (journal_of module_language (life_in run i).opening (life_in run i).past)
 
--- it is the one that was held, which was dropped unrun where the instance was replaced or reloaded; each that
--- a later one displaced was dropped unrun
+-- it is the one that was held, which was dropped unrun where the instance was replaced or reloaded; each
+-- that a later one displaced was dropped unrun
 abbrev pub HeldPruneHandlersRan : Run → Type 0
 HeldPruneHandlersRan run = (i : ℕ) (c : Client) (r : Runtime) → HasClient run i c r →
     HeldPruneHandlersRun r (journal_of module_language (life_in run i).opening (life_in run i).past)
@@ -142,7 +145,8 @@ ValuesAreOfEvaluations run = (i : ℕ) (c : Client) (r : Runtime) → HasClient 
 -- each evaluation was that of the instance's text, over its bag and over what its links held at that time
 abbrev pub EvaluationsAreOfTexts : Run → Type 0
 EvaluationsAreOfTexts run = (i : ℕ) (c : Client) (r : Runtime) → HasClient run i c r →
-    AreEvaluations module_language r (journal_of module_language (life_in run i).opening (life_in run i).past)
+    AreEvaluations module_language r
+    (journal_of module_language (life_in run i).opening (life_in run i).past)
 
 -- an instance wasn't run only where one that it is linked to had failed; its variables are all unset
 abbrev pub UnrunIsUnset : Run → Type 0

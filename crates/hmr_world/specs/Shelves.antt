@@ -12,7 +12,8 @@ Shelves F = List (List (Closure F))
 
 -- no client but the first so many has taken its closures
 abbrev pub AreShelves : {F : Type 0} → ℕ → List (List (Text × ℕ)) → Shelves F → Type 0
-AreShelves given marks shelves = (place : ℕ) → given ≤ place → option_map marks_of (slice_get shelves place) ≡ slice_get marks place
+AreShelves given marks shelves = (place : ℕ) → given ≤ place
+    → option_map marks_of (slice_get shelves place) ≡ slice_get marks place
 
 -- each closure answers what is stated for it
 abbrev pub AreHosts : {F : Type 0} → Answers F → Shelves F → Type 0

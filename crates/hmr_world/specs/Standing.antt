@@ -22,7 +22,8 @@ use Rattle.hmr_world.specs.declared.world.World.{World}
 
 -- the world has what the definitions' world has: the server's roots, the core, the open clients by number,
 -- the jobs under way, and the closures of clients to come
-pub record Has {F : Type 0} (roots : List Name) (shelves : List (List (Text × ℕ))) (w : model.World) (world : World F) : Type 0 where
+pub record Has {F : Type 0} (roots : List Name) (shelves : List (List (Text × ℕ))) (w : model.World)
+    (world : World F) : Type 0 where
   pub roots_are : world.core.roots ≡ roots
   pub core : IsCore w.core world.core
   pub clients : AreOpen w.clients world.clients.items
@@ -48,7 +49,8 @@ abbrev pub step_in : Run → Step → Stepped
 step_in run s = world_step module_language run.roots run.shelves (world_of run) s
 
 -- A step was made: it answers the lines of the definitions, and leaves the world that they leave.
-pub record IsStepped {F : Type 0} (run : Run) (s : Step) (after : World F) (result : Result (Vec OutLine) WorldStop) : Type 0 where
+pub record IsStepped {F : Type 0} (run : Run) (s : Step) (after : World F)
+    (result : Result (Vec OutLine) WorldStop) : Type 0 where
   pub lines : AreLines (step_in run s).lines result
   pub has : OnOk result (Has run.roots run.shelves (step_in run s).world after)
 

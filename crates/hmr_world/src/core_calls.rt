@@ -10,8 +10,10 @@ use std::alloc::{AllocError, Global};
 
 /// An event of the core, and its reply.
 pub(crate) fn tell(core: &mut Core, alloc: Global, event: Event) -> Result<Reply, AllocError>
-    ensures stands { (c : model.Core) → IsCore c core.old → OnOk result (IsCore (step core.old.roots c (event_of event)).0 core.new) }
-    ensures reply { (c : model.Core) → IsCore c core.old → IfOk result (λ reply. said (step core.old.roots c (event_of event)).1 ≡ reply) }
+    ensures stands { (c : model.Core) → IsCore c core.old
+        → OnOk result (IsCore (step core.old.roots c (event_of event)).0 core.new) }
+    ensures reply { (c : model.Core) → IsCore c core.old
+        → IfOk result (λ reply. said (step core.old.roots c (event_of event)).1 ≡ reply) }
     ensures written { (c : model.Core) → IsCore c core.old → IfOk result IsWritten }
     ensures roots { core.new.roots ≡ core.old.roots }
 {

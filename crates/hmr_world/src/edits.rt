@@ -28,7 +28,8 @@ impl<F> World<F> {
         name: ModName,
         text: Option<Vec<u8>>,
     ) -> Result<Vec<OutLine>, WorldStop>
-        ensures step { (run : Run) → StandsFor run self.old → IsStepped run (edits name (option_map (λ t. t.items) text)) self.new result }
+        ensures step { (run : Run) → StandsFor run self.old
+            → IsStepped run (edits name (option_map (λ t. t.items) text)) self.new result }
         ensures clients { self.new.clients ≡ self.old.clients }
         ensures shelves { self.new.shelves ≡ self.old.shelves }
         ensures roots { self.new.core.roots ≡ self.old.core.roots }
@@ -41,7 +42,8 @@ impl<F> World<F> {
 
     // A text that gets a version is a job from now on.
     fn give(&mut self, name: ModName, text: Vec<u8>) -> Result<Vec<OutLine>, WorldStop>
-        ensures step { (run : Run) → StandsFor run self.old → IsStepped run (edits name (Some text.items)) self.new result }
+        ensures step { (run : Run) → StandsFor run self.old
+            → IsStepped run (edits name (Some text.items)) self.new result }
         ensures clients { self.new.clients ≡ self.old.clients }
         ensures shelves { self.new.shelves ≡ self.old.shelves }
         ensures roots { self.new.core.roots ≡ self.old.core.roots }
@@ -53,7 +55,8 @@ impl<F> World<F> {
     }
 
     fn take_away(&mut self, name: ModName) -> Result<Vec<OutLine>, WorldStop>
-        ensures step { (run : Run) → StandsFor run self.old → IsStepped run (edits name None) self.new result }
+        ensures step { (run : Run) → StandsFor run self.old
+            → IsStepped run (edits name None) self.new result }
         ensures clients { self.new.clients ≡ self.old.clients }
         ensures shelves { self.new.shelves ≡ self.old.shelves }
         ensures roots { self.new.core.roots ≡ self.old.core.roots }
@@ -66,7 +69,8 @@ impl<F> World<F> {
 
 // The job of a text that got a version.
 fn issue(jobs: &mut Jobs, reply: &Reply, name: &ModName, text: Vec<u8>) -> Result<(), AllocError>
-    ensures { (answer : EditAnswer) → answer_in reply.now ≡ Some answer → AreBelow answer jobs.old → OnOk result (jobs.new ≡ with_job name.now (Some text.items) answer jobs.old) }
+    ensures { (answer : EditAnswer) → answer_in reply.now ≡ Some answer → AreBelow answer jobs.old
+        → OnOk result (jobs.new ≡ with_job name.now (Some text.items) answer jobs.old) }
 {
     match job_version(reply) {
         Some(version) => jobs.add(version, copy_name(name)?, text),

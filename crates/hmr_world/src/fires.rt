@@ -20,8 +20,8 @@ use std::alloc::AllocError;
 
 impl<F: FnOnce(Bag) -> Result<Ran, AllocError> + Drop> World<F> {
     /// Fires an event with a value at a client's page, and gives the lines: None exactly where the client
-    /// isn't open, its page isn't loaded, or a plan is under way; then nothing changes. [`WorldStop::NoMemory`]
-    /// may come in place of any answer, and ends the run.
+    /// isn't open, its page isn't loaded, or a plan is under way; then nothing changes.
+    /// [`WorldStop::NoMemory`] may come in place of any answer, and ends the run.
     pub fn fire(
         &mut self,
         client: ClientId,
@@ -31,8 +31,11 @@ impl<F: FnOnce(Bag) -> Result<Ran, AllocError> + Drop> World<F> {
         requires callable { (f : F) → F.IsAlwaysCallable f }
         requires words { KeepsWords F.post self.old }
         requires running { IsRunning self.old }
-        ensures stands { (run : Run) → StandsFor run self.old → OnOk result (StandsFor (run_on run (fires client event.now value.now)) self.new) }
-        ensures answer { (run : Run) → StandsFor run self.old → AreHeard (heard_at module_language event.now value.now (client_at (world_of run).clients client)) result }
+        ensures stands { (run : Run) → StandsFor run self.old
+            → OnOk result (StandsFor (run_on run (fires client event.now value.now)) self.new) }
+        ensures answer { (run : Run) → StandsFor run self.old
+            → AreHeard
+            (heard_at module_language event.now value.now (client_at (world_of run).clients client)) result }
         ensures running { OnOk result (IsRunning self.new) }
         ensures words { KeepsWords F.post self.new }
         ensures roots { self.new.core.roots ≡ self.old.core.roots }

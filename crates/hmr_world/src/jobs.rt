@@ -1,5 +1,6 @@
 // The jobs that were issued and whose results haven't come, by version.
-ghost use Rattle.std.specs.Prelude.{◌≡◌, ◌<◌, [], ◌∷◌, IfOk, OnOk, filter, find, is_some, map, not, option_map, reverse};
+ghost use Rattle.std.specs.Prelude.{◌≡◌, ◌<◌, [], ◌∷◌};
+ghost use Rattle.std.specs.Prelude.{IfOk, OnOk, filter, find, is_some, map, not, option_map, reverse};
 ghost use Rattle.std.specs.List.{AllByRecursion};
 ghost use Rattle.world_model.specs.Editing.{is_job};
 ghost use Rattle.hmr_world.specs.Jobs.{job_of, key_of};
@@ -48,7 +49,9 @@ impl Jobs {
 
     /// One job more, of a version above all others.
     pub fn add(&mut self, version: Ver, name: ModName, text: Vec<u8>) -> Result<(), AllocError>
-        ensures { AllByRecursion (λ j. j.version < version) self.old → OnOk result (self.new ≡ record { name = name; version = version; text = text.items } ∷ self.old) }
+        ensures { AllByRecursion (λ j. j.version < version) self.old
+            → OnOk result
+            (self.new ≡ record { name = name; version = version; text = text.items } ∷ self.old) }
     {
         self.rows.insert(version, Job { name, text })?;
         Ok(())
@@ -57,7 +60,8 @@ impl Jobs {
     /// Takes the job of this name and version out, and gives its text: None where there is no such job. It
     /// takes no memory, and time in the logarithm of the jobs.
     pub fn take(&mut self, name: &ModName, version: Ver) -> Option<Vec<u8>>
-        ensures text { option_map (λ t. t.items) result ≡ option_map (λ j. j.text) (find (is_job name.now version) self.old) }
+        ensures text { option_map (λ t. t.items) result
+            ≡ option_map (λ j. j.text) (find (is_job name.now version) self.old) }
         ensures left { self.new ≡ filter (λ j. not (is_job name.now version j)) self.old }
     {
         if !self.has(name, version) {

@@ -32,8 +32,8 @@ impl<F> World<F> {
         }
     }
 
-    /// Whether a client is open. It takes no memory, and time in the number of clients, of which there are at
-    /// most 32.
+    /// Whether a client is open. It takes no memory, and time in the number of clients, of which there are
+    /// at most 32.
     pub fn is_open(&self, client: ClientId) -> bool
         ensures { (run : Run) → StandsFor run self.now
             → result ≡ is_some (client_at (world_of run).clients client) }

@@ -31,7 +31,8 @@ impl<F> World<F> {
     /// The result comes for the job of this name and version, where there is one.
     pub(crate) fn settle(&mut self, name: ModName, version: Ver) -> Result<Vec<OutLine>, WorldStop>
         requires running { IsRunning self.old }
-        ensures step { (run : Run) → StandsFor run self.old → IsStepped run (settles name version) self.new result }
+        ensures step { (run : Run) → StandsFor run self.old
+            → IsStepped run (settles name version) self.new result }
         ensures clients { self.new.clients ≡ self.old.clients }
         ensures shelves { self.new.shelves ≡ self.old.shelves }
         ensures roots { self.new.core.roots ≡ self.old.core.roots }
@@ -71,8 +72,17 @@ fn settled(
     text: Vec<u8>,
 ) -> Result<SettleWord, AllocError>
     requires short { length text.items ≤ TEXT_BYTES }
-    ensures core { (c : model.Core) → IsCore c core.old → OnOk result (IsCore (step core.old.roots c (change (changes.result name.now text.items (transformed parsing name.now text.items) version))).0 core.new) }
-    ensures word { (c : model.Core) → IsCore c core.old → IfOk result (λ word. word ≡ settled_word (settled_as (result_answer c.sources name.now text.items (transformed parsing name.now text.items) version))) }
+    ensures core { (c : model.Core) → IsCore c core.old
+        → OnOk result
+        (IsCore (step core.old.roots c
+        (change (changes.result name.now text.items
+        (transformed parsing name.now text.items) version))).0 core.new) }
+    ensures word { (c : model.Core) → IsCore c core.old
+        → IfOk result
+        (λ word. word
+        ≡ settled_word
+        (settled_as
+        (result_answer c.sources name.now text.items (transformed parsing name.now text.items) version))) }
     ensures roots { core.new.roots ≡ core.old.roots }
 {
     let transformed = transform(alloc, copy_name(name)?, text)?;

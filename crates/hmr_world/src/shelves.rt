@@ -21,8 +21,10 @@ pub(crate) fn take_shelf<F: FnOnce(Bag) -> Result<Ran, AllocError> + Drop>(
     client: ClientId,
 ) -> Shelf<F>
     requires { 1 ≤ client }
-    ensures taken { (given : ℕ) (marks : List (List (Text × ℕ))) → client ≡ given + 1 → AreShelves given marks shelves.old → marks_of result ≡ shelf_of marks client }
-    ensures left { (given : ℕ) (marks : List (List (Text × ℕ))) → client ≡ given + 1 → AreShelves given marks shelves.old → AreShelves client marks shelves.new }
+    ensures taken { (given : ℕ) (marks : List (List (Text × ℕ))) → client ≡ given + 1
+        → AreShelves given marks shelves.old → marks_of result ≡ shelf_of marks client }
+    ensures left { (given : ℕ) (marks : List (List (Text × ℕ))) → client ≡ given + 1
+        → AreShelves given marks shelves.old → AreShelves client marks shelves.new }
     ensures host { AreHosts F.post shelves.old → All (IsHost F.post) result }
     ensures hosts { AreHosts F.post shelves.old → AreHosts F.post shelves.new }
 {

@@ -79,9 +79,12 @@ fn exchange<F: FnOnce(Bag) -> Result<Ran, AllocError> + Drop>(
     requires callable { (f : F) → F.IsAlwaysCallable f }
     requires words { runtimes.KeepsWords F.post runtime.old }
     requires fits { CanTurn client core.old runtime.old }
-    ensures core { (c : model.Core) (r : Runtime) → IsCore c core.old → IsRuntime r runtime.old → OnOk result (IsCore (answer_to core.old.roots c client r).0 core.new) }
-    ensures runtime { (c : model.Core) (r : Runtime) → IsCore c core.old → IsRuntime r runtime.old → OnOk result (IsRuntime (taking_of core.old.roots c client r).after runtime.new) }
-    ensures lines { (c : model.Core) (r : Runtime) → IsCore c core.old → IsRuntime r runtime.old → AreLines (lines_taken (taking_of core.old.roots c client r).answer) result }
+    ensures core { (c : model.Core) (r : Runtime) → IsCore c core.old → IsRuntime r runtime.old
+        → OnOk result (IsCore (answer_to core.old.roots c client r).0 core.new) }
+    ensures runtime { (c : model.Core) (r : Runtime) → IsCore c core.old → IsRuntime r runtime.old
+        → OnOk result (IsRuntime (taking_of core.old.roots c client r).after runtime.new) }
+    ensures lines { (c : model.Core) (r : Runtime) → IsCore c core.old → IsRuntime r runtime.old
+        → AreLines (lines_taken (taking_of core.old.roots c client r).answer) result }
     ensures words { runtimes.KeepsWords F.post runtime.new }
     ensures roots { core.new.roots ≡ core.old.roots }
 {
@@ -104,8 +107,10 @@ pub(crate) fn take_answer<F: FnOnce(Bag) -> Result<Ran, AllocError> + Drop>(
     requires callable { (f : F) → F.IsAlwaysCallable f }
     requires words { runtimes.KeepsWords F.post runtime.old }
     requires fits { CanTake msg runtime.old }
-    ensures runtime { (r : Runtime) → IsRuntime r runtime.old → OnOk result (IsRuntime (take module_language r msg).after runtime.new) }
-    ensures lines { (r : Runtime) → IsRuntime r runtime.old → AreLines (lines_taken (take module_language r msg).answer) result }
+    ensures runtime { (r : Runtime) → IsRuntime r runtime.old
+        → OnOk result (IsRuntime (take module_language r msg).after runtime.new) }
+    ensures lines { (r : Runtime) → IsRuntime r runtime.old
+        → AreLines (lines_taken (take module_language r msg).answer) result }
     ensures words { runtimes.KeepsWords F.post runtime.new }
 {
     match runtime.take(msg) {

@@ -1,6 +1,11 @@
 -- The numbers that the definitions give to the kinds of tokens.
 use Rattle.std.specs.Prelude.{ℕ}
-use Rattle.module_semantics.specs.Kinds.{OTHER, IMPORT, EXPORT, CONST, LET, IF, ELSE, THROW, UNDEFINED, NULL, TRUE, FALSE, CONSOLE, LOG, HOST, NEW, ERROR, FROM, AS, META, HOT, DATA, ACCEPT, DISPOSE, PRUNE, DECLINE, INVALIDATE, ON, NUMBER, TEXT, OPEN_BRACE, CLOSE_BRACE, OPEN, CLOSE, OPEN_BRACKET, CLOSE_BRACKET, COMMA, SEMICOLON, DOT, EQUALS, PLUS, MINUS, TIMES, QUESTION, COLON, ARROW, SAFE_DOT, NULLISH}
+use Rattle.module_semantics.specs.Kinds.{OTHER, IMPORT, EXPORT, CONST, LET, IF, ELSE, THROW, UNDEFINED}
+use Rattle.module_semantics.specs.Kinds.{NULL, TRUE, FALSE, CONSOLE, LOG, HOST, NEW, ERROR, FROM, AS, META}
+use Rattle.module_semantics.specs.Kinds.{HOT, DATA, ACCEPT, DISPOSE, PRUNE, DECLINE, INVALIDATE, ON, NUMBER}
+use Rattle.module_semantics.specs.Kinds.{TEXT, OPEN_BRACE, CLOSE_BRACE, OPEN, CLOSE, OPEN_BRACKET}
+use Rattle.module_semantics.specs.Kinds.{CLOSE_BRACKET, COMMA, SEMICOLON, DOT, EQUALS, PLUS, MINUS, TIMES}
+use Rattle.module_semantics.specs.Kinds.{QUESTION, COLON, ARROW, SAFE_DOT, NULLISH}
 use Rattle.hot_grammar.specs.declared.kind.Kind.{Kind}
 use Rattle.hot_grammar.specs.declared.kind.Kind.TheVariants as kinds
 

@@ -30,5 +30,6 @@ operators_at levels.Product = TIMES ∷ []
 -- an operator of it, with the operand at its right
 abbrev pub operation_at : Level → Reader RawExpr → Reader (Op × RawExpr)
 operation_at levels.Null e = operation NULLISH ops.Null (sum e)
-operation_at levels.Sum e = choice (PLUS ∷ []) (operation PLUS ops.Add (prod e)) (operation MINUS ops.Sub (prod e))
+operation_at levels.Sum e =
+    choice (PLUS ∷ []) (operation PLUS ops.Add (prod e)) (operation MINUS ops.Sub (prod e))
 operation_at levels.Product e = operation TIMES ops.Mul (unary e)

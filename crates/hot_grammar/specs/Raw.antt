@@ -50,7 +50,8 @@ stmt_step (RawStmt-F.Set n k e) = plain.set (name_at_of n) k (raw_expr_of e)
 stmt_step (RawStmt-F.SetBag k e) = plain.set_bag k (raw_expr_of e)
 stmt_step (RawStmt-F.Throw e) = plain.throw (raw_expr_of e)
 stmt_step (RawStmt-F.Invalidate at e) = plain.invalidate at (option_map raw_expr_of e)
-stmt_step (RawStmt-F.Branch c first second) = plain.branch (raw_expr_of c) (stmts_of first.items) (stmts_of second.items)
+stmt_step (RawStmt-F.Branch c first second) =
+    plain.branch (raw_expr_of c) (stmts_of first.items) (stmts_of second.items)
 
 -- a statement
 abbrev pub raw_stmt_of : RawStmt → plain.RawStmt
@@ -74,7 +75,8 @@ raw_import_of i = record { exported = i.exported; local = name_at_of i.local }
 
 abbrev pub raw_item_of : RawItem → plain.RawItem
 raw_item_of (items.Import spec names) = plain.import spec (map raw_import_of names.items)
-raw_item_of (items.Declare exported mutable name value) = plain.declare exported mutable (name_at_of name) (raw_expr_of value)
+raw_item_of (items.Declare exported mutable name value) =
+    plain.declare exported mutable (name_at_of name) (raw_expr_of value)
 raw_item_of (items.Act s) = plain.act (raw_stmt_of s)
 raw_item_of (items.Own once) = plain.own (option_map raw_once_of once)
 raw_item_of (items.Deps list specs call) = plain.deps list specs.items (option_map raw_handler_of call)

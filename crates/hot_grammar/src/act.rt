@@ -4,7 +4,8 @@ ghost use Rattle.std.specs.Prelude.{◌≡◌, ◌∷◌, [], map};
 ghost use Rattle.std.specs.Option.{option_map};
 ghost use Rattle.module_semantics.specs.Kinds.{COMMA};
 ghost use Rattle.module_semantics.specs.Readers.{mark, separated, ◌▷◌};
-ghost use Rattle.module_semantics.specs.Reading.{bag_act, console_act, expr_firsts, import_stmt, inner, name_act, other_act, thrown, told};
+ghost use Rattle.module_semantics.specs.Reading.{bag_act, console_act, expr_firsts, import_stmt};
+ghost use Rattle.module_semantics.specs.Reading.{inner, name_act, other_act, thrown, told};
 ghost use Rattle.hot_grammar.specs.Parts.{keyed, logged};
 ghost use Rattle.hot_grammar.specs.Raw.{raw_expr_of, raw_stmt_of};
 ghost use Rattle.hot_grammar.specs.Reads.{Gives};
@@ -34,7 +35,8 @@ fn read_next_value(
     tokens: &mut Tokens<'_>,
     depth: u32,
 ) -> Result<RawExpr, GrammarFault>
-    ensures { Gives (λ e. (raw_expr_of e, tokens.new)) result ((mark COMMA ▷ (inner depth).expr) tokens.old) }
+    ensures { Gives
+        (λ e. (raw_expr_of e, tokens.new)) result ((mark COMMA ▷ (inner depth).expr) tokens.old) }
 {
     tokens.mark(Kind::Comma)?;
     let value = read_value(alloc, tokens, depth)?;
@@ -47,7 +49,9 @@ fn read_values(
     tokens: &mut Tokens<'_>,
     depth: u32,
 ) -> Result<Vec<RawExpr>, GrammarFault>
-    ensures { Gives (λ es. (map raw_expr_of es.items, tokens.new)) result (separated expr_firsts (inner depth).expr tokens.old) }
+    ensures { Gives
+        (λ es. (map raw_expr_of es.items, tokens.new))
+        result (separated expr_firsts (inner depth).expr tokens.old) }
 {
     let mut values = Vec::new(alloc);
     if !tokens.next_in(&EXPR_FIRSTS) {
@@ -69,7 +73,8 @@ fn read_logged(
     tokens: &mut Tokens<'_>,
     depth: u32,
 ) -> Result<Vec<RawExpr>, GrammarFault>
-    ensures { Gives (λ es. (map raw_expr_of es.items, tokens.new)) result (logged (inner depth).expr tokens.old) }
+    ensures { Gives
+        (λ es. (map raw_expr_of es.items, tokens.new)) result (logged (inner depth).expr tokens.old) }
 {
     tokens.mark(Kind::Dot)?;
     tokens.mark(Kind::Log)?;
@@ -97,7 +102,8 @@ fn read_keyed(
     tokens: &mut Tokens<'_>,
     depth: u32,
 ) -> Result<(Name, RawExpr), GrammarFault>
-    ensures { Gives (λ v. ((v.0, raw_expr_of v.1), tokens.new)) result (keyed (inner depth).expr tokens.old) }
+    ensures { Gives
+        (λ v. ((v.0, raw_expr_of v.1), tokens.new)) result (keyed (inner depth).expr tokens.old) }
 {
     tokens.mark(Kind::Dot)?;
     let key = tokens.name(alloc, &ALL_NAMES)?;
@@ -178,7 +184,8 @@ fn read_told(
     tokens: &mut Tokens<'_>,
     depth: u32,
 ) -> Result<Option<RawExpr>, GrammarFault>
-    ensures { Gives (λ e. (option_map raw_expr_of e, tokens.new)) result (told (inner depth).expr tokens.old) }
+    ensures { Gives
+        (λ e. (option_map raw_expr_of e, tokens.new)) result (told (inner depth).expr tokens.old) }
 {
     tokens.mark(Kind::Invalidate)?;
     tokens.mark(Kind::Open)?;

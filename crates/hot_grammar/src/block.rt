@@ -2,7 +2,8 @@
 // than what they stand in; the statements of a block are read by a loop.
 ghost use Rattle.std.specs.Prelude.{◌≡◌, map};
 ghost use Rattle.module_semantics.specs.Readers.{end, many, ◌◁◌};
-ghost use Rattle.module_semantics.specs.Reading.{body, braces, else_part, if_stmt, import_stmt, inner, name_act, stmt, stmt_firsts};
+ghost use Rattle.module_semantics.specs.Reading.{body, braces, else_part, if_stmt, import_stmt};
+ghost use Rattle.module_semantics.specs.Reading.{inner, name_act, stmt, stmt_firsts};
 ghost use Rattle.hot_grammar.specs.Parts.{branches, ended_act};
 ghost use Rattle.hot_grammar.specs.Raw.{raw_stmt_of, raw_stmts_of};
 ghost use Rattle.hot_grammar.specs.Reads.{Gives};
@@ -71,7 +72,9 @@ fn read_branches(
     tokens: &mut Tokens<'_>,
     depth: u32,
 ) -> Result<(Vec<RawStmt>, Vec<RawStmt>), GrammarFault>
-    ensures { Gives (λ ss. ((raw_stmts_of ss.0.items, raw_stmts_of ss.1.items), tokens.new)) result (branches (inner depth) tokens.old) }
+    ensures { Gives
+        (λ ss. ((raw_stmts_of ss.0.items, raw_stmts_of ss.1.items), tokens.new))
+        result (branches (inner depth) tokens.old) }
 {
     let first = read_block(alloc, tokens, depth)?;
     let second = read_else(alloc, tokens, depth)?;
@@ -111,7 +114,9 @@ fn read_stmts(
     tokens: &mut Tokens<'_>,
     depth: u32,
 ) -> Result<Vec<RawStmt>, GrammarFault>
-    ensures { Gives (λ ss. (map raw_stmt_of ss.items, tokens.new)) result (many stmt_firsts (stmt (inner depth)) tokens.old) }
+    ensures { Gives
+        (λ ss. (map raw_stmt_of ss.items, tokens.new))
+        result (many stmt_firsts (stmt (inner depth)) tokens.old) }
 {
     let mut stmts = Vec::new(alloc);
     for turn in 0..tokens.len() {
@@ -144,7 +149,8 @@ fn read_import_ended(
     tokens: &mut Tokens<'_>,
     depth: u32,
 ) -> Result<RawStmt, GrammarFault>
-    ensures { Gives (λ s. (raw_stmt_of s, tokens.new)) result ((import_stmt (inner depth).expr ◁ end) tokens.old) }
+    ensures { Gives
+        (λ s. (raw_stmt_of s, tokens.new)) result ((import_stmt (inner depth).expr ◁ end) tokens.old) }
 {
     let act = read_import_act(alloc, tokens, depth)?;
     tokens.end_after(act)
@@ -156,7 +162,8 @@ fn read_name_ended(
     tokens: &mut Tokens<'_>,
     depth: u32,
 ) -> Result<RawStmt, GrammarFault>
-    ensures { Gives (λ s. (raw_stmt_of s, tokens.new)) result ((name_act (inner depth).expr ◁ end) tokens.old) }
+    ensures { Gives
+        (λ s. (raw_stmt_of s, tokens.new)) result ((name_act (inner depth).expr ◁ end) tokens.old) }
 {
     let act = read_name_act(alloc, tokens, depth)?;
     tokens.end_after(act)

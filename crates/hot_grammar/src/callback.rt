@@ -2,7 +2,8 @@
 ghost use Rattle.std.specs.Prelude.{◌≡◌, map};
 ghost use Rattle.module_semantics.specs.Kinds.{ARROW, COMMA, free_names};
 ghost use Rattle.module_semantics.specs.Readers.{mark, separated, ◌▷◌};
-ghost use Rattle.module_semantics.specs.Reading.{body, callback, callback_by, free_name, host_own, in_parens, inner, list_callback, once};
+ghost use Rattle.module_semantics.specs.Reading.{body, callback, callback_by, free_name, host_own};
+ghost use Rattle.module_semantics.specs.Reading.{in_parens, inner, list_callback, once};
 ghost use Rattle.hot_grammar.specs.Kinds.{code_of};
 ghost use Rattle.hot_grammar.specs.Parts.{list_params, own_code};
 ghost use Rattle.hot_grammar.specs.Raw.{name_at_of, raw_handler_of, raw_once_of, raw_stmts_of};
@@ -36,7 +37,8 @@ fn read_arrow_body(
     tokens: &mut Tokens<'_>,
     depth: u32,
 ) -> Result<Vec<RawStmt>, GrammarFault>
-    ensures { Gives (λ ss. (raw_stmts_of ss.items, tokens.new)) result ((mark ARROW ▷ body (inner depth)) tokens.old) }
+    ensures { Gives
+        (λ ss. (raw_stmts_of ss.items, tokens.new)) result ((mark ARROW ▷ body (inner depth)) tokens.old) }
 {
     tokens.mark(Kind::Arrow)?;
     let body = read_body(alloc, tokens, depth)?;
@@ -50,7 +52,9 @@ fn read_callback_by(
     depth: u32,
     kinds: &[Kind],
 ) -> Result<RawHandler, GrammarFault>
-    ensures { Gives (λ h. (raw_handler_of h, tokens.new)) result (callback_by (map code_of kinds.now) (body (inner depth)) tokens.old) }
+    ensures { Gives
+        (λ h. (raw_handler_of h, tokens.new))
+        result (callback_by (map code_of kinds.now) (body (inner depth)) tokens.old) }
 {
     if tokens.next_is(Kind::Open) {
         let params = read_parens(alloc, tokens)?;
@@ -129,7 +133,8 @@ fn read_next_name(alloc: Global, tokens: &mut Tokens<'_>) -> Result<NameAt, Gram
 
 /// Names with a comma between each two.
 fn read_names(alloc: Global, tokens: &mut Tokens<'_>) -> Result<Vec<NameAt>, GrammarFault>
-    ensures { Gives (λ ns. (map name_at_of ns.items, tokens.new)) result (separated free_names free_name tokens.old) }
+    ensures { Gives
+        (λ ns. (map name_at_of ns.items, tokens.new)) result (separated free_names free_name tokens.old) }
 {
     let mut names = Vec::new(alloc);
     if !tokens.next_in(&FREE_NAMES) {
@@ -167,7 +172,8 @@ pub(crate) fn read_list_callback(
     tokens: &mut Tokens<'_>,
     depth: u32,
 ) -> Result<RawHandler, GrammarFault>
-    ensures { Gives (λ h. (raw_handler_of h, tokens.new)) result (list_callback (body (inner depth)) tokens.old) }
+    ensures { Gives
+        (λ h. (raw_handler_of h, tokens.new)) result (list_callback (body (inner depth)) tokens.old) }
 {
     let params = read_list_params(alloc, tokens)?;
     let body = read_arrow_body(alloc, tokens, depth)?;

@@ -4,7 +4,8 @@
 ghost use Rattle.std.specs.Prelude.{◌≡◌, ◌∷◌, [], IfOk, map};
 ghost use Rattle.module_semantics.specs.Kinds.{DATA, DOT, IMPORT};
 ghost use Rattle.module_semantics.specs.Readers.{many, mapped, mark, ◌&◌, ◌▷◌};
-ghost use Rattle.module_semantics.specs.Reading.{access, accessed, expr, free_name, grouped, hot, key, prim, unary};
+ghost use Rattle.module_semantics.specs.Reading.{access, accessed, expr, free_name};
+ghost use Rattle.module_semantics.specs.Reading.{grouped, hot, key, prim, unary};
 ghost use Rattle.hot_grammar.specs.Levels.{operand_at, operation_at, operators_at, row_at};
 ghost use Rattle.hot_grammar.specs.Raw.{operation_of, raw_expr_of};
 ghost use Rattle.hot_grammar.specs.Reads.{Gives};
@@ -66,7 +67,9 @@ fn read_operations(
     depth: u32,
     level: Level,
 ) -> Result<Vec<(Op, RawExpr)>, GrammarFault>
-    ensures { Gives (λ rest. (map operation_of rest.items, tokens.new)) result (many (operators_at level) (operation_at level (expr depth)) tokens.old) }
+    ensures { Gives
+        (λ rest. (map operation_of rest.items, tokens.new))
+        result (many (operators_at level) (operation_at level (expr depth)) tokens.old) }
 {
     let mut rest = Vec::new(alloc);
     for turn in 0..tokens.len() {
@@ -178,7 +181,8 @@ fn row(alloc: Global, first: RawExpr, rest: Vec<(Op, RawExpr)>) -> Result<RawExp
 
 /// A key of the bag, from `import` on.
 fn read_bag_key(alloc: Global, tokens: &mut Tokens<'_>) -> Result<Name, GrammarFault>
-    ensures { Gives (λ k. (k, tokens.new)) result ((mark IMPORT ▷ hot (mark DATA ▷ mark DOT ▷ key)) tokens.old) }
+    ensures { Gives
+        (λ k. (k, tokens.new)) result ((mark IMPORT ▷ hot (mark DATA ▷ mark DOT ▷ key)) tokens.old) }
 {
     tokens.mark(Kind::Import)?;
     pass_hot(tokens)?;
@@ -190,7 +194,8 @@ fn read_bag_key(alloc: Global, tokens: &mut Tokens<'_>) -> Result<Name, GrammarF
 /// A name that is read, or a key of it.
 #[tactic(auto, unfolding(module_semantics::specs::Reading::access))]
 fn read_access(alloc: Global, tokens: &mut Tokens<'_>) -> Result<RawExpr, GrammarFault>
-    ensures { Gives (λ e. (raw_expr_of e, tokens.new)) result (mapped accessed (free_name & access) tokens.old) }
+    ensures { Gives
+        (λ e. (raw_expr_of e, tokens.new)) result (mapped accessed (free_name & access) tokens.old) }
 {
     let base = tokens.name_at(alloc, &FREE_NAMES)?;
     if tokens.next_is(Kind::Dot) {

@@ -2,7 +2,8 @@
 ghost use Rattle.std.specs.Prelude.{◌≡◌, ◌∷◌, []};
 ghost use Rattle.module_semantics.specs.Kinds.{CLOSE, OPEN, TEXT};
 ghost use Rattle.module_semantics.specs.Readers.{listed, mark, ◌▷◌, ◌◁◌};
-ghost use Rattle.module_semantics.specs.Reading.{accepted, body, hot_call, hot_top, inner, listened, once, text_token};
+ghost use Rattle.module_semantics.specs.Reading.{accepted, body, hot_call, hot_top, inner};
+ghost use Rattle.module_semantics.specs.Reading.{listened, once, text_token};
 ghost use Rattle.hot_grammar.specs.Kinds.{code_of};
 ghost use Rattle.hot_grammar.specs.Parts.{list_deps, one_dep, told_hot};
 ghost use Rattle.hot_grammar.specs.Raw.{raw_item_of, raw_once_of};
@@ -112,7 +113,9 @@ fn read_once_call(
     depth: u32,
     word: Kind,
 ) -> Result<RawOnce, GrammarFault>
-    ensures { Gives (λ o. (raw_once_of o, tokens.new)) result ((mark (code_of word) ▷ mark OPEN ▷ once (body (inner depth)) ◁ mark CLOSE) tokens.old) }
+    ensures { Gives
+        (λ o. (raw_once_of o, tokens.new))
+        result ((mark (code_of word) ▷ mark OPEN ▷ once (body (inner depth)) ◁ mark CLOSE) tokens.old) }
 {
     tokens.mark(word)?;
     tokens.mark(Kind::Open)?;

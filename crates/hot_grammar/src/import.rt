@@ -49,7 +49,9 @@ fn read_import_name(alloc: Global, tokens: &mut Tokens<'_>) -> Result<RawImport,
 
 /// Names with a comma between each two, and perhaps one after the last.
 fn read_import_names(alloc: Global, tokens: &mut Tokens<'_>) -> Result<Vec<RawImport>, GrammarFault>
-    ensures { Gives (λ names. (map raw_import_of names.items, tokens.new)) result (listed all_names import_name tokens.old) }
+    ensures { Gives
+        (λ names. (map raw_import_of names.items, tokens.new))
+        result (listed all_names import_name tokens.old) }
 {
     let mut names = Vec::new(alloc);
     for turn in 0..tokens.len() {

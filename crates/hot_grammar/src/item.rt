@@ -1,7 +1,8 @@
 // Items: declarations, statements at the top, and guards, whose items stand in their place.
 ghost use Rattle.std.specs.Prelude.{◌≡◌, ◌∷◌, [], IfOk};
 ghost use Rattle.module_semantics.specs.Readers.{many};
-ghost use Rattle.module_semantics.specs.Reading.{declaration, guard, inner, item, plain_top, top, top_firsts};
+ghost use Rattle.module_semantics.specs.Reading.{declaration, guard, inner, item};
+ghost use Rattle.module_semantics.specs.Reading.{plain_top, top, top_firsts};
 ghost use Rattle.hot_grammar.specs.Items.{declared};
 ghost use Rattle.hot_grammar.specs.Parts.{named_value};
 ghost use Rattle.hot_grammar.specs.Raw.{name_at_of, raw_expr_of, raw_item_of, raw_items_of};
@@ -59,7 +60,8 @@ fn read_tops(
     tokens: &mut Tokens<'_>,
     depth: u32,
 ) -> Result<Vec<RawItem>, GrammarFault>
-    ensures { Gives (λ is. (raw_items_of is.items, tokens.new)) result (many top_firsts (top (inner depth)) tokens.old) }
+    ensures { Gives
+        (λ is. (raw_items_of is.items, tokens.new)) result (many top_firsts (top (inner depth)) tokens.old) }
 {
     let mut items = Vec::new(alloc);
     for turn in 0..tokens.len() {
@@ -99,7 +101,9 @@ fn read_named_value(
     tokens: &mut Tokens<'_>,
     depth: u32,
 ) -> Result<(NameAt, RawExpr), GrammarFault>
-    ensures { Gives (λ v. ((name_at_of v.0, raw_expr_of v.1), tokens.new)) result (named_value (inner depth).expr tokens.old) }
+    ensures { Gives
+        (λ v. ((name_at_of v.0, raw_expr_of v.1), tokens.new))
+        result (named_value (inner depth).expr tokens.old) }
 {
     let name = tokens.name_at(alloc, &FREE_NAMES)?;
     tokens.mark(Kind::Equals)?;

@@ -19,7 +19,9 @@ fn read_all(
     tokens: &mut Tokens<'_>,
     depth: u32,
 ) -> Result<Vec<RawItem>, GrammarFault>
-    ensures { Gives (λ is. (raw_items_of is.items, tokens.new)) result (mapped flat (many item_firsts (item (inner depth))) tokens.old) }
+    ensures { Gives
+        (λ is. (raw_items_of is.items, tokens.new))
+        result (mapped flat (many item_firsts (item (inner depth))) tokens.old) }
 {
     let mut items = Vec::new(alloc);
     for turn in 0..tokens.len() {

@@ -77,10 +77,16 @@ impl<'a> Tokens<'a> {
     #[tactic(auto, unfolding(module_semantics::specs::Readers::taken))]
     fn take(&mut self, kinds: &[Kind]) -> Result<&'a LineToken<'a>, GrammarFault>
         ensures passed { Gives (λ _. past self.new) result (passed (map code_of kinds.now) self.old) }
-        ensures name { Gives (λ t. (name_at t.now, self.new)) result (taken (map code_of kinds.now) name_at self.old) }
-        ensures characters { Gives (λ t. (bytes_of t.now.token, self.new)) result (taken (map code_of kinds.now) (λ t. bytes_of t.token) self.old) }
-        ensures value { Gives (λ t. (value_of t.now.token, self.new)) result (taken (map code_of kinds.now) (λ t. value_of t.token) self.old) }
-        ensures place { Gives (λ t. (t.now.at, self.new)) result (taken (map code_of kinds.now) (λ t. t.at) self.old) }
+        ensures name { Gives
+            (λ t. (name_at t.now, self.new)) result (taken (map code_of kinds.now) name_at self.old) }
+        ensures characters { Gives
+            (λ t. (bytes_of t.now.token, self.new))
+            result (taken (map code_of kinds.now) (λ t. bytes_of t.token) self.old) }
+        ensures value { Gives
+            (λ t. (value_of t.now.token, self.new))
+            result (taken (map code_of kinds.now) (λ t. value_of t.token) self.old) }
+        ensures place { Gives
+            (λ t. (t.now.at, self.new)) result (taken (map code_of kinds.now) (λ t. t.at) self.old) }
     {
         match self.left {
             [token, rest @ ..] if token.kind().is_in(kinds) => {
@@ -110,7 +116,8 @@ impl<'a> Tokens<'a> {
 
     /// Takes a name, or the name that a text is, of one of these kinds, with its place.
     pub(crate) fn name_at(&mut self, alloc: Global, kinds: &[Kind]) -> Result<NameAt, GrammarFault>
-        ensures { Gives (λ n. (name_at_of n, self.new)) result (taken (map code_of kinds.now) name_at self.old) }
+        ensures { Gives
+            (λ n. (name_at_of n, self.new)) result (taken (map code_of kinds.now) name_at self.old) }
     {
         let token = self.take(kinds)?;
         let characters = String::from_str(alloc, token.characters())?;
@@ -122,7 +129,8 @@ impl<'a> Tokens<'a> {
 
     /// Takes a name of one of these kinds.
     pub(crate) fn name(&mut self, alloc: Global, kinds: &[Kind]) -> Result<Name, GrammarFault>
-        ensures { Gives (λ n. (n, self.new)) result (taken (map code_of kinds.now) (λ t. bytes_of t.token) self.old) }
+        ensures { Gives
+            (λ n. (n, self.new)) result (taken (map code_of kinds.now) (λ t. bytes_of t.token) self.old) }
     {
         let token = self.take(kinds)?;
         let characters = String::from_str(alloc, token.characters())?;
@@ -194,9 +202,12 @@ impl<'a> Tokens<'a> {
     /// The fault where nothing deeper may stand: what begins with one of these kinds is too deep.
     #[tactic(auto, unfolding(module_semantics::specs::Readers::deep))]
     pub(crate) fn deep(&self, kinds: &[Kind]) -> GrammarFault
-        ensures expr { Stops {Y = plain.RawExpr × List LineToken} result (deep {A = plain.RawExpr} (map code_of kinds.now) self.now) }
-        ensures stmts { Stops {Y = plain.RawStmts × List LineToken} result (deep {A = plain.RawStmts} (map code_of kinds.now) self.now) }
-        ensures stmt { Stops {Y = plain.RawStmt × List LineToken} result (deep {A = plain.RawStmt} (map code_of kinds.now) self.now) }
+        ensures expr { Stops {Y = plain.RawExpr × List LineToken} result
+            (deep {A = plain.RawExpr} (map code_of kinds.now) self.now) }
+        ensures stmts { Stops {Y = plain.RawStmts × List LineToken} result
+            (deep {A = plain.RawStmts} (map code_of kinds.now) self.now) }
+        ensures stmt { Stops {Y = plain.RawStmt × List LineToken} result
+            (deep {A = plain.RawStmt} (map code_of kinds.now) self.now) }
     {
         if self.next_in(kinds) {
             GrammarFault::TooDeep(self.len())

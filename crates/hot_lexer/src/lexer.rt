@@ -1,7 +1,8 @@
 // The whole text: one piece after another, where what came directly before bars some bytes. Blanks, which
 // nothing bars, are passed a run at a time. Before another piece is read its first byte is tested against
 // that bar; after it was read its token is added, if there is room for one more.
-ghost use Rattle.std.specs.Prelude.{◌≡◌, ◌+◌, ◌^◌, ◌<◌, ◌≤◌, ◌∷◌, false, drop, IfOk, IfErr, length, option_map, IsUtf8};
+ghost use Rattle.std.specs.Prelude.{◌≡◌, ◌+◌, ◌^◌, ◌<◌, ◌≤◌, ◌∷◌};
+ghost use Rattle.std.specs.Prelude.{false, drop, IfOk, IfErr, length, option_map, IsUtf8};
 ghost use Rattle.module_semantics.specs.Bytes.{is_blank};
 ghost use Rattle.module_semantics.specs.Lexing as lexing;
 ghost use Rattle.module_semantics.specs.Lexing.{Gives};
@@ -56,7 +57,9 @@ fn add<'a>(
     len: usize,
 ) -> Result<(), Stop>
     requires { at + len < 2 ^ 32 }
-    ensures { Reads (λ _. lexemes_of tokens.new.items) result (lexing.added at (lexemes_of tokens.old.items) (option_map token_of kind.entry, len)) }
+    ensures { Reads
+        (λ _. lexemes_of tokens.new.items)
+        result (lexing.added at (lexemes_of tokens.old.items) (option_map token_of kind.entry, len)) }
 {
     match kind {
         None => Ok(()),
@@ -91,7 +94,9 @@ fn step<'a>(
     requires room { at + 1 + length rest.now < 2 ^ 32 }
     requires utf8 { first < 128 → IsUtf8 rest.now }
     requires part { is_blank first ≡ false }
-    ensures exact { Reads (λ x. (x.0, (x.1, lexemes_of tokens.new.items))) result (lexing.step at last (lexemes_of tokens.old.items) first rest.now) }
+    ensures exact { Reads
+        (λ x. (x.0, (x.1, lexemes_of tokens.new.items)))
+        result (lexing.step at last (lexemes_of tokens.old.items) first rest.now) }
     ensures within { IfOk result (λ x. x.0 ≤ 1 + length rest.now) }
 {
     if is_barred(last, first) {

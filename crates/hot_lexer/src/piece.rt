@@ -1,5 +1,6 @@
 // Pieces that aren't blank: a comment or a token. The first byte says which of them begins.
-ghost use Rattle.std.specs.Prelude.{◌≡◌, ◌+◌, ◌^◌, ◌<◌, ◌≤◌, ◌∷◌, false, drop, IfOk, length, option_map, IsUtf8};
+ghost use Rattle.std.specs.Prelude.{◌≡◌, ◌+◌, ◌^◌, ◌<◌, ◌≤◌, ◌∷◌};
+ghost use Rattle.std.specs.Prelude.{false, drop, IfOk, length, option_map, IsUtf8};
 ghost use Rattle.module_semantics.specs.Bytes.{is_blank};
 ghost use Rattle.module_semantics.specs.Lexing.{front};
 ghost use Rattle.hot_lexer.specs.Token.{token_of};

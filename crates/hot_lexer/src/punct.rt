@@ -91,7 +91,8 @@ fn double(first: u8, second: u8) -> Option<Punct>
 #[tactic(auto, unfolding(module_semantics::specs::Lexing::punct_at))]
 pub(crate) fn read_punct(at: usize, first: u8, rest: &[u8]) -> Result<(Punct, usize), Stop>
     requires { at < 2 ^ 32 }
-    ensures exact { Reads (λ x. (Some (punct (place_of x.0)), x.1)) result (lexing.punct_at at first rest.now) }
+    ensures exact { Reads
+        (λ x. (Some (punct (place_of x.0)), x.1)) result (lexing.punct_at at first rest.now) }
     ensures within { IfOk result (λ x. x.1 ≤ 1 + length rest.now) }
 {
     if let [second, ..] = rest {

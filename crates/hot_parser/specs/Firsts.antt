@@ -1,14 +1,17 @@
--- What breaks a rule on names first, part by part. The parts so far are kept as the first that they break, so that a list is gone
--- over once.
-use Rattle.std.specs.Prelude.{ℕ, List, [], ◌∷◌, ◌++◌, Bool, not, ◌||◌, if◌then◌else◌, Option, Some, None, map}
+-- What breaks a rule on names first, part by part. The parts so far are kept as the first that they break,
+-- so that a list is gone over once.
+use Rattle.std.specs.Prelude.{[], ◌∷◌, ◌++◌, ◌||◌}
+use Rattle.std.specs.Prelude.{ℕ, List, Bool, not, if◌then◌else◌, Option, Some, None, map}
 use Rattle.hmr_types.specs.Event.{is_event}
 use Rattle.hmr_types.specs.declared.analysis.FaultWord.{FaultWord}
 use Rattle.hmr_types.specs.declared.analysis.FaultWord.TheVariants.{DuplicateName, NotAssignable, Unexpected}
 use Rattle.module_tree.specs.declared.tree.Op.{Op}
 use Rattle.module_semantics.specs.Kinds.{NameAt}
-use Rattle.module_semantics.specs.NameRules.{Broken, Within, outside, in_once, in_accept, accepts, bound_by, has_name, is_bag, is_param, lesser, lets_of, names_of}
+use Rattle.module_semantics.specs.NameRules.{Broken, Within, outside, in_once, in_accept, accepts, bound_by}
+use Rattle.module_semantics.specs.NameRules.{has_name, is_bag, is_param, lesser, lets_of, names_of}
 use Rattle.module_semantics.specs.Raw as raw
-use Rattle.module_semantics.specs.Raw.{RawExpr, RawStmt, RawStmts, RawHandler, RawOnce, RawItem, no_stmts, one_stmt}
+use Rattle.module_semantics.specs.Raw.{RawExpr, RawStmt, RawStmts, RawHandler}
+use Rattle.module_semantics.specs.Raw.{RawOnce, RawItem, no_stmts, one_stmt}
 use Rattle.module_semantics.specs.Reading.{flat}
 use Rattle.hot_parser.specs.Alone.{alone}
 
@@ -24,7 +27,9 @@ first_if test word at = if test then Some (record { at = at; word = word }) else
 -- names are all different: the first that repeats one of those before it
 abbrev pub repeated_first : List (List ℕ) → Option Broken → List NameAt → Option Broken
 repeated_first before found [] = found
-repeated_first before found (n ∷ ns) = repeated_first (before ++ n.name ∷ []) (earlier found (first_if (has_name n.name before) DuplicateName n.at)) ns
+repeated_first before found (n ∷ ns) =
+    repeated_first (before ++ n.name ∷ [])
+    (earlier found (first_if (has_name n.name before) DuplicateName n.at)) ns
 
 -- in an expression
 abbrev pub expr_first : Within → RawExpr → Option Broken
@@ -71,11 +76,14 @@ abbrev mutual
   pub stmt_first : List (List ℕ) → Within → RawStmt → Option Broken
   stmt_first lets w (raw.log es) = exprs_first w None es
   stmt_first lets w (raw.assign n e) = earlier (assign_first lets w n) (expr_first w e)
-  stmt_first lets w (raw.set n k e) = earlier (first_if (not (is_bag w n.name)) Unexpected n.at) (expr_first w e)
+  stmt_first lets w (raw.set n k e) =
+      earlier (first_if (not (is_bag w n.name)) Unexpected n.at) (expr_first w e)
   stmt_first lets w (raw.set_bag k e) = expr_first w e
   stmt_first lets w (raw.throw e) = expr_first w e
-  stmt_first lets w (raw.invalidate at e) = earlier (first_if (not (accepts w)) Unexpected at) (maybe_first w e)
-  stmt_first lets w (raw.branch c a b) = earlier (cond_first w c) (earlier (stmts_first lets w None a) (stmts_first lets w None b))
+  stmt_first lets w (raw.invalidate at e) =
+      earlier (first_if (not (accepts w)) Unexpected at) (maybe_first w e)
+  stmt_first lets w (raw.branch c a b) =
+      earlier (cond_first w c) (earlier (stmts_first lets w None a) (stmts_first lets w None b))
 
   pub stmts_first : List (List ℕ) → Within → Option Broken → RawStmts → Option Broken
   stmts_first lets w found no_stmts = found
@@ -83,15 +91,18 @@ abbrev mutual
 
 -- in a callback of `accept`
 abbrev pub accept_handler_first : List (List ℕ) → RawHandler → Option Broken
-accept_handler_first lets h = earlier (repeated_first [] None h.params) (stmts_first lets (in_accept (names_of h.params)) None h.body)
+accept_handler_first lets h =
+    earlier (repeated_first [] None h.params) (stmts_first lets (in_accept (names_of h.params)) None h.body)
 
 -- in a callback of an event, and last in the name of the event
 abbrev pub listener_first : List (List ℕ) → NameAt → RawHandler → Option Broken
-listener_first lets n h = earlier (accept_handler_first lets h) (first_if (not (is_event n.name)) Unexpected n.at)
+listener_first lets n h =
+    earlier (accept_handler_first lets h) (first_if (not (is_event n.name)) Unexpected n.at)
 
 -- in a callback of `dispose` or `prune`
 abbrev pub once_handler_first : List (List ℕ) → RawHandler → Option Broken
-once_handler_first lets h = earlier (repeated_first [] None h.params) (stmts_first lets (in_once (names_of h.params)) None h.body)
+once_handler_first lets h =
+    earlier (repeated_first [] None h.params) (stmts_first lets (in_once (names_of h.params)) None h.body)
 
 -- in what `accept` of the module itself takes
 abbrev pub accept_once_first : List (List ℕ) → RawOnce → Option Broken

@@ -22,4 +22,5 @@ TellsPlaces places ns = (n : List ℕ) → place_kept n places ≡ place_among n
 
 -- afterwards the place is kept for the name, unless one was; for others what was kept is kept
 abbrev pub KeepsFirst : List ℕ → ℕ → List (List ℕ × ℕ) → List (List ℕ × ℕ) → Type 0
-KeepsFirst name place before after = (n : List ℕ) → place_kept n after ≡ option_or (place_kept n before) (if bytes_eq n name then Some place else None)
+KeepsFirst name place before after = (n : List ℕ)
+    → place_kept n after ≡ option_or (place_kept n before) (if bytes_eq n name then Some place else None)

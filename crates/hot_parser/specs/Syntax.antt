@@ -39,12 +39,14 @@ text_fault_of f = option_map (λ w. record { line = f.line; col = f.col; word = 
 abbrev pub no_memory : SyntaxFault
 no_memory = record { line = 0; col = 0; kind = kinds.NoMemory }
 
--- a fault of the text is the one that the definition gives; want of memory says nothing of the text, and has no place
+-- a fault of the text is the one that the definition gives; want of memory says nothing of the text, and has
+-- no place
 abbrev pub FaultIs : Option TextFault → SyntaxFault → Result ModuleTree TextFault → Type 0
 FaultIs None f read = f ≡ no_memory
 FaultIs (Some told) f read = read ≡ Err told
 
 -- what code returned, seen by view, is what the definition gives, unless memory ran out
-abbrev pub Parses : {X : Type 0} → (X → ModuleTree) → Result X SyntaxFault → Result ModuleTree TextFault → Type 0
+abbrev pub Parses : {X : Type 0} → (X → ModuleTree) → Result X SyntaxFault → Result ModuleTree TextFault
+    → Type 0
 Parses view (Ok x) read = read ≡ Ok (view x)
 Parses view (Err f) read = FaultIs (text_fault_of f) f read

@@ -31,7 +31,8 @@ impl<'a> Model for NameTable<'a> {
 
     ghost view = { λ t. map name_at_of t.names.now };
 
-    ghost invariant = { λ t. TellsPlaces t.places.entries (names_of (map name_at_of t.names.now)) × (length t.names.now ≤ 4294967295) };
+    ghost invariant = { λ t. TellsPlaces t.places.entries (names_of (map name_at_of t.names.now))
+        × (length t.names.now ≤ 4294967295) };
 }
 
 impl<'a> NameTable<'a> {
@@ -78,7 +79,8 @@ impl<'a> NameTable<'a> {
 
 /// The place at which each name stands first.
 fn first_places(alloc: Global, names: &[NameAt]) -> Result<BTreeMap<Name, u32>, AllocError>
-    ensures places { IfOk result (λ places. TellsPlaces places.entries (names_of (map name_at_of names.now))) }
+    ensures places { IfOk result
+        (λ places. TellsPlaces places.entries (names_of (map name_at_of names.now))) }
     ensures few { IfOk result (λ _. length names.now ≤ 4294967295) }
 {
     let mut places = BTreeMap::new(alloc);

@@ -2,10 +2,17 @@
 // it breaks one first, and of two parts the lesser place counts; of two at one place, the earlier.
 ghost use Rattle.std.specs.Prelude.{◌≡◌, ◌∷◌, ◌++◌, [], IfOk, None, OnOk, map};
 ghost use Rattle.std.specs.Option.{option_map};
-ghost use Rattle.hot_grammar.specs.Raw.{name_at_of, operation_of, raw_expr_of, raw_handler_of, raw_import_of, raw_item_of, raw_items_of, raw_once_of, raw_stmt_of, raw_stmts_of};
-ghost use Rattle.module_semantics.specs.NameRules.{bound_by, first_broken, is_bag, is_param, accepts, lets_by, lets_of, names_of};
+ghost use Rattle.hot_grammar.specs.Raw.{name_at_of, operation_of, raw_expr_of, raw_handler_of};
+ghost use Rattle.hot_grammar.specs.Raw.{raw_import_of, raw_item_of, raw_items_of, raw_once_of};
+ghost use Rattle.hot_grammar.specs.Raw.{raw_stmt_of, raw_stmts_of};
+ghost use Rattle.module_semantics.specs.NameRules.{bound_by, first_broken, is_bag, is_param};
+ghost use Rattle.module_semantics.specs.NameRules.{accepts, lets_by, lets_of, names_of};
 ghost use Rattle.module_semantics.specs.Reading.{flat};
-ghost use Rattle.hot_parser.specs.Firsts.{accept_handler_first, accept_once_first, assign_first, cond_first, earlier, expr_first, exprs_first, first_if, item_first, items_first, listener_first, maybe_first, once_first, once_handler_first, repeated_first, rowed_first, stmt_first, stmts_first};
+ghost use Rattle.hot_parser.specs.Firsts.{accept_handler_first, accept_once_first, assign_first};
+ghost use Rattle.hot_parser.specs.Firsts.{cond_first, earlier, expr_first, exprs_first, first_if};
+ghost use Rattle.hot_parser.specs.Firsts.{item_first, items_first, listener_first, maybe_first};
+ghost use Rattle.hot_parser.specs.Firsts.{once_first, once_handler_first, repeated_first, rowed_first};
+ghost use Rattle.hot_parser.specs.Firsts.{stmt_first, stmts_first};
 ghost use Rattle.hot_parser.specs.Told.{rule_word, told};
 ghost use Rattle.hot_parser.specs.Within.{within_of};
 
@@ -73,7 +80,8 @@ fn first_if(test: bool, rule: NameRule, at: u32) -> Option<Broken>
 
 /// Copies of the declared names and of the locals of imports, in order.
 fn bound_names(alloc: Global, items: &[RawItem]) -> Result<Vec<NameAt>, AllocError>
-    ensures { IfOk result (λ names. map name_at_of names.items ≡ flat (map bound_by (raw_items_of items.now))) }
+    ensures { IfOk result
+        (λ names. map name_at_of names.items ≡ flat (map bound_by (raw_items_of items.now))) }
 {
     let mut names = Vec::new(alloc);
     for item in items {
@@ -83,7 +91,9 @@ fn bound_names(alloc: Global, items: &[RawItem]) -> Result<Vec<NameAt>, AllocErr
 }
 
 fn add_bound(names: &mut Vec<NameAt>, item: &RawItem) -> Result<(), AllocError>
-    ensures { OnOk result (map name_at_of names.new.items ≡ map name_at_of names.old.items ++ bound_by (raw_item_of item.now)) }
+    ensures { OnOk result
+        (map name_at_of names.new.items
+        ≡ map name_at_of names.old.items ++ bound_by (raw_item_of item.now)) }
 {
     match item {
         RawItem::Import {
@@ -108,7 +118,9 @@ fn add_bound(names: &mut Vec<NameAt>, item: &RawItem) -> Result<(), AllocError>
 }
 
 fn add_locals(names: &mut Vec<NameAt>, imported: &[RawImport]) -> Result<(), AllocError>
-    ensures { OnOk result (map name_at_of names.new.items ≡ map name_at_of names.old.items ++ map (λ i. i.local) (map raw_import_of imported.now)) }
+    ensures { OnOk result
+        (map name_at_of names.new.items
+        ≡ map name_at_of names.old.items ++ map (λ i. i.local) (map raw_import_of imported.now)) }
 {
     for import in imported {
         add_copy(names, &import.local)?;
@@ -117,7 +129,8 @@ fn add_locals(names: &mut Vec<NameAt>, imported: &[RawImport]) -> Result<(), All
 }
 
 fn add_copy(names: &mut Vec<NameAt>, name: &NameAt) -> Result<(), AllocError>
-    ensures { OnOk result (map name_at_of names.new.items ≡ map name_at_of names.old.items ++ (name_at_of name.now ∷ [])) }
+    ensures { OnOk result
+        (map name_at_of names.new.items ≡ map name_at_of names.old.items ++ (name_at_of name.now ∷ [])) }
 {
     names.push(NameAt {
         name: name.name.clone()?,
@@ -128,7 +141,8 @@ fn add_copy(names: &mut Vec<NameAt>, name: &NameAt) -> Result<(), AllocError>
 
 /// Copies of the names that `let` declares, in order.
 fn let_names(alloc: Global, items: &[RawItem]) -> Result<Vec<NameAt>, AllocError>
-    ensures { IfOk result (λ names. names_of (map name_at_of names.items) ≡ lets_of (raw_items_of items.now)) }
+    ensures { IfOk result
+        (λ names. names_of (map name_at_of names.items) ≡ lets_of (raw_items_of items.now)) }
 {
     let mut names = Vec::new(alloc);
     for item in items {
@@ -138,7 +152,9 @@ fn let_names(alloc: Global, items: &[RawItem]) -> Result<Vec<NameAt>, AllocError
 }
 
 fn add_let(names: &mut Vec<NameAt>, item: &RawItem) -> Result<(), AllocError>
-    ensures { OnOk result (names_of (map name_at_of names.new.items) ≡ names_of (map name_at_of names.old.items) ++ lets_by (raw_item_of item.now)) }
+    ensures { OnOk result
+        (names_of (map name_at_of names.new.items)
+        ≡ names_of (map name_at_of names.old.items) ++ lets_by (raw_item_of item.now)) }
 {
     match item {
         RawItem::Declare {
@@ -186,7 +202,8 @@ fn items_first(
     items: &[RawItem],
     first: Option<Broken>,
 ) -> Result<Option<Broken>, AllocError>
-    ensures { IfOk result (λ found. told found ≡ items_first (names_of lets.now) (told first) (raw_items_of items.now)) }
+    ensures { IfOk result
+        (λ found. told found ≡ items_first (names_of lets.now) (told first) (raw_items_of items.now)) }
 {
     let mut found = first;
     for item in items {
@@ -235,7 +252,8 @@ fn accept_once_first(
     lets: &NameTable<'_>,
     once: &RawOnce,
 ) -> Result<Option<Broken>, AllocError>
-    ensures { IfOk result (λ found. told found ≡ accept_once_first (names_of lets.now) (raw_once_of once.now)) }
+    ensures { IfOk result
+        (λ found. told found ≡ accept_once_first (names_of lets.now) (raw_once_of once.now)) }
 {
     match once {
         RawOnce::Code(code) => accept_handler_first(alloc, lets, code),
@@ -261,7 +279,8 @@ fn accept_handler_first(
     lets: &NameTable<'_>,
     code: &RawHandler,
 ) -> Result<Option<Broken>, AllocError>
-    ensures { IfOk result (λ found. told found ≡ accept_handler_first (names_of lets.now) (raw_handler_of code.now)) }
+    ensures { IfOk result
+        (λ found. told found ≡ accept_handler_first (names_of lets.now) (raw_handler_of code.now)) }
 {
     let params = NameTable::new(alloc, &code.params)?;
     let body = stmts_first(lets, &Within::Accept(&params), &code.body);
@@ -275,7 +294,9 @@ fn listener_first(
     event: &NameAt,
     call: &RawHandler,
 ) -> Result<Option<Broken>, AllocError>
-    ensures { IfOk result (λ found. told found ≡ listener_first (names_of lets.now) (name_at_of event.now) (raw_handler_of call.now)) }
+    ensures { IfOk result
+        (λ found. told found
+        ≡ listener_first (names_of lets.now) (name_at_of event.now) (raw_handler_of call.now)) }
 {
     let found = accept_handler_first(alloc, lets, call)?;
     let named = is_event(event.name.as_str().as_bytes());
@@ -287,7 +308,8 @@ fn once_handler_first(
     lets: &NameTable<'_>,
     code: &RawHandler,
 ) -> Result<Option<Broken>, AllocError>
-    ensures { IfOk result (λ found. told found ≡ once_handler_first (names_of lets.now) (raw_handler_of code.now)) }
+    ensures { IfOk result
+        (λ found. told found ≡ once_handler_first (names_of lets.now) (raw_handler_of code.now)) }
 {
     let params = NameTable::new(alloc, &code.params)?;
     let body = stmts_first(lets, &Within::Once(&params), &code.body);
@@ -296,7 +318,8 @@ fn once_handler_first(
 
 #[cycle(stmts)]
 fn stmts_first(lets: &NameTable<'_>, within: &Within<'_>, stmts: &[RawStmt]) -> Option<Broken>
-    ensures { told result ≡ stmts_first (names_of lets.now) (within_of within.now) None (raw_stmts_of stmts.now) }
+    ensures { told result
+        ≡ stmts_first (names_of lets.now) (within_of within.now) None (raw_stmts_of stmts.now) }
 {
     let mut found = None;
     for stmt in stmts {

@@ -6,7 +6,8 @@ ghost use Rattle.module_tree.specs.Tree.{module_of};
 ghost use Rattle.hmr_types.specs.declared.limits.TheConstants.{DEPTH};
 ghost use Rattle.hot_grammar.specs.Raw.{raw_items_of};
 ghost use Rattle.module_semantics.specs.Lexing as lexing;
-ghost use Rattle.module_semantics.specs.ModuleText.{ReadsAs, fault_at, named, parsing, place_left, read_items, read_tokens};
+ghost use Rattle.module_semantics.specs.ModuleText.{ReadsAs, fault_at, named, parsing, place_left};
+ghost use Rattle.module_semantics.specs.ModuleText.{read_items, read_tokens};
 ghost use Rattle.module_semantics.specs.NameRules.{first_broken};
 ghost use Rattle.module_semantics.specs.Reading.{reading};
 ghost use Rattle.module_semantics.specs.Resolving.{module_tree};
@@ -39,7 +40,9 @@ pub fn parse(alloc: Global, text: &[u8]) -> Result<Module, SyntaxFault>
     ensures exact { Parses module_of result (parsing text.now) }
     ensures reads { IfOk result (λ m. ReadsAs text.now (module_of m)) }
     ensures fault { IfErr result (λ f. IfSome (text_fault_of f) (IsFault text.now)) }
-    ensures first { IfErr result (λ f. f.kind ≡ Unexpected → IfSome (text_fault_of f) (λ t. LeavesGrammar text.now t ⊎ BreaksNames text.now t)) }
+    ensures first { IfErr result
+        (λ f. f.kind ≡ Unexpected
+        → IfSome (text_fault_of f) (λ t. LeavesGrammar text.now t ⊎ BreaksNames text.now t)) }
     ensures memory { IfErr result (λ f. text_fault_of f ≡ None → f ≡ no_memory) }
 {
     parse_bytes(alloc, text)
@@ -73,7 +76,8 @@ fn parse_characters(alloc: Global, text: &str) -> Result<Module, SyntaxFault>
 /// The fault of the tokens of a text.
 fn lex_fault(text: &str, fault: LexFault) -> SyntaxFault
     requires { length text.now ≤ 4294967294 }
-    ensures { (read : Result (List Lexeme) plain.LexFault) → lexing.FaultIs fault.kind fault read → FaultIs (text_fault_of result) result (read_tokens text.now read) }
+    ensures { (read : Result (List Lexeme) plain.LexFault) → lexing.FaultIs fault.kind fault read
+        → FaultIs (text_fault_of result) result (read_tokens text.now read) }
 {
     match fault.kind {
         LexKind::NoMemory => SyntaxFault::no_memory(),
@@ -101,7 +105,8 @@ fn parse_tokens(alloc: Global, text: &str, tokens: &[LineToken<'_>]) -> Result<M
 fn fault_left(text: &str, tokens: &[LineToken<'_>], left: usize, kind: SyntaxKind) -> SyntaxFault
     requires few { left ≤ length tokens.now }
     requires short { length text.now ≤ 4294967294 }
-    ensures told { text_fault_of result ≡ option_map (fault_at text.now (place_left text.now tokens.now left)) (word_of kind) }
+    ensures told { text_fault_of result
+        ≡ option_map (fault_at text.now (place_left text.now tokens.now left)) (word_of kind) }
     ensures kind { result.kind ≡ kind }
 {
     fault_at(text.as_bytes(), place_left(text, tokens, left), kind)
@@ -120,7 +125,8 @@ fn place_left(text: &str, tokens: &[LineToken<'_>], left: usize) -> usize
 
 fn name_items(alloc: Global, text: &str, items: &[RawItem]) -> Result<Module, SyntaxFault>
     requires { length text.now ≤ 4294967294 }
-    ensures { Parses module_of result (named text.now (raw_items_of items.now) (first_broken (raw_items_of items.now))) }
+    ensures { Parses module_of result
+        (named text.now (raw_items_of items.now) (first_broken (raw_items_of items.now))) }
 {
     match first_broken(alloc, items) {
         Ok(Some(broken)) => Err(name_fault(text, broken)),
@@ -140,7 +146,8 @@ fn named_items(alloc: Global, items: &[RawItem]) -> Result<Module, SyntaxFault>
 
 fn name_fault(text: &str, broken: Broken) -> SyntaxFault
     requires { length text.now ≤ 4294967294 }
-    ensures { FaultIs (text_fault_of result) result (Err (fault_at text.now broken.at (rule_word broken.rule))) }
+    ensures { FaultIs (text_fault_of result) result
+        (Err (fault_at text.now broken.at (rule_word broken.rule))) }
 {
     let kind = match broken.rule {
         NameRule::Unexpected => SyntaxKind::Unexpected,

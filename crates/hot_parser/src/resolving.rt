@@ -4,10 +4,16 @@
 ghost use Rattle.std.specs.Prelude.{◌≡◌, IfOk, map};
 ghost use Rattle.module_semantics.specs.Raw.{on};
 ghost use Rattle.module_tree.specs.Syntax.{binary};
-ghost use Rattle.module_tree.specs.Tree.{cond_of, expr_of, handler_of, item_of, module_of, once_of, stmt_of, stmts_of};
-ghost use Rattle.hot_grammar.specs.Raw.{name_at_of, operation_of, raw_expr_of, raw_handler_of, raw_import_of, raw_item_of, raw_items_of, raw_once_of, raw_stmt_of, raw_stmts_of};
+ghost use Rattle.module_tree.specs.Tree.{cond_of, expr_of, handler_of, item_of, module_of};
+ghost use Rattle.module_tree.specs.Tree.{once_of, stmt_of, stmts_of};
+ghost use Rattle.hot_grammar.specs.Raw.{name_at_of, operation_of, raw_expr_of, raw_handler_of};
+ghost use Rattle.hot_grammar.specs.Raw.{raw_import_of, raw_item_of, raw_items_of, raw_once_of};
+ghost use Rattle.hot_grammar.specs.Raw.{raw_stmt_of, raw_stmts_of};
 ghost use Rattle.module_semantics.specs.NameRules.{names_of};
-ghost use Rattle.module_semantics.specs.Resolving.{accept_tree, cond_tree, expr_tree, handler_tree, import_name, item_tree, member_tree, module_tree, name_cond, once_handler_tree, once_tree, stmt_tree, stmts_tree};
+ghost use Rattle.module_semantics.specs.Resolving.{accept_tree, cond_tree, expr_tree, handler_tree};
+ghost use Rattle.module_semantics.specs.Resolving.{import_name, item_tree, member_tree, module_tree};
+ghost use Rattle.module_semantics.specs.Resolving.{name_cond, once_handler_tree, once_tree, stmt_tree};
+ghost use Rattle.module_semantics.specs.Resolving.{stmts_tree};
 ghost use Rattle.hot_parser.specs.Rows.{rowed};
 ghost use Rattle.hot_parser.specs.Within.{within_of};
 
@@ -83,7 +89,8 @@ fn import_names(alloc: Global, names: &[RawImport]) -> Result<Sequence<ImportNam
 
 /// A callback of an event.
 fn listener_tree(alloc: Global, event: &NameAt, call: &RawHandler) -> Result<Item, AllocError>
-    ensures { IfOk result (λ tree. item_of tree ≡ item_tree (on (name_at_of event.now) (raw_handler_of call.now))) }
+    ensures { IfOk result
+        (λ tree. item_of tree ≡ item_tree (on (name_at_of event.now) (raw_handler_of call.now))) }
 {
     let mut specs = Vec::new(alloc);
     specs.push(event_module(alloc, event.name.as_str())?)?;
@@ -153,7 +160,8 @@ fn stmts_tree(
     within: &Within<'_>,
     stmts: &[RawStmt],
 ) -> Result<Vec<Stmt>, AllocError>
-    ensures { IfOk result (λ tree. stmts_of tree.items ≡ stmts_tree (within_of within.now) (raw_stmts_of stmts.now)) }
+    ensures { IfOk result
+        (λ tree. stmts_of tree.items ≡ stmts_tree (within_of within.now) (raw_stmts_of stmts.now)) }
 {
     let mut tree = Vec::new(alloc);
     for stmt in stmts {
@@ -213,7 +221,8 @@ fn name_cond(within: &Within<'_>, name: &NameAt) -> Result<Cond, AllocError>
 }
 
 fn exprs_tree(alloc: Global, within: &Within<'_>, es: &[RawExpr]) -> Result<Vec<Expr>, AllocError>
-    ensures { IfOk result (λ tree. map expr_of tree.items ≡ map (expr_tree (within_of within.now)) (map raw_expr_of es.now)) }
+    ensures { IfOk result
+        (λ tree. map expr_of tree.items ≡ map (expr_tree (within_of within.now)) (map raw_expr_of es.now)) }
 {
     let mut tree = Vec::new(alloc);
     for e in es {
@@ -248,7 +257,8 @@ fn expr_tree(alloc: Global, within: &Within<'_>, e: &RawExpr) -> Result<Expr, Al
 
 #[cycle(exprs)]
 fn boxed_tree(alloc: Global, within: &Within<'_>, e: &RawExpr) -> Result<Box<Expr>, AllocError>
-    ensures { IfOk result (λ tree. expr_of tree.value ≡ expr_tree (within_of within.now) (raw_expr_of e.now)) }
+    ensures { IfOk result
+        (λ tree. expr_of tree.value ≡ expr_tree (within_of within.now) (raw_expr_of e.now)) }
 {
     Ok(Box::new(alloc, expr_tree(alloc, within, e)?)?)
 }
@@ -261,7 +271,8 @@ fn row_tree(
     rest: &[(Op, RawExpr)],
     first: Expr,
 ) -> Result<Expr, AllocError>
-    ensures { IfOk result (λ tree. expr_of tree ≡ rowed (within_of within.now) (expr_of first) (map operation_of rest.now)) }
+    ensures { IfOk result
+        (λ tree. expr_of tree ≡ rowed (within_of within.now) (expr_of first) (map operation_of rest.now)) }
 {
     let mut tree = first;
     for (op, right) in rest {
@@ -285,7 +296,8 @@ fn member_tree(
     safe: bool,
     key: &Name,
 ) -> Result<Expr, AllocError>
-    ensures { IfOk result (λ tree. expr_of tree ≡ member_tree (within_of within.now) (name_at_of base.now) safe key.now) }
+    ensures { IfOk result
+        (λ tree. expr_of tree ≡ member_tree (within_of within.now) (name_at_of base.now) safe key.now) }
 {
     match within {
         Within::Outside => Ok(Expr::Member {

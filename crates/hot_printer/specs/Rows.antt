@@ -22,6 +22,7 @@ closing false = []
 abbrev pub right_text : List (List ℕ) → Op → ExprTree → List ℕ
 right_text ps op right = op_text op ++ at_place ps (suc (op_level op)) right
 
--- what stands behind the left side: the operator, its right side, and a parenthesis where one was opened before
+-- what stands behind the left side: the operator, its right side, and a parenthesis where one was opened
+-- before
 abbrev pub after_left : List (List ℕ) → Op × ExprTree × Bool → List ℕ
 after_left ps n = right_text ps n.0 n.1 ++ closing n.2

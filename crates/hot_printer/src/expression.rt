@@ -6,7 +6,8 @@
 ghost use Rattle.std.specs.Prelude.{◌≡◌, ◌≤◌, ◌++◌, OnOk, codes, map};
 ghost use Rattle.module_tree.specs.Syntax.{choose, member, neg};
 ghost use Rattle.module_tree.specs.Tree.{expr_of};
-ghost use Rattle.module_semantics.specs.Canon.{comma_then, commas, dot_text, expr_text, level, op_level, op_text};
+ghost use Rattle.module_semantics.specs.Canon.{comma_then, commas, dot_text, expr_text};
+ghost use Rattle.module_semantics.specs.Canon.{level, op_level, op_text};
 ghost use Rattle.hot_printer.specs.Rows.{at_place, closing, opening, right_text};
 
 use crate::names::put_param;
@@ -116,7 +117,10 @@ fn put_choose(
     first: &Expr,
     second: &Expr,
 ) -> Result<(), AllocError>
-    ensures { OnOk result (out.new.items ≡ out.old.items ++ expr_text params.now (choose (expr_of condition.now) (expr_of first.now) (expr_of second.now))) }
+    ensures { OnOk result
+        (out.new.items
+        ≡ out.old.items
+        ++ expr_text params.now (choose (expr_of condition.now) (expr_of first.now) (expr_of second.now))) }
 {
     put_at(alloc, out, params, condition, 1)?;
     put(out, " ? ")?;
@@ -154,7 +158,8 @@ fn put_member(
     safe: bool,
     name: &Name,
 ) -> Result<(), AllocError>
-    ensures { OnOk result (out.new.items ≡ out.old.items ++ expr_text params.now (member place safe name.now)) }
+    ensures { OnOk result
+        (out.new.items ≡ out.old.items ++ expr_text params.now (member place safe name.now)) }
 {
     put_param(out, params, place)?;
     put(out, dot_str(safe))?;
@@ -227,7 +232,8 @@ pub fn put_exprs(
     params: &[Name],
     es: &[Expr],
 ) -> Result<(), AllocError>
-    ensures { OnOk result (out.new.items ≡ out.old.items ++ commas (map (expr_text params.now) (map expr_of es.now))) }
+    ensures { OnOk result
+        (out.new.items ≡ out.old.items ++ commas (map (expr_text params.now) (map expr_of es.now))) }
 {
     if let [first, rest @ ..] = es {
         put_expr(alloc, out, params, first)?;
@@ -242,7 +248,8 @@ fn put_later_exprs(
     params: &[Name],
     es: &[Expr],
 ) -> Result<(), AllocError>
-    ensures { OnOk result (out.new.items ≡ out.old.items ++ comma_then (map (expr_text params.now) (map expr_of es.now))) }
+    ensures { OnOk result
+        (out.new.items ≡ out.old.items ++ comma_then (map (expr_text params.now) (map expr_of es.now))) }
 {
     for e in es {
         put(out, ", ")?;

@@ -4,7 +4,10 @@ ghost use Rattle.hmr_types.specs.Event.{colon, with_mark};
 ghost use Rattle.hmr_types.specs.ModName.{slash};
 ghost use Rattle.std.specs.Option.{option_map};
 ghost use Rattle.module_tree.specs.Tree.{expr_of, handler_of, item_of, once_of};
-ghost use Rattle.module_semantics.specs.Canon.{call_text, comma_then, commas, declare_text, deps_handler_text, deps_text, deps_word, export_text, heard, heard_text, import_name_text, import_text, item_text, once_text, own_text, quoted, specs_text};
+ghost use Rattle.module_semantics.specs.Canon.{call_text, comma_then, commas, declare_text};
+ghost use Rattle.module_semantics.specs.Canon.{deps_handler_text, deps_text, deps_word, export_text};
+ghost use Rattle.module_semantics.specs.Canon.{heard, heard_text, import_name_text, import_text, item_text};
+ghost use Rattle.module_semantics.specs.Canon.{once_text, own_text, quoted, specs_text};
 ghost use Rattle.module_tree.specs.Syntax.{declare, deps, own};
 
 use crate::expression::put_expr;
@@ -43,7 +46,8 @@ fn put_registered(
     word: &str,
     once: &Once,
 ) -> Result<(), AllocError>
-    ensures { OnOk result (out.new.items ≡ out.old.items ++ call_text word.now (once_text (once_of once.now))) }
+    ensures { OnOk result
+        (out.new.items ≡ out.old.items ++ call_text word.now (once_text (once_of once.now))) }
 {
     put_call(out, word)?;
     put_once(alloc, out, once)?;
@@ -76,7 +80,8 @@ fn put_deps(
     specs: &[Text],
     call: &Option<HandlerCode>,
 ) -> Result<(), AllocError>
-    ensures { OnOk result (out.new.items ≡ out.old.items ++ item_text (deps list specs.now (option_map handler_of call.now))) }
+    ensures { OnOk result
+        (out.new.items ≡ out.old.items ++ item_text (deps list specs.now (option_map handler_of call.now))) }
 {
     let event = heard(list, specs, call);
     put_call(out, deps_word(event))?;
@@ -87,7 +92,8 @@ fn put_deps(
 
 /// The path of the event that a callback listens to, unless it listens to none.
 fn heard<'a>(list: bool, specs: &'a [Text], call: &Option<HandlerCode>) -> Option<&'a [u8]>
-    ensures { option_map (λ path. with_mark slash colon path.now) result ≡ heard list specs.now (option_map handler_of call.now) }
+    ensures { option_map (λ path. with_mark slash colon path.now) result
+        ≡ heard list specs.now (option_map handler_of call.now) }
 {
     match (list, specs, call) {
         (false, [spec], Some(_)) => event_path(spec.as_str().as_bytes()),
@@ -112,7 +118,10 @@ fn put_heard(
     specs: &[Text],
     event: Option<&[u8]>,
 ) -> Result<(), AllocError>
-    ensures { OnOk result (out.new.items ≡ out.old.items ++ heard_text (option_map (λ path. with_mark slash colon path.now) event.entry) list specs.now) }
+    ensures { OnOk result
+        (out.new.items
+        ≡ out.old.items
+        ++ heard_text (option_map (λ path. with_mark slash colon path.now) event.entry) list specs.now) }
 {
     match event {
         None => put_specs(out, list, specs),
@@ -122,7 +131,8 @@ fn put_heard(
 
 /// Puts the name of a call and its parenthesis.
 fn put_call(out: &mut Vec<u8>, word: &str) -> Result<(), AllocError>
-    ensures { OnOk result (out.new.items ≡ out.old.items ++ (codes "import.meta.hot." ++ (word.now ++ codes "("))) }
+    ensures { OnOk result
+        (out.new.items ≡ out.old.items ++ (codes "import.meta.hot." ++ (word.now ++ codes "("))) }
 {
     put(out, "import.meta.hot.")?;
     put(out, word)?;
@@ -173,7 +183,9 @@ fn put_declare(
     name: &Name,
     value: &Expr,
 ) -> Result<(), AllocError>
-    ensures { OnOk result (out.new.items ≡ out.old.items ++ item_text (declare exported mutable name.now (expr_of value.now))) }
+    ensures { OnOk result
+        (out.new.items
+        ≡ out.old.items ++ item_text (declare exported mutable name.now (expr_of value.now))) }
 {
     put(out, if exported { "export " } else { "" })?;
     put(out, if mutable { "let " } else { "const " })?;
@@ -224,7 +236,8 @@ fn put_deps_handler(
     list: bool,
     call: &Option<HandlerCode>,
 ) -> Result<(), AllocError>
-    ensures { OnOk result (out.new.items ≡ out.old.items ++ deps_handler_text list (option_map handler_of call.now)) }
+    ensures { OnOk result
+        (out.new.items ≡ out.old.items ++ deps_handler_text list (option_map handler_of call.now)) }
 {
     match call {
         None => Ok(()),

@@ -4,7 +4,8 @@ ghost use Rattle.std.specs.Option.{option_map};
 ghost use Rattle.module_tree.specs.Syntax.{assign, bag_set, invalidate, log, throw};
 ghost use Rattle.module_tree.specs.Tree.{cond_of, expr_of, stmt_of, stmts_of};
 ghost use Rattle.hot_printer.specs.Pieces.{block_text, if_text, value_text};
-ghost use Rattle.module_semantics.specs.Canon.{cond_text, else_text, indent, stmt_text, stmts_text, told_text};
+ghost use Rattle.module_semantics.specs.Canon.{cond_text, else_text, indent, stmt_text};
+ghost use Rattle.module_semantics.specs.Canon.{stmts_text, told_text};
 
 use crate::expression::{put_expr, put_exprs, put_key};
 use crate::names::put_param;
@@ -22,7 +23,8 @@ pub fn put_stmts(
     depth: usize,
     stmts: &[Stmt],
 ) -> Result<(), AllocError>
-    ensures { OnOk result (out.new.items ≡ out.old.items ++ stmts_text params.now depth (stmts_of stmts.now)) }
+    ensures { OnOk result
+        (out.new.items ≡ out.old.items ++ stmts_text params.now depth (stmts_of stmts.now)) }
 {
     for stmt in stmts {
         put_stmt(alloc, out, params, depth, stmt)?;
@@ -64,7 +66,10 @@ fn put_else(
     depth: usize,
     body: &[Stmt],
 ) -> Result<(), AllocError>
-    ensures { OnOk result (out.new.items ≡ out.old.items ++ else_text depth (stmts_of body.now) (stmts_text params.now (suc depth) (stmts_of body.now))) }
+    ensures { OnOk result
+        (out.new.items
+        ≡ out.old.items
+        ++ else_text depth (stmts_of body.now) (stmts_text params.now (suc depth) (stmts_of body.now))) }
 {
     if body.is_empty() {
         return put(out, "\n");
@@ -83,7 +88,8 @@ fn put_block(
     depth: usize,
     body: &[Stmt],
 ) -> Result<(), AllocError>
-    ensures { OnOk result (out.new.items ≡ out.old.items ++ block_text params.now depth (stmts_of body.now)) }
+    ensures { OnOk result
+        (out.new.items ≡ out.old.items ++ block_text params.now depth (stmts_of body.now)) }
 {
     let inner = depth.checked_add(1).ok_or(AllocError)?;
     put_stmts(alloc, out, params, inner, body)?;
@@ -98,7 +104,8 @@ fn put_log(
     depth: usize,
     es: &[Expr],
 ) -> Result<(), AllocError>
-    ensures { OnOk result (out.new.items ≡ out.old.items ++ stmt_text params.now depth (log (map expr_of es.now))) }
+    ensures { OnOk result
+        (out.new.items ≡ out.old.items ++ stmt_text params.now depth (log (map expr_of es.now))) }
 {
     put_indent(out, depth)?;
     put(out, "console.log(")?;
@@ -114,7 +121,8 @@ fn put_assign(
     name: &Name,
     e: &Expr,
 ) -> Result<(), AllocError>
-    ensures { OnOk result (out.new.items ≡ out.old.items ++ stmt_text params.now depth (assign name.now (expr_of e.now))) }
+    ensures { OnOk result
+        (out.new.items ≡ out.old.items ++ stmt_text params.now depth (assign name.now (expr_of e.now))) }
 {
     put_indent(out, depth)?;
     put(out, name.as_str())?;
@@ -129,7 +137,8 @@ fn put_bag_set(
     key: &Name,
     e: &Expr,
 ) -> Result<(), AllocError>
-    ensures { OnOk result (out.new.items ≡ out.old.items ++ stmt_text params.now depth (bag_set key.now (expr_of e.now))) }
+    ensures { OnOk result
+        (out.new.items ≡ out.old.items ++ stmt_text params.now depth (bag_set key.now (expr_of e.now))) }
 {
     put_indent(out, depth)?;
     put_key(out, key)?;
@@ -143,7 +152,8 @@ fn put_throw(
     depth: usize,
     e: &Expr,
 ) -> Result<(), AllocError>
-    ensures { OnOk result (out.new.items ≡ out.old.items ++ stmt_text params.now depth (throw (expr_of e.now))) }
+    ensures { OnOk result
+        (out.new.items ≡ out.old.items ++ stmt_text params.now depth (throw (expr_of e.now))) }
 {
     put_indent(out, depth)?;
     put(out, "throw new Error(")?;
@@ -158,7 +168,9 @@ fn put_invalidate(
     depth: usize,
     told: &Option<Expr>,
 ) -> Result<(), AllocError>
-    ensures { OnOk result (out.new.items ≡ out.old.items ++ stmt_text params.now depth (invalidate (option_map expr_of told.now))) }
+    ensures { OnOk result
+        (out.new.items
+        ≡ out.old.items ++ stmt_text params.now depth (invalidate (option_map expr_of told.now))) }
 {
     put_indent(out, depth)?;
     put(out, "import.meta.hot.invalidate(")?;
@@ -172,7 +184,8 @@ fn put_told(
     params: &[Name],
     told: &Option<Expr>,
 ) -> Result<(), AllocError>
-    ensures { OnOk result (out.new.items ≡ out.old.items ++ told_text params.now (option_map expr_of told.now)) }
+    ensures { OnOk result
+        (out.new.items ≡ out.old.items ++ told_text params.now (option_map expr_of told.now)) }
 {
     match told {
         None => Ok(()),
@@ -188,7 +201,8 @@ fn put_if(
     depth: usize,
     condition: &Cond,
 ) -> Result<(), AllocError>
-    ensures { OnOk result (out.new.items ≡ out.old.items ++ if_text params.now depth (cond_of condition.now)) }
+    ensures { OnOk result
+        (out.new.items ≡ out.old.items ++ if_text params.now depth (cond_of condition.now)) }
 {
     put_indent(out, depth)?;
     put(out, "if (")?;

@@ -8,7 +8,8 @@ use Rattle.client_model.specs.Taking.{Taken, took, unexpected, instances_full, i
 use Rattle.client_model.specs.Firing as firing
 use Rattle.client_model.specs.Firing.{Fired, heard, busy}
 use Rattle.hot_runtime.specs.declared.fault.RuntimeFault.{RuntimeFault}
-use Rattle.hot_runtime.specs.declared.fault.RuntimeFault.TheVariants.{Unexpected, InstancesFull, Stopped, NoMemory}
+use Rattle.hot_runtime.specs.declared.fault.RuntimeFault.TheVariants.{Unexpected, InstancesFull}
+use Rattle.hot_runtime.specs.declared.fault.RuntimeFault.TheVariants.{Stopped, NoMemory}
 
 -- the answer to a message is the definition's
 abbrev pub IsTaken : Taken → Result (Vec OutLine) RuntimeFault → Type 0

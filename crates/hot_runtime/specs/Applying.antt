@@ -26,15 +26,18 @@ pub record IsFound {F : Type 0} (r : Runtime) (p : Plan) (page : Page F) (found 
   pub changes : IsChange r p found.change
   pub made : AreMade r p page found.births.items
 
--- the page is what the plan makes of it, and the lines tell that, and then that a plan of this kind is applied
-pub record IsApplied {F : Type 0} (r : Runtime) (p : Plan) (kind : PlanKind) (before after : Page F) (tells : List OutLine) : Type 0 where
+-- the page is what the plan makes of it, and the lines tell that, and then that a plan of this kind is
+-- applied
+pub record IsApplied {F : Type 0} (r : Runtime) (p : Plan) (kind : PlanKind) (before after : Page F)
+    (tells : List OutLine) : Type 0 where
   pub began : List OutLine
   pub page : HasChanged (page_done p.kind p r) r p before after [] began
   pub lines : tells ≡ began ++ line.Applied after.client kind ∷ []
 
 -- what is known where a plan is applied: the plan and the client of the definitions, with what the code took
 -- out of its plan
-pub record IsToApply (r : Runtime) (p kept : Plan) (ready : Ready) (trees : List (Name × Module)) (boundaries : List (Name × Name)) : Type 0 where
+pub record IsToApply (r : Runtime) (p kept : Plan) (ready : Ready) (trees : List (Name × Module))
+    (boundaries : List (Name × Name)) : Type 0 where
   pub plan : IsSamePlan p kept
   pub ends : IsReady r p ready
   pub texts : HasTrees r trees

@@ -22,6 +22,7 @@ pub record Stands {F : Type 0} (r : Runtime) (h : HotRuntime F) : Type 0 where
   pub keeps : Keeps r h
 
 -- unless memory ran out, it is what the definitions' client is after the message, and answers as that does
-pub record IsTaking {F : Type 0} (taking : Taking) (after : HotRuntime F) (result : Result (Vec OutLine) RuntimeFault) : Type 0 where
+pub record IsTaking {F : Type 0} (taking : Taking) (after : HotRuntime F)
+    (result : Result (Vec OutLine) RuntimeFault) : Type 0 where
   pub stands : UnlessNoMemory (Stands taking.after after) result
   pub answer : IsTaken taking.answer result

@@ -69,6 +69,7 @@ pub record StandsFor {F : Type 0} (opening : Opening) (past : Past) (h : HotRunt
   pub sound : IsSound h
   pub keeps : Keeps (runtime_after module_language opening past) h
 
--- unless it is stopped, each handler that is held and each closure of the shelf answers what is stated for it
+-- unless it is stopped, each handler that is held and each closure of the shelf answers what is stated for
+-- it
 abbrev pub KeepsWords : {F : Type 0} → Answers F → HotRuntime F → Type 0
 KeepsWords answers h = h.stopped ≡ false → KeepWords answers h.page

@@ -3,7 +3,8 @@ ghost use Rattle.std.specs.Option.{option_map};
 ghost use Rattle.std.specs.Prelude.{◌≡◌, true, false, drop, IfOk, OnOk};
 ghost use Rattle.update_msgs.specs.Writable.{IsWritable};
 ghost use Rattle.update_msgs.specs.declared.message.ClientMsg.{ClientMsg};
-ghost use Rattle.client_model.specs.Answering.{abort_in, answered, done, ignored, invalidated, outcome_of, took_refusal, with_cause};
+ghost use Rattle.client_model.specs.Answering.{abort_in, answered, done, ignored, invalidated};
+ghost use Rattle.client_model.specs.Answering.{outcome_of, took_refusal, with_cause};
 ghost use Rattle.client_model.specs.Expecting.{answers_told, is_answer};
 ghost use Rattle.client_model.specs.Requesting.{request};
 ghost use Rattle.client_model.specs.Runtime.{Runtime, nothing, write};
@@ -40,7 +41,9 @@ impl<F: FnOnce(Bag) -> Result<Ran, AllocError> + Drop> HotRuntime<F> {
         requires room { is_applied asked msg ≡ true → HasRoom self.old }
         requires callable { (f : F) → F.IsAlwaysCallable f }
         requires words { KeepsWords F.post self.old }
-        ensures becomes { (r : Runtime) → Keeps r self.old → IsSound self.old → request module_language r ≡ asked → IfOk result (λ lines. Becomes (answered module_language asked msg r) self.new lines.items) }
+        ensures becomes { (r : Runtime) → Keeps r self.old → IsSound self.old
+            → request module_language r ≡ asked
+            → IfOk result (λ lines. Becomes (answered module_language asked msg r) self.new lines.items) }
         ensures words { OnOk result (KeepsWords F.post self.new) }
         ensures format { self.new.format ≡ self.old.format }
         ensures stopped { self.new.stopped ≡ self.old.stopped }
@@ -112,21 +115,24 @@ impl<F: FnOnce(Bag) -> Result<Ran, AllocError> + Drop> HotRuntime<F> {
 
     // Nothing happens.
     fn idle(&self) -> Result<Vec<OutLine>, AllocError>
-        ensures { (r : Runtime) → Keeps r self.now → IsSound self.now → IfOk result (λ lines. Becomes (nothing r) self.now lines.items) }
+        ensures { (r : Runtime) → Keeps r self.now → IsSound self.now
+            → IfOk result (λ lines. Becomes (nothing r) self.now lines.items) }
     {
         Ok(Vec::new(self.allocator()))
     }
 
     // A line is told, and nothing else happens.
     fn tell(&self, line: OutLine) -> Result<Vec<OutLine>, AllocError>
-        ensures { (r : Runtime) → Keeps r self.now → IsSound self.now → IfOk result (λ lines. Becomes (write line r) self.now lines.items) }
+        ensures { (r : Runtime) → Keeps r self.now → IsSound self.now
+            → IfOk result (λ lines. Becomes (write line r) self.now lines.items) }
     {
         one_line(self.allocator(), line)
     }
 
     // A fetch found that the plan can't be carried out.
     fn give_cause(&mut self, cause: Cause) -> Result<Vec<OutLine>, AllocError>
-        ensures becomes { (r : Runtime) → Keeps r self.old → IsSound self.old → IfOk result (λ lines. Becomes (with_cause (cause_of cause) r) self.new lines.items) }
+        ensures becomes { (r : Runtime) → Keeps r self.old → IsSound self.old
+            → IfOk result (λ lines. Becomes (with_cause (cause_of cause) r) self.new lines.items) }
         ensures rest { self.new ≡ record self.old { plan = self.new.plan } }
     {
         let alloc = self.allocator();
@@ -145,7 +151,9 @@ impl<F: FnOnce(Bag) -> Result<Ran, AllocError> + Drop> HotRuntime<F> {
         requires room { is_applied_told asked ≡ true → HasRoom self.old }
         requires callable { (f : F) → F.IsAlwaysCallable f }
         requires words { KeepsWords F.post self.old }
-        ensures becomes { (r : Runtime) → Keeps r self.old → IsSound self.old → request module_language r ≡ asked → IfOk result (λ lines. Becomes (done asked module_language r) self.new lines.items) }
+        ensures becomes { (r : Runtime) → Keeps r self.old → IsSound self.old
+            → request module_language r ≡ asked
+            → IfOk result (λ lines. Becomes (done asked module_language r) self.new lines.items) }
         ensures words { OnOk result (KeepsWords F.post self.new) }
         ensures format { self.new.format ≡ self.old.format }
         ensures stopped { self.new.stopped ≡ self.old.stopped }
@@ -162,7 +170,8 @@ impl<F: FnOnce(Bag) -> Result<Ran, AllocError> + Drop> HotRuntime<F> {
 
     // What was told is refused.
     fn refused(&mut self, asked: ClientMsg) -> Result<Vec<OutLine>, AllocError>
-        ensures becomes { (r : Runtime) → Keeps r self.old → IsSound self.old → IfOk result (λ lines. Becomes (took_refusal asked r) self.new lines.items) }
+        ensures becomes { (r : Runtime) → Keeps r self.old → IsSound self.old
+            → IfOk result (λ lines. Becomes (took_refusal asked r) self.new lines.items) }
         ensures words { KeepsWords F.post self.old → KeepsWords F.post self.new }
         ensures format { self.new.format ≡ self.old.format }
         ensures stopped { self.new.stopped ≡ self.old.stopped }
@@ -180,7 +189,9 @@ impl<F: FnOnce(Bag) -> Result<Ran, AllocError> + Drop> HotRuntime<F> {
 
     // The plan is given up.
     fn abort(&mut self) -> Result<Vec<OutLine>, AllocError>
-        ensures becomes { (r : Runtime) → Keeps r self.old → IsSound self.old → is_aborted (request module_language r) ≡ true → IfOk result (λ lines. Becomes (abort_in r.page.plan module_language r) self.new lines.items) }
+        ensures becomes { (r : Runtime) → Keeps r self.old → IsSound self.old
+            → is_aborted (request module_language r) ≡ true
+            → IfOk result (λ lines. Becomes (abort_in r.page.plan module_language r) self.new lines.items) }
         ensures rest { self.new ≡ record self.old { plan = self.new.plan } }
     {
         match self.plan.take() {
@@ -191,7 +202,8 @@ impl<F: FnOnce(Bag) -> Result<Ran, AllocError> + Drop> HotRuntime<F> {
 
     // The line of a plan that was given up, where there is a cause.
     fn cause_lines(&self, cause: Option<Cause>) -> Result<Vec<OutLine>, AllocError>
-        ensures { IfOk result (λ lines. lines.items ≡ cause_lines self.now.page.client (option_map cause_of cause)) }
+        ensures { IfOk result
+            (λ lines. lines.items ≡ cause_lines self.now.page.client (option_map cause_of cause)) }
     {
         let alloc = self.allocator();
         match cause {
@@ -208,7 +220,8 @@ impl<F: FnOnce(Bag) -> Result<Ran, AllocError> + Drop> HotRuntime<F> {
 
     // An invalidation was taken: its module is forced.
     fn invalidated(&mut self, name: ModName, message: Text) -> Result<Vec<OutLine>, AllocError>
-        ensures becomes { (r : Runtime) → Keeps r self.old → IsSound self.old → IfOk result (λ lines. Becomes (invalidated name message r) self.new lines.items) }
+        ensures becomes { (r : Runtime) → Keeps r self.old → IsSound self.old
+            → IfOk result (λ lines. Becomes (invalidated name message r) self.new lines.items) }
         ensures words { KeepsWords F.post self.old → KeepsWords F.post self.new }
         ensures format { self.new.format ≡ self.old.format }
         ensures stopped { self.new.stopped ≡ self.old.stopped }
@@ -229,7 +242,8 @@ impl<F: FnOnce(Bag) -> Result<Ran, AllocError> + Drop> HotRuntime<F> {
 
     // An invalidation was ignored.
     fn ignored(&mut self, name: ModName) -> Result<Vec<OutLine>, AllocError>
-        ensures becomes { (r : Runtime) → Keeps r self.old → IsSound self.old → IfOk result (λ lines. Becomes (ignored name r) self.new lines.items) }
+        ensures becomes { (r : Runtime) → Keeps r self.old → IsSound self.old
+            → IfOk result (λ lines. Becomes (ignored name r) self.new lines.items) }
         ensures words { KeepsWords F.post self.old → KeepsWords F.post self.new }
         ensures format { self.new.format ≡ self.old.format }
         ensures stopped { self.new.stopped ≡ self.old.stopped }

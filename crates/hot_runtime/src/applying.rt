@@ -45,7 +45,9 @@ impl<F: FnOnce(Bag) -> Result<Ran, AllocError> + Drop> HotRuntime<F> {
         requires room { HasRoom self.old }
         requires callable { (f : F) → F.IsAlwaysCallable f }
         requires words { KeepsWords F.post self.old }
-        ensures becomes { (r : Runtime) → Keeps r self.old → IsSound self.old → is_applied_told (request module_language r) ≡ true → IfOk result (λ lines. Becomes (apply_in r.page.plan module_language r) self.new lines.items) }
+        ensures becomes { (r : Runtime) → Keeps r self.old → IsSound self.old
+            → is_applied_told (request module_language r) ≡ true
+            → IfOk result (λ lines. Becomes (apply_in r.page.plan module_language r) self.new lines.items) }
         ensures words { OnOk result (KeepsWords F.post self.new) }
         ensures format { self.new.format ≡ self.old.format }
         ensures stopped { self.new.stopped ≡ self.old.stopped }
@@ -143,8 +145,8 @@ impl<F: FnOnce(Bag) -> Result<Ran, AllocError> + Drop> HotRuntime<F> {
     }
 }
 
-// A page becomes what a plan of this kind makes of it, by what was found before, and the last line tells that
-// the plan is applied.
+// A page becomes what a plan of this kind makes of it, by what was found before, and the last line tells
+// that the plan is applied.
 fn apply_to<F: FnOnce(Bag) -> Result<Ran, AllocError> + Drop>(
     page: &mut Page<F>,
     alloc: Global,

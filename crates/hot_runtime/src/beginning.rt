@@ -5,7 +5,8 @@ ghost use Rattle.hmr_types.specs.declared.words.PlanKind.TheVariants.{Load};
 ghost use Rattle.output_lines.specs.declared.out_line.OutLine.TheVariants as line;
 ghost use Rattle.core_model.specs.Names.{Name, in_order};
 ghost use Rattle.core_model.specs.Page.{new_plan};
-ghost use Rattle.client_model.specs.Answering.{begin, connect, pair_of, start_reload, start_update, write_batch};
+ghost use Rattle.client_model.specs.Answering.{begin, connect, pair_of, start_reload};
+ghost use Rattle.client_model.specs.Answering.{start_update, write_batch};
 ghost use Rattle.client_model.specs.Runtime.{Runtime, and_then};
 ghost use Rattle.page_plan.specs.Plans.{IsSamePlan};
 ghost use Rattle.plan_under_way.specs.Telling.{accept_lines, batch_lines};
@@ -52,7 +53,11 @@ impl<F: FnOnce(Bag) -> Result<Ran, AllocError> + Drop> HotRuntime<F> {
         batch: u64,
         triggered: Sequence<ModName>,
     ) -> Result<Vec<OutLine>, AllocError>
-        ensures becomes { (r : Runtime) → Keeps r self.old → IsSound self.old → IfOk result (λ lines. Becomes (and_then (write_batch batch triggered r) (start_reload (line.Reload r.client cause path))) self.new lines.items) }
+        ensures becomes { (r : Runtime) → Keeps r self.old → IsSound self.old
+            → IfOk result
+            (λ lines.
+            Becomes (and_then (write_batch batch triggered r)
+            (start_reload (line.Reload r.client cause path))) self.new lines.items) }
         ensures rest { self.new ≡ record self.old { plan = self.new.plan } }
     {
         let alloc = self.allocator();
@@ -75,7 +80,11 @@ impl<F: FnOnce(Bag) -> Result<Ran, AllocError> + Drop> HotRuntime<F> {
         batch: u64,
         triggered: Sequence<ModName>,
     ) -> Result<Vec<OutLine>, AllocError>
-        ensures becomes { (r : Runtime) → Keeps r self.old → IsSound self.old → IfOk result (λ lines. Becomes (and_then (write_batch batch triggered r) (start_update replaced (map pair_of updates))) self.new lines.items) }
+        ensures becomes { (r : Runtime) → Keeps r self.old → IsSound self.old
+            → IfOk result
+            (λ lines.
+            Becomes (and_then (write_batch batch triggered r)
+            (start_update replaced (map pair_of updates))) self.new lines.items) }
         ensures rest { self.new ≡ record self.old { plan = self.new.plan } }
     {
         let alloc = self.allocator();
@@ -89,8 +98,11 @@ impl<F: FnOnce(Bag) -> Result<Ran, AllocError> + Drop> HotRuntime<F> {
 
     // A plan begins: nothing is fetched, and no cause is found.
     fn begin(&mut self, plan: Plan, pairs: Vec<(ModName, ModName)>) -> Result<(), AllocError>
-        ensures begins { (r : Runtime) (kind : PlanKind) (replaced : List Name) → Keeps r self.old → IsSamePlan (new_plan kind replaced) plan → OnOk result (Keeps (begin kind replaced pairs.items r) self.new) }
-        ensures sound { (kind : PlanKind) (replaced : List Name) → IsSamePlan (new_plan kind replaced) plan → (kind ≡ Load → self.old.loaded ≡ false) → IsSound self.old → OnOk result (IsSound self.new) }
+        ensures begins { (r : Runtime) (kind : PlanKind) (replaced : List Name) → Keeps r self.old
+            → IsSamePlan (new_plan kind replaced) plan
+            → OnOk result (Keeps (begin kind replaced pairs.items r) self.new) }
+        ensures sound { (kind : PlanKind) (replaced : List Name) → IsSamePlan (new_plan kind replaced) plan
+            → (kind ≡ Load → self.old.loaded ≡ false) → IsSound self.old → OnOk result (IsSound self.new) }
         ensures rest { self.new ≡ record self.old { plan = self.new.plan } }
     {
         let alloc = self.allocator();

@@ -30,8 +30,12 @@ impl<F: FnOnce(Bag) -> Result<Ran, AllocError> + Drop> HotRuntime<F> {
     ) -> Result<Option<Vec<OutLine>>, RuntimeFault>
         requires callable { (f : F) → F.IsAlwaysCallable f }
         requires words { KeepsWords F.post self.old }
-        ensures stands { (opening : Opening) (past : Past) → StandsFor opening past self.old → UnlessNoMemory (StandsFor opening (event name.now value.now ∷ past) self.new) result }
-        ensures answer { (opening : Opening) (past : Past) → StandsFor opening past self.old → IsFired (fire module_language name.now value.now (runtime_after module_language opening past)).answer result }
+        ensures stands { (opening : Opening) (past : Past) → StandsFor opening past self.old
+            → UnlessNoMemory (StandsFor opening (event name.now value.now ∷ past) self.new) result }
+        ensures answer { (opening : Opening) (past : Past) → StandsFor opening past self.old
+            → IsFired
+            (fire module_language name.now value.now
+            (runtime_after module_language opening past)).answer result }
         ensures stopped { IsErrOf result Stopped ↔ (self.old.stopped ≡ true) }
         ensures stops { OnStop (self.new.stopped ≡ true) result }
         ensures unchanged { OnRefusal (self.new ≡ self.old) result }
@@ -69,7 +73,9 @@ impl<F: FnOnce(Bag) -> Result<Ran, AllocError> + Drop> HotRuntime<F> {
         requires running { self.old.stopped ≡ false }
         requires callable { (f : F) → F.IsAlwaysCallable f }
         requires words { KeepsWords F.post self.old }
-        ensures becomes { (r : Runtime) → Keeps r self.old → IsSound self.old → IfOk result (λ lines. Becomes (hear_all module_language name.now value.now r) self.new lines.items) }
+        ensures becomes { (r : Runtime) → Keeps r self.old → IsSound self.old
+            → IfOk result
+            (λ lines. Becomes (hear_all module_language name.now value.now r) self.new lines.items) }
         ensures words { OnOk result (KeepsWords F.post self.new) }
         ensures format { self.new.format ≡ self.old.format }
     {

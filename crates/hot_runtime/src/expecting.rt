@@ -1,6 +1,7 @@
 // Which messages answer which request, and the places of both in the tables of messages.
 ghost use Rattle.std.specs.Prelude.{◌≡◌, ◌==◌, false, true};
-ghost use Rattle.client_model.specs.Expecting.{answers_ask, answers_fetch, answers_hello, answers_told, answer_place, is_answer, request_place};
+ghost use Rattle.client_model.specs.Expecting.{answers_ask, answers_fetch, answers_hello, answers_told};
+ghost use Rattle.client_model.specs.Expecting.{answer_place, is_answer, request_place};
 
 use hmr_types::ModName;
 use update_msgs::{ClientMsg, ServerMsg};

@@ -28,7 +28,11 @@ impl<F: FnOnce(Bag) -> Result<Ran, AllocError> + Drop> HotRuntime<F> {
         text: Text,
     ) -> Result<Vec<OutLine>, AllocError>
         requires short { length text ≤ 4294967294 }
-        ensures becomes { (r : Runtime) → Keeps r self.old → IsSound self.old → IsVersion version → is_answer self.old.loaded (request module_language r) (msg.Text name version text) ≡ true → IfOk result (λ lines. Becomes (stage_in r.page.plan module_language name version text r) self.new lines.items) }
+        ensures becomes { (r : Runtime) → Keeps r self.old → IsSound self.old → IsVersion version
+            → is_answer self.old.loaded (request module_language r) (msg.Text name version text) ≡ true
+            → IfOk result
+            (λ lines.
+            Becomes (stage_in r.page.plan module_language name version text r) self.new lines.items) }
         ensures rest { self.new ≡ record self.old { plan = self.new.plan } }
     {
         let alloc = self.allocator();

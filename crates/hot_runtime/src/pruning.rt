@@ -23,7 +23,9 @@ impl<F: FnOnce(Bag) -> Result<Ran, AllocError> + Drop> HotRuntime<F> {
         requires running { self.old.stopped ≡ false }
         requires callable { (f : F) → F.IsAlwaysCallable f }
         requires words { KeepsWords F.post self.old }
-        ensures becomes { (r : Runtime) → Keeps r self.old → IsSound self.old → request module_language r ≡ Ask → IfOk result (λ lines. Becomes (prune module_language paths r) self.new lines.items) }
+        ensures becomes { (r : Runtime) → Keeps r self.old → IsSound self.old
+            → request module_language r ≡ Ask
+            → IfOk result (λ lines. Becomes (prune module_language paths r) self.new lines.items) }
         ensures words { OnOk result (KeepsWords F.post self.new) }
         ensures format { self.new.format ≡ self.old.format }
         ensures stopped { self.new.stopped ≡ self.old.stopped }

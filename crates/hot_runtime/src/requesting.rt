@@ -20,8 +20,11 @@ use update_msgs::ClientMsg;
 impl<F> HotRuntime<F> {
     /// The request that stands: what the client asks or tells next. It can be written.
     pub fn request(&self) -> Result<ClientMsg, AllocError>
-        ensures request { (opening : Opening) (past : Past) → StandsFor opening past self.now → IfOk result (λ asked. asked ≡ request module_language (runtime_after module_language opening past)) }
-        ensures sayable { (opening : Opening) (past : Past) → StandsFor opening past self.now → IfOk result IsSayable }
+        ensures request { (opening : Opening) (past : Past) → StandsFor opening past self.now
+            → IfOk result
+            (λ asked. asked ≡ request module_language (runtime_after module_language opening past)) }
+        ensures sayable { (opening : Opening) (past : Past) → StandsFor opening past self.now
+            → IfOk result IsSayable }
     {
         if self.page.client == 0 {
             return self.hello();

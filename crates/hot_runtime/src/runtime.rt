@@ -41,7 +41,8 @@ impl<F: FnOnce(Bag) -> Result<Ran, AllocError> + Drop> HotRuntime<F> {
     pub fn new(alloc: Global, shelf: Shelf<F>, roots: Vec<ModName>, format: u8) -> HotRuntime<F>
         requires format { IsFormat format }
         requires hosts { All (IsHost F.post) shelf }
-        ensures stands { StandsFor (record { shelf = marks_of shelf; roots = roots.items; format = format }) [] result }
+        ensures stands { StandsFor
+            (record { shelf = marks_of shelf; roots = roots.items; format = format }) [] result }
         ensures words { KeepsWords F.post result }
         ensures running { result.stopped ≡ false }
         ensures format { result.format ≡ format }
@@ -69,7 +70,8 @@ impl<F> HotRuntime<F> {
 
     /// The number that the last `connected` gave, 0 before any. It takes no memory.
     pub fn client(&self) -> ClientId
-        ensures { (opening : Opening) (past : Past) → StandsFor opening past self.now → result ≡ (runtime_after module_language opening past).client }
+        ensures { (opening : Opening) (past : Past) → StandsFor opening past self.now
+            → result ≡ (runtime_after module_language opening past).client }
     {
         self.page.client
     }
@@ -83,7 +85,8 @@ impl<F> HotRuntime<F> {
 
     /// Whether the runtime has nothing under way and nothing to tell. It takes no memory.
     pub fn at_rest(&self) -> bool
-        ensures { (opening : Opening) (past : Past) → StandsFor opening past self.now → result ≡ is_at_rest (runtime_after module_language opening past) }
+        ensures { (opening : Opening) (past : Past) → StandsFor opening past self.now
+            → result ≡ is_at_rest (runtime_after module_language opening past) }
     {
         self.loaded && self.plan.is_none() && self.page.unsent.is_empty() && !self.stopped
     }

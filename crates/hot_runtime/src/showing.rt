@@ -22,7 +22,8 @@ impl<F> HotRuntime<F> {
     /// modules. A view that is no table, which no message that can be written brings about, is answered as
     /// want of memory is.
     pub fn table(&self) -> Result<Table, AllocError>
-        ensures { (opening : Opening) (past : Past) → StandsFor opening past self.now → IfOk result (λ shown. shown ≡ table (runtime_after module_language opening past)) }
+        ensures { (opening : Opening) (past : Past) → StandsFor opening past self.now
+            → IfOk result (λ shown. shown ≡ table (runtime_after module_language opening past)) }
     {
         table_of(self.allocator(), &self.view)
     }
@@ -31,7 +32,8 @@ impl<F> HotRuntime<F> {
     /// older instance of what it imports. It takes time in proportion to the modules and to their imports
     /// and links, each with the logarithm of their number.
     pub fn stale(&self) -> Result<Vec<(ModName, ModName)>, AllocError>
-        ensures { (opening : Opening) (past : Past) → StandsFor opening past self.now → IfOk result (λ edges. edges.items ≡ stale_of (runtime_after module_language opening past)) }
+        ensures { (opening : Opening) (past : Past) → StandsFor opening past self.now
+            → IfOk result (λ edges. edges.items ≡ stale_of (runtime_after module_language opening past)) }
     {
         let names = self.view.names(self.allocator())?;
         let mut edges = Vec::new(self.allocator());
@@ -47,7 +49,9 @@ impl<F> HotRuntime<F> {
         place: usize,
         edges: &mut Vec<(ModName, ModName)>,
     ) -> Result<(), AllocError>
-        ensures { (r : Runtime) → deeds.StandsFor r self.now.page → OnOk result (edges.new.items ≡ edges.old.items ++ stale_row r (slice_get self.now.view place)) }
+        ensures { (r : Runtime) → deeds.StandsFor r self.now.page
+            → OnOk result
+            (edges.new.items ≡ edges.old.items ++ stale_row r (slice_get self.now.view place)) }
     {
         match self.view.at(place) {
             Some((name, _, analysis)) => {
@@ -63,7 +67,8 @@ impl<F> HotRuntime<F> {
     /// The lines of what the exports of live modules hold. It takes time in proportion to the modules,
     /// each with the logarithm of their number, and to the exports, each with the variables of its module.
     pub fn values(&self) -> Result<Vec<OutLine>, AllocError>
-        ensures { (opening : Opening) (past : Past) → StandsFor opening past self.now → IfOk result (λ lines. lines.items ≡ value_lines (runtime_after module_language opening past)) }
+        ensures { (opening : Opening) (past : Past) → StandsFor opening past self.now
+            → IfOk result (λ lines. lines.items ≡ value_lines (runtime_after module_language opening past)) }
     {
         let names = self.view.names(self.allocator())?;
         let names = rising(names)?;
@@ -72,7 +77,8 @@ impl<F> HotRuntime<F> {
 
     /// The lines of each instance that was made, with its handlers. It takes time in proportion to them.
     pub fn fates(&self) -> Result<Vec<OutLine>, AllocError>
-        ensures { (opening : Opening) (past : Past) → StandsFor opening past self.now → IfOk result (λ lines. lines.items ≡ fate_lines (runtime_after module_language opening past)) }
+        ensures { (opening : Opening) (past : Past) → StandsFor opening past self.now
+            → IfOk result (λ lines. lines.items ≡ fate_lines (runtime_after module_language opening past)) }
     {
         self.page.fate_lines(self.allocator())
     }

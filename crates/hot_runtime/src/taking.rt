@@ -34,8 +34,10 @@ impl<F: FnOnce(Bag) -> Result<Ran, AllocError> + Drop> HotRuntime<F> {
         requires writable { IsWritable self.old.format msg }
         requires callable { (f : F) → F.IsAlwaysCallable f }
         requires words { KeepsWords F.post self.old }
-        ensures stands { (opening : Opening) (past : Past) → StandsFor opening past self.old → UnlessNoMemory (StandsFor opening (message msg ∷ past) self.new) result }
-        ensures answer { (opening : Opening) (past : Past) → StandsFor opening past self.old → IsTaken (take module_language (runtime_after module_language opening past) msg).answer result }
+        ensures stands { (opening : Opening) (past : Past) → StandsFor opening past self.old
+            → UnlessNoMemory (StandsFor opening (message msg ∷ past) self.new) result }
+        ensures answer { (opening : Opening) (past : Past) → StandsFor opening past self.old
+            → IsTaken (take module_language (runtime_after module_language opening past) msg).answer result }
         ensures stopped { IsErrOf result Stopped ↔ (self.old.stopped ≡ true) }
         ensures stops { OnStop (self.new.stopped ≡ true) result }
         ensures unchanged { OnRefusal (self.new ≡ self.old) result }
@@ -64,7 +66,8 @@ impl<F: FnOnce(Bag) -> Result<Ran, AllocError> + Drop> HotRuntime<F> {
         requires writable { IsWritable self.old.format msg }
         requires callable { (f : F) → F.IsAlwaysCallable f }
         requires words { KeepsWords F.post self.old }
-        ensures takes { (r : Runtime) → Keeps r self.old → IsSound self.old → request module_language r ≡ asked → IsTaking (take module_language r msg) self.new result }
+        ensures takes { (r : Runtime) → Keeps r self.old → IsSound self.old
+            → request module_language r ≡ asked → IsTaking (take module_language r msg) self.new result }
         ensures running { IfErr result (λ fault. fault ≢ Stopped) }
         ensures stops { OnStop (self.new.stopped ≡ true) result }
         ensures unchanged { OnRefusal (self.new ≡ self.old) result }

@@ -27,9 +27,11 @@ noted (Ok reply) = Ok tt
 noted (Err stop) = Err stop
 
 -- the result was one event of the hub
-pub record Settled (done : Transform) (version : ℕ) (x y : HubBoard) (answer : Result ⊤ HubStop) : Type 0 where
+pub record Settled (done : Transform) (version : ℕ) (x y : HubBoard)
+    (answer : Result ⊤ HubStop) : Type 0 where
   pub reply : Result Reply HubStop
-  pub told : Told (change (result done.name done.text done.outcome version)) reply x.pass y.pass x.full y.full
+  pub told : Told
+      (change (result done.name done.text done.outcome version)) reply x.pass y.pass x.full y.full
   pub answer_is : answer ≡ noted reply
   pub hub : y.hub ≡ x.hub
   pub queue : y.queue ≡ x.queue

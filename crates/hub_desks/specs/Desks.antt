@@ -53,7 +53,8 @@ client_with client m (Ok answer) = client_after client (is_bye m) answer
 client_with client m (Err stop) = client
 
 -- the message was one event of the hub
-pub record Heard {R : Type 0} (m : ClientMsg) (x y : HubDesk R) (result : Result ServerMsg HubStop) : Type 0 where
+pub record Heard {R : Type 0} (m : ClientMsg) (x y : HubDesk R)
+    (result : Result ServerMsg HubStop) : Type 0 where
   pub reply : Result Reply HubStop
   pub told : Told (event_of x.client m) reply x.pass y.pass x.full y.full
   pub answer : IsAnswer reply result
@@ -62,7 +63,8 @@ pub record Heard {R : Type 0} (m : ClientMsg) (x y : HubDesk R) (result : Result
   pub no_memory : y.no_memory ≡ x.no_memory
 
 -- the message was refused and nothing changed, or else it was one event
-abbrev pub DealtBy : {R : Type 0} → Option Refusal → ClientMsg → HubDesk R → HubDesk R → Result ServerMsg HubStop → Type 0
+abbrev pub DealtBy : {R : Type 0} → Option Refusal → ClientMsg → HubDesk R → HubDesk R
+    → Result ServerMsg HubStop → Type 0
 DealtBy (Some refusal) m x y result = (result ≡ Ok (refusal_message refusal)) × (y ≡ x)
 DealtBy None m x y result = Heard m x y result
 

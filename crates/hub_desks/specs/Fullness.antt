@@ -5,4 +5,5 @@ use Rattle.hub_moves.specs.Fullness.{nearly_most_bytes}
 
 -- no entry has a place, or none of a message's size
 abbrev pub is_nearly_full : List Recorded → Bool
-is_nearly_full entries = nat_le most_entries (length entries) || nat_lt nearly_most_bytes (transcript_bytes entries)
+is_nearly_full entries =
+    nat_le most_entries (length entries) || nat_lt nearly_most_bytes (transcript_bytes entries)

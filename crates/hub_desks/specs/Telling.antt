@@ -9,7 +9,8 @@ use Rattle.hmr_hub.specs.declared.pass.Pass.{Pass}
 use Rattle.hmr_hub.specs.Calls.{Called, SameKnower}
 
 -- the pass called its hub once, and it is noted whether the transcript had no place
-pub record Told (event : Event) (reply : Result Reply HubStop) (p q : Pass) (full full' : Bool) : Type 0 where
+pub record Told (event : Event) (reply : Result Reply HubStop) (p q : Pass)
+    (full full' : Bool) : Type 0 where
   pub called : Called event reply p q
   pub same : SameKnower p q
   pub full_is : full' ≡ full_after full reply

@@ -133,5 +133,6 @@ impl Board for HubBoard {
 
     ghost same = { λ x. record { hub = refl; number = refl; queue = refl } };
 
-    ghost longer = { λ x y z p q. record { hub = q.hub ∙ p.hub; number = q.number ∙ p.number; queue = q.queue ∙ p.queue } };
+    ghost longer = { λ x y z p q.
+        record { hub = q.hub ∙ p.hub; number = q.number ∙ p.number; queue = q.queue ∙ p.queue } };
 }

@@ -1,5 +1,6 @@
 -- What stands while an editor makes its edits, and when it has made one more.
-use Rattle.std.specs.Prelude.{◌≡◌, ◌⊎◌, true, List, [], ◌∷◌, ◌++◌, map, flat_map, is_ok, Some, None, All, if◌then◌else◌}
+use Rattle.std.specs.Prelude.{◌≡◌, ◌⊎◌, [], ◌∷◌, ◌++◌}
+use Rattle.std.specs.Prelude.{true, List, map, flat_map, is_ok, Some, None, All, if◌then◌else◌}
 use Rattle.std.specs.List.Sorted.{IsPermutation}
 use Rattle.core_model.specs.Names.{Name, same_name}
 use Rattle.core_model.specs.Sources.{edit_answer}
@@ -12,7 +13,8 @@ use Rattle.hmr_hub.specs.declared.pass.Pass.{Pass}
 use Rattle.hmr_hub.specs.Passes.{is_alone, roots_of, seen_of}
 use Rattle.hub_moves.specs.Moves.{Moved}
 use Rattle.hub_moves.specs.Answered.{Answered}
-use Rattle.hub_editor.specs.Edits.{Answer, Edit, Made, answered_edit, counted_by, edit_entry, edit_event, edit_of, jobs_at_end, jobs_at_once, jobs_of, jobs_put, last_of, reply_of}
+use Rattle.hub_editor.specs.Edits.{Answer, Edit, Made, answered_edit, counted_by, edit_entry, edit_event}
+use Rattle.hub_editor.specs.Edits.{edit_of, jobs_at_end, jobs_at_once, jobs_of, jobs_put, last_of, reply_of}
 use Rattle.hub_editor.specs.Results.{HasOwnResults, HasResult, last_in, result_entry, sources_in}
 use Rattle.hub_editor.specs.declared.editor.Editor.{Editor}
 use Rattle.hub_editor.specs.declared.worked.Worked.{Worked}
@@ -100,4 +102,5 @@ pub record Fronted (old new : List Made) (edits : List Edit) : Type 0 where
 
 -- for each name the job of its last counted edit has its result in the transcript
 abbrev pub HaveLastResults : Pass → List Made → Type 0
-HaveLastResults p made = (job : Task) → last_of made None job.name ≡ Some (job.ver, job.text) → HasResult (seen_of p) job
+HaveLastResults p made = (job : Task) → last_of made None job.name ≡ Some (job.ver, job.text)
+    → HasResult (seen_of p) job

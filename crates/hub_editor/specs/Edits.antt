@@ -1,5 +1,6 @@
 -- Edits that an editor made of a hub: what was answered, and the jobs that came of them.
-use Rattle.std.specs.Prelude.{◌≢◌, ◌≤◌, ⊤, ℕ, ◌+◌, ◌==◌, ◌&&◌, Bool, true, false, List, [], ◌∷◌, length, map, Option, Some, None, Result, Ok, Err, if◌then◌else◌}
+use Rattle.std.specs.Prelude.{◌≢◌, ◌≤◌, ⊤, ℕ, ◌+◌, ◌==◌, ◌&&◌, Bool, true, false, List, [], ◌∷◌}
+use Rattle.std.specs.Prelude.{length, map, Option, Some, None, Result, Ok, Err, if◌then◌else◌}
 use Rattle.std.specs.Option.{option_map}
 use Rattle.std.specs.Global.{Vec}
 use Prim.{⊥}
@@ -164,4 +165,5 @@ counted_by (Err refusal) t before = before
 -- the version and the text that a name has after these edits, where it had those before
 abbrev pub last_of : List Made → Option (ℕ × Text) → Name → Option (ℕ × Text)
 last_of [] before n = before
-last_of (m ∷ made) before n = last_of made (if same_name m.name n then counted_by m.answer m.text before else before) n
+last_of (m ∷ made) before n =
+    last_of made (if same_name m.name n then counted_by m.answer m.text before else before) n

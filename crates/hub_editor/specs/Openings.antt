@@ -21,7 +21,8 @@ jobs_as (n, Some t) (answers.edit_refused refusal) = []
 -- the jobs that come of edits one after another, after these changes, the newest first
 abbrev pub jobs_after : List Change → List Edit → List Task
 jobs_after past [] = []
-jobs_after past (e ∷ edits) = jobs_as e (edit_answer (sources_after past) e.0 e.1) ++ jobs_after (edit e.0 e.1 ∷ past) edits
+jobs_after past (e ∷ edits) =
+    jobs_as e (edit_answer (sources_after past) e.0 e.1) ++ jobs_after (edit e.0 e.1 ∷ past) edits
 
 -- the edits, and then the results of the jobs that came of them
 abbrev pub opening : List Edit → List Recorded

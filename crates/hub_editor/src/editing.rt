@@ -1,6 +1,7 @@
-// Later edits, while workers run: each is told to the hub and its job put into the queue of the workers; at the
-// end the queue is closed, and what is left of the jobs is worked here.
-ghost use Rattle.std.specs.Prelude.{◌≡◌, ◌≤◌, ◌<◌, ◌∷◌, [], IfErr, IfSome, OnOk, false, get_or, length, true};
+// Later edits, while workers run: each is told to the hub and its job put into the queue of the workers; at
+// the end the queue is closed, and what is left of the jobs is worked here.
+ghost use Rattle.std.specs.Prelude.{◌≡◌, ◌≤◌, ◌<◌, ◌∷◌, []};
+ghost use Rattle.std.specs.Prelude.{IfErr, IfSome, OnOk, false, get_or, length, true};
 ghost use Rattle.hmr_types.specs.declared.limits.TheConstants.{MESSAGE_BYTES};
 ghost use Rattle.transform_pool.specs.Passes as pool;
 ghost use Rattle.transform_pool.specs.Roles.{SamePuts};
@@ -10,7 +11,8 @@ ghost use Rattle.hmr_hub.specs.Passes.{HasTranscript, IsPassOf, number_of};
 ghost use Rattle.hub_moves.specs.Moves.{KnowsOwn};
 ghost use Rattle.hub_editor.specs.Causes.{IsCause};
 ghost use Rattle.hub_editor.specs.Edits.{has_version, length_of, text_in};
-ghost use Rattle.hub_editor.specs.Editing.{Added, Edited, Fronted, HaveLastResults, IsGoing, SameEdits, made_by};
+ghost use Rattle.hub_editor.specs.Editing.{Added, Edited, Fronted, HaveLastResults};
+ghost use Rattle.hub_editor.specs.Editing.{IsGoing, SameEdits, made_by};
 
 use crate::editor::Editor;
 use crate::stop::EditStop;
@@ -31,13 +33,13 @@ impl Editor {
         }
     }
 
-    /// Makes an edit of a name and a text of at most 16,777,216 bytes together, by the pass with the number 0,
-    /// before any job was worked at the end. Where a job comes of it, it is put into the queue by the pass that
-    /// puts; where the queue has no place, the editor works it and tells its result. It waits.
+    /// Makes an edit of a name and a text of at most 16,777,216 bytes together, by the pass with the number
+    /// 0, before any job was worked at the end. Where a job comes of it, it is put into the queue by the
+    /// pass that puts; where the queue has no place, the editor works it and tells its result. It waits.
     ///
-    /// [`EditStop::Text`], `Names` and `Sources` come where the edit was refused, `Full` where the transcript has
-    /// no place, `NoMemory` where memory is wanting. After each the edit was made, or nothing was; its job may be
-    /// neither in the queue nor worked. It keeps a copy of the text.
+    /// [`EditStop::Text`], `Names` and `Sources` come where the edit was refused, `Full` where the
+    /// transcript has no place, `NoMemory` where memory is wanting. After each the edit was made, or nothing
+    /// was; its job may be neither in the queue nor worked. It keeps a copy of the text.
     pub fn edit<R: Wait>(
         &mut self,
         rt: &R,
@@ -59,7 +61,8 @@ impl Editor {
         ensures of { IsPassOf hub.now pass.new }
         ensures same { SameKnower pass.old pass.new }
         ensures transcript { HasTranscript pass.old → HasTranscript pass.new }
-        ensures edited { (p : Pass) → Edited p pass.old (made_by self.old) → Edited p pass.new (made_by self.new) }
+        ensures edited { (p : Pass) → Edited p pass.old (made_by self.old)
+            → Edited p pass.new (made_by self.new) }
         ensures going { IsGoing (made_by self.new) }
         ensures front { Fronted (made_by self.old) (made_by self.new) ((name, text_in text) ∷ []) }
         ensures added { OnOk result (Added (name, text_in text) (made_by self.old) (made_by self.new)
@@ -76,9 +79,9 @@ impl Editor {
         placed
     }
 
-    /// Closes the queue, whatever it answers, by the pass that puts. The jobs that it hands back are worked and
-    /// told, unless the editor worked them before; after the first stop they are let go. It looks for each among
-    /// the edits from the first on. It waits.
+    /// Closes the queue, whatever it answers, by the pass that puts. The jobs that it hands back are worked
+    /// and told, unless the editor worked them before; after the first stop they are let go. It looks for
+    /// each among the edits from the first on. It waits.
     pub fn close<R: Wait>(
         &mut self,
         rt: &R,
@@ -95,7 +98,8 @@ impl Editor {
         ensures of { IsPassOf hub.now pass.new }
         ensures same { SameKnower pass.old pass.new }
         ensures transcript { HasTranscript pass.old → HasTranscript pass.new }
-        ensures edited { (p : Pass) → Edited p pass.old (made_by self.old) → Edited p pass.new (made_by self.new) }
+        ensures edited { (p : Pass) → Edited p pass.old (made_by self.old)
+            → Edited p pass.new (made_by self.new) }
         ensures edits { SameEdits (made_by self.old) (made_by self.new) }
         ensures of_queue { pool.IsPassOf queue.now jobs.new }
         ensures same_puts { SamePuts (pool.role_of jobs.old) (pool.role_of jobs.new) }
@@ -129,7 +133,8 @@ impl Editor {
         ensures of { IsPassOf hub.now pass.new }
         ensures same { SameKnower pass.old pass.new }
         ensures transcript { HasTranscript pass.old → HasTranscript pass.new }
-        ensures edited { (p : Pass) → Edited p pass.old (made_by self.old) → Edited p pass.new (made_by self.new) }
+        ensures edited { (p : Pass) → Edited p pass.old (made_by self.old)
+            → Edited p pass.new (made_by self.new) }
         ensures edits { SameEdits (made_by self.old) (made_by self.new) }
         ensures cause { IfErr ended.new (IsCause pass.new) }
     {
@@ -153,9 +158,10 @@ impl Editor {
         None
     }
 
-    /// Works and tells each job of these edits that the hub still tells to be outstanding. It begins with the
-    /// last edit, so that of each name only the job of the last counted one is worked, and each of these has its
-    /// result at the end. It is asked when the workers have ended and their passes were joined. It waits.
+    /// Works and tells each job of these edits that the hub still tells to be outstanding. It begins with
+    /// the last edit, so that of each name only the job of the last counted one is worked, and each of these
+    /// has its result at the end. It is asked when the workers have ended and their passes were joined. It
+    /// waits.
     pub fn settle_rest<R: Wait>(
         &mut self,
         rt: &R,
@@ -169,7 +175,8 @@ impl Editor {
         ensures of { IsPassOf hub.now pass.new }
         ensures same { SameKnower pass.old pass.new }
         ensures transcript { HasTranscript pass.old → HasTranscript pass.new }
-        ensures edited { (p : Pass) → Edited p pass.old (made_by self.old) → Edited p pass.new (made_by self.new) }
+        ensures edited { (p : Pass) → Edited p pass.old (made_by self.old)
+            → Edited p pass.new (made_by self.new) }
         ensures edits { SameEdits (made_by self.old) (made_by self.new) }
         ensures results { OnOk result ((p : Pass) → Edited p pass.old (made_by self.old)
             → HaveLastResults pass.new (made_by self.new)) }

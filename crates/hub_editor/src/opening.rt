@@ -1,7 +1,8 @@
 // The first edits of a hub: all are told, their jobs are worked by several threads, and then the results are
 // told in the order of the edits.
 ghost use Rattle.std.specs.Option.{option_to_list};
-ghost use Rattle.std.specs.Prelude.{◌≡◌, ◌+◌, ◌≤◌, ◌++◌, ◌∷◌, [], All, IfErr, IfOk, IfSome, List, OnOk, length, map, true};
+ghost use Rattle.std.specs.Prelude.{◌≡◌, ◌+◌, ◌≤◌, ◌++◌, ◌∷◌, []};
+ghost use Rattle.std.specs.Prelude.{All, IfErr, IfOk, IfSome, List, OnOk, length, map, true};
 ghost use Rattle.hmr_types.specs.declared.limits.TheConstants.{MESSAGE_BYTES};
 ghost use Rattle.core_model.specs.Formed.{IsVersion};
 ghost use Rattle.transform_pool.specs.Tasks.{Task};
@@ -26,8 +27,8 @@ use transform_pool::{TextJob, run_jobs};
 /// most, and tells their results. What the pass has seen then is the edits in order, and then the results in
 /// order. It waits, and takes memory for a copy of the texts.
 ///
-/// [`EditStop::Text`], `Names` and `Sources` come where an edit was refused, `Full` where the transcript has no
-/// place, `NoMemory` where memory is wanting; the edits and results before it were made.
+/// [`EditStop::Text`], `Names` and `Sources` come where an edit was refused, `Full` where the transcript has
+/// no place, `NoMemory` where memory is wanting; the edits and results before it were made.
 pub fn open_sources<R: Threads + Wait + Sync>(
     rt: &R,
     alloc: Global,
@@ -147,7 +148,8 @@ fn tell_results<R: Wait>(
     ensures of { IsPassOf hub.now pass.new }
     ensures same { SameKnower pass.old pass.new }
     ensures transcript { HasTranscript pass.old → HasTranscript pass.new }
-    ensures told { OnOk result (seen_of pass.new ≡ seen_of pass.old ++ told_entries done.items versions.now) }
+    ensures told { OnOk result
+        (seen_of pass.new ≡ seen_of pass.old ++ told_entries done.items versions.now) }
     ensures cause { IfErr result (IsCause pass.new) }
 {
     let mut at = 0;

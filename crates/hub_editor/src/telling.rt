@@ -1,7 +1,8 @@
 // What the editor tells the hub: an edit, and the result of a job.
 ghost use Rattle.std.specs.Prelude.{◌≡◌, ◌≢◌, ◌+◌, ◌≤◌, [], IfErr, IfOk, OnErr, OnOk, length};
 ghost use Rattle.hmr_types.specs.declared.limits.TheConstants.{MESSAGE_BYTES};
-ghost use Rattle.hmr_types.specs.declared.words.EditRefusal.TheVariants.{NumbersSpent, SourceTotal, TextTooLong, TooManyNames};
+ghost use Rattle.hmr_types.specs.declared.words.EditRefusal.TheVariants.{NumbersSpent, SourceTotal};
+ghost use Rattle.hmr_types.specs.declared.words.EditRefusal.TheVariants.{TextTooLong, TooManyNames};
 ghost use Rattle.core_model.specs.Formed.{IsVersion};
 ghost use Rattle.transform_pool.specs.Results.{result_of};
 ghost use Rattle.hmr_hub.specs.Calls.{SameKnower};

@@ -3,7 +3,8 @@ ghost use Rattle.std.specs.Prelude.{◌≡◌, ◌≤◌, IfOk, IfSome};
 ghost use Rattle.std.specs.Option.{option_to_list};
 ghost use Rattle.hmr_types.specs.declared.limits.TheConstants.{MESSAGE_BYTES};
 ghost use Rattle.core_model.specs.Formed.{IsVersion};
-ghost use Rattle.hub_editor.specs.Edits.{IsGiven, IsWorkable, has_version, is_waiting, jobs_of, length_of, text_in};
+ghost use Rattle.hub_editor.specs.Edits.{IsGiven, IsWorkable, has_version, is_waiting};
+ghost use Rattle.hub_editor.specs.Edits.{jobs_of, length_of, text_in};
 ghost use Rattle.hub_editor.specs.declared.worked.Worked.TheVariants.{No};
 
 use crate::worked::Worked;
@@ -28,7 +29,8 @@ impl Model for Work {
 
     ghost Value = { Made };
 
-    ghost view = { λ w. record { name = w.name; text = text_in w.text; answer = w.answer; worked = w.worked } };
+    ghost view = { λ w.
+        record { name = w.name; text = text_in w.text; answer = w.answer; worked = w.worked } };
 
     ghost invariant = { λ w. IsKept (w.name, text_in w.text) w.answer };
 }

@@ -22,8 +22,8 @@ use std::sync::Wait;
 use transform_pool::{JobPass, JobQueue, TextJob};
 
 impl Work {
-    // Puts the job of an edit that was just answered into the queue, by the pass that puts. Where the queue has
-    // no place for it, the editor works it. A refusal of the edit stops the editor.
+    // Puts the job of an edit that was just answered into the queue, by the pass that puts. Where the queue
+    // has no place for it, the editor works it. A refusal of the edit stops the editor.
     pub(crate) fn place<R: Wait>(
         &mut self,
         rt: &R,
@@ -119,8 +119,8 @@ impl Work {
         self.work_out(rt, alloc, hub, pass, job, Worked::AtEnd)
     }
 
-    // Works the job after all edits, where the hub still tells that its result hasn't come. So the job of the
-    // last counted edit of its name has its result then.
+    // Works the job after all edits, where the hub still tells that its result hasn't come. So the job of
+    // the last counted edit of its name has its result then.
     pub(crate) fn settle_outstanding<R: Wait>(
         &mut self,
         rt: &R,
@@ -137,7 +137,8 @@ impl Work {
         ensures steps { Steps AtEnd self.old self.new pass.old pass.new }
         ensures resulted { OnOk result (HasOwnResults (seen_of pass.old) self.old
             → (job : Task) → jobs_of self.old ≡ job ∷ []
-            → last_in (seen_of pass.old) job.name ≡ Some (job.ver, job.text) → HasResult (seen_of pass.new) job) }
+            → last_in (seen_of pass.old) job.name ≡ Some (job.ver, job.text)
+            → HasResult (seen_of pass.new) job) }
         ensures cause { IfErr result (IsCause pass.new) }
     {
         if !self.is_waiting() {

@@ -7,7 +7,8 @@ use Rattle.server_core.specs.declared.event.Reply.{Reply}
 use Rattle.server_core.specs.Said.{said}
 
 -- the event is an entry under this number, and the reply is the core's after the entries before it
-pub record Answered (roots : List Name) (entries : List Recorded) (by : ℕ) (event : Event) (reply : Reply) : Type 0 where
+pub record Answered (roots : List Name) (entries : List Recorded) (by : ℕ) (event : Event)
+    (reply : Reply) : Type 0 where
   pub before : List Recorded
   pub after : List Recorded
   pub whole : entries ≡ before ++ (by, event) ∷ after

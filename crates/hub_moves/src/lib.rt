@@ -28,10 +28,13 @@ pub fn moves_follow_one_another()
 
 /// What was answered to an entry stays so in every longer transcript, and when the pass goes on.
 pub fn an_answer_stays()
-    ensures longer { (roots : List Name) (entries more : List Recorded) (by : ℕ) (event : Event) (reply : Reply)
+    ensures longer { (roots : List Name)
+        (entries more : List Recorded) (by : ℕ) (event : Event) (reply : Reply)
         → Answered roots entries by event reply → Answered roots (entries ++ more) by event reply }
-    ensures moved { (p q : Pass) (mine : List Recorded) (by : ℕ) (event : Event) (reply : Reply) → Moved p q mine
-        → Answered (roots_of p) (seen_of p) by event reply → Answered (roots_of q) (seen_of q) by event reply }
+    ensures moved { (p q : Pass)
+        (mine : List Recorded) (by : ℕ) (event : Event) (reply : Reply) → Moved p q mine
+        → Answered (roots_of p) (seen_of p) by event reply
+        → Answered (roots_of q) (seen_of q) by event reply }
 {}
 
 /// A transcript that has no place for an event of a message's size is nearly full, and stays so.

@@ -1,5 +1,5 @@
-// What the tests ask of a hub, each in a function of its own: a test then has few values at hand at a time, and
-// is proved in a short time.
+// What the tests ask of a hub, each in a function of its own: a test then has few values at hand at a time,
+// and is proved in a short time.
 ghost use Rattle.std.specs.Prelude.{◌≡◌};
 ghost use Rattle.hmr_hub.specs.Passes.{IsPassOf, number_of};
 

@@ -9,8 +9,8 @@ use server_core::{Event, Reply};
 use std::alloc::Global;
 use std::sync::Wait;
 
-/// What is answered to so many edits of the module at this path, each with this text. It goes on to the first
-/// that isn't answered.
+/// What is answered to so many edits of the module at this path, each with this text. It goes on to the
+/// first that isn't answered.
 pub fn fill<R: Wait>(
     rt: &R,
     alloc: Global,

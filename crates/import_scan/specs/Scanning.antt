@@ -1,12 +1,14 @@
 -- What the specifiers of a module mean, one item after another.
-use Rattle.std.specs.Prelude.{ℕ, ◌+◌, not, nat_lt, ◌&&◌, ◌||◌, if◌then◌else◌, List, [], ◌∷◌, ◌++◌, length, flat_map, take, Option, Some, None, Result, Ok, Err}
+use Rattle.std.specs.Prelude.{ℕ, ◌+◌, not, nat_lt, ◌&&◌, ◌||◌, if◌then◌else◌, List, [], ◌∷◌, ◌++◌}
+use Rattle.std.specs.Prelude.{length, flat_map, take, Option, Some, None, Result, Ok, Err}
 use Rattle.module_tree.specs.Syntax as tree
 use Rattle.module_tree.specs.Syntax.{ItemTree, ModuleTree}
 use Rattle.hmr_types.specs.Specifier.{resolve}
 use Rattle.hmr_types.specs.Results.{◌>>=◌}
 use Rattle.hmr_types.specs.declared.specifier.SpecFault.{SpecFault}
 use Rattle.hmr_types.specs.declared.limits.TheConstants.{IMPORTS}
-use Rattle.module_semantics.specs.Analysis.{accepted_by, first_refusal, firsts, imported_by, meant, specifiers_of}
+use Rattle.module_semantics.specs.Analysis.{accepted_by, first_refusal, firsts, imported_by}
+use Rattle.module_semantics.specs.Analysis.{meant, specifiers_of}
 use Rattle.module_semantics.specs.Entries.{has_name}
 use Rattle.import_scan.specs.declared.specifiers.Meant as code
 

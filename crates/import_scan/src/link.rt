@@ -80,7 +80,8 @@ fn add_links(
     spec: &Text,
     names: &[ImportName],
 ) -> Result<(), AllocError>
-    ensures { IfOk result (λ _. links.new.items ≡ links.old.items ++ linked (resolve base.now spec.now) names.now) }
+    ensures { IfOk result
+        (λ _. links.new.items ≡ links.old.items ++ linked (resolve base.now spec.now) names.now) }
 {
     match resolve(alloc, base, spec.as_str().as_bytes()) {
         Ok(dependency) => add_names(links, &dependency, names),

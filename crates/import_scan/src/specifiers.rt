@@ -2,7 +2,8 @@
 ghost use Rattle.std.specs.Prelude.{◌≡◌, IfOk, map};
 ghost use Rattle.hmr_types.specs.Specifier.{Gives};
 ghost use Rattle.module_tree.specs.Tree.{item_of};
-ghost use Rattle.import_scan.specs.Scanning.{add_import, meant_in, meant_of, with_accepts, with_import, with_item, with_items};
+ghost use Rattle.import_scan.specs.Scanning.{add_import, meant_in, meant_of, with_accepts};
+ghost use Rattle.import_scan.specs.Scanning.{with_import, with_item, with_items};
 
 use hmr_types::limits::IMPORTS;
 use hmr_types::{ModName, SpecFault, Text, resolve};
@@ -33,7 +34,9 @@ pub(crate) fn meant_in(alloc: Global, base: &ModName, items: &[Item]) -> Result<
 
 impl Meant {
     fn read_items(&mut self, alloc: Global, base: &ModName, items: &[Item]) -> Result<(), SpecFault>
-        ensures { Gives (λ _. meant_of self.new) result (with_items base.now (meant_of self.old) (map item_of items.now)) }
+        ensures { Gives
+            (λ _. meant_of self.new)
+            result (with_items base.now (meant_of self.old) (map item_of items.now)) }
     {
         for item in items {
             self.read_item(alloc, base, item)?;
@@ -42,7 +45,8 @@ impl Meant {
     }
 
     fn read_item(&mut self, alloc: Global, base: &ModName, item: &Item) -> Result<(), SpecFault>
-        ensures { Gives (λ _. meant_of self.new) result (with_item base.now (meant_of self.old) (item_of item.now)) }
+        ensures { Gives
+            (λ _. meant_of self.new) result (with_item base.now (meant_of self.old) (item_of item.now)) }
     {
         match item {
             Item::Import { spec, names: _ } => self.read_import(alloc, base, spec),
@@ -69,7 +73,8 @@ impl Meant {
         base: &ModName,
         specs: &[Text],
     ) -> Result<(), SpecFault>
-        ensures { Gives (λ _. meant_of self.new) result (with_accepts base.now (meant_of self.old) specs.now) }
+        ensures { Gives
+            (λ _. meant_of self.new) result (with_accepts base.now (meant_of self.old) specs.now) }
     {
         for spec in specs {
             let name = resolve(alloc, base, spec.as_str().as_bytes())?;

@@ -42,7 +42,8 @@ impl Model for Transformed {
 /// the look-up of imported names, of which there are at most 256.
 pub fn transform(alloc: Global, base: ModName, text: Vec<u8>) -> Result<Transformed, AllocError>
     requires short { length text.items + 1 < 2 ^ 32 }
-    ensures { IfOk result (λ t. t ≡ record { name = base; text = text.items; outcome = transformed parsing base text.items }) }
+    ensures { IfOk result
+        (λ t. t ≡ record { name = base; text = text.items; outcome = transformed parsing base text.items }) }
 {
     let outcome = outcome_of(alloc, &base, &text)?;
     Ok(Transformed {

@@ -16,7 +16,8 @@ use Rattle.hmr_world.specs.declared.stop.WorldStop.TheVariants as worlds
 use Rattle.play_script.specs.declared.fault.ScriptFault.{ScriptFault}
 use Rattle.play_script.specs.Script.{no_memory}
 use Rattle.input_commands.specs.declared.stop.Stop.{Stop}
-use Rattle.input_commands.specs.declared.stop.Stop.TheVariants.{NotACommand, TooLong, TextTooLong, Faulty, Unread, Unwritten, InstancesFull, NoMemory}
+use Rattle.input_commands.specs.declared.stop.Stop.TheVariants.{NotACommand, TooLong, TextTooLong, Faulty}
+use Rattle.input_commands.specs.declared.stop.Stop.TheVariants.{Unread, Unwritten, InstancesFull, NoMemory}
 use Rattle.input_commands.specs.Outputs.{Output, fault_line, whole, input_limit, instances_limit}
 
 -- the stop for words that weren't read

@@ -1,14 +1,17 @@
 -- What a script makes of a page: its commands one after another, each on the world that those before it
 -- left, and the lines that are shown of them. Where a client would make too many instances the run is over,
 -- and nothing more happens.
-use Rattle.std.specs.Prelude.{ℕ, Bool, true, false, not, List, [], ◌∷◌, ◌++◌, filter, fold, map, Option, Some, None}
+use Rattle.std.specs.Prelude.{[], ◌∷◌, ◌++◌}
+use Rattle.std.specs.Prelude.{ℕ, Bool, true, false, not, List, filter, fold, map, Option, Some, None}
 use Rattle.output_lines.specs.declared.out_line.OutLine.{OutLine}
 use Rattle.core_model.specs.Names.{Name}
 use Rattle.core_model.specs.Sources.{Text}
 use Rattle.module_language.specs.ModuleLanguage.{module_language}
-use Rattle.world_model.specs.World.{World, Step, edits, settles, opens, closes, show, values, fates, fresh, fresh_of, new_world}
+use Rattle.world_model.specs.World.{World, Step, edits, settles, opens, closes, show}
+use Rattle.world_model.specs.World.{values, fates, fresh, fresh_of, new_world}
 use Rattle.world_model.specs.World as steps
-use Rattle.world_model.specs.Playing.{Command, step, settle_all, turns, Stage, Played, play_step, play_command, went_well}
+use Rattle.world_model.specs.Playing.{Command, step, settle_all, turns, Stage, Played}
+use Rattle.world_model.specs.Playing.{play_step, play_command, went_well}
 use Rattle.play_script.specs.declared.script_line.ScriptLine.{ScriptLine}
 use Rattle.play_script.specs.declared.script_line.ScriptLine.TheVariants as says
 use Rattle.play_script.specs.Script.{Contents}

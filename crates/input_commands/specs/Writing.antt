@@ -1,5 +1,6 @@
 -- How far the lines of a play are taken, and why their taking stops.
-use Rattle.std.specs.Prelude.{◌≡◌, ◌≤◌, ℕ, ⊤, List, ◌++◌, true, false, Option, Some, None, Result, OnOk, IsErrOf}
+use Rattle.std.specs.Prelude.{◌≡◌, ◌≤◌, ⊤, ◌++◌}
+use Rattle.std.specs.Prelude.{ℕ, List, true, false, Option, Some, None, Result, OnOk, IsErrOf}
 use Prim.{⊥}
 use Rattle.std.specs.Io.KnownBytes.{Appends}
 use Rattle.hmr_base.specs.Causes.{Rose}
@@ -8,7 +9,8 @@ use Rattle.output_lines.specs.declared.out_line.OutLine.{OutLine}
 use Rattle.world_model.specs.Playing.{Stage, Played}
 use Rattle.hmr_world.specs.declared.world.World.{World}
 use Rattle.input_commands.specs.declared.stop.Stop.{Stop}
-use Rattle.input_commands.specs.declared.stop.Stop.TheVariants.{NotACommand, TooLong, TextTooLong, Faulty, Unread, Unwritten, InstancesFull, NoMemory}
+use Rattle.input_commands.specs.declared.stop.Stop.TheVariants.{NotACommand, TooLong, TextTooLong, Faulty}
+use Rattle.input_commands.specs.declared.stop.Stop.TheVariants.{Unread, Unwritten, InstancesFull, NoMemory}
 use Rattle.input_commands.specs.Outputs.{lines_text}
 use Rattle.input_commands.specs.Standing.{IsAt}
 

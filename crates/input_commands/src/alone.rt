@@ -1,5 +1,6 @@
 // The commands that work on their input alone, from the words that were read to a status and an output.
-ghost use Rattle.std.specs.Prelude.{◌≡◌, ◌⊎◌, ◌≤◌, Err, None, IfErr, IfOk, IfSome, IsErrOf, OnOk, false, map, string_bytes, true};
+ghost use Rattle.std.specs.Prelude.{◌≡◌, ◌⊎◌, ◌≤◌, Err, None, IfErr, IfOk, IfSome, IsErrOf};
+ghost use Rattle.std.specs.Prelude.{OnOk, false, map, string_bytes, true};
 ghost use Rattle.std.specs.Io.KnownBytes.{Appends, IsAtEnd, Keeps};
 ghost use Rattle.handler_table.specs.Shelf.{marks_of};
 ghost use Rattle.hmr_base.specs.Causes.{Rose};
@@ -32,9 +33,9 @@ use text_check::limit_line;
 ///
 /// 0: the whole output is written, and an input that is read was read to its end. 2: the words are no
 /// command. 3: the input of `play` is no script. 4: the input failed, and nothing is written. 5: the output
-/// failed. 8: the input, a text or a client's instances passed their limit. 9: memory ran out. At 3, 5, 8 and
-/// 9 a front of the output is written. The closures of the shelves go to the clients of a script, or are let
-/// go.
+/// failed. 8: the input, a text or a client's instances passed their limit. 9: memory ran out. At 3, 5, 8
+/// and 9 a front of the output is written. The closures of the shelves go to the clients of a script, or are
+/// let go.
 pub fn run_alone<F: FnOnce(Bag) -> Result<Ran, AllocError> + Drop, S: Source, K: Sink>(
     alloc: Global,
     words: &[String],

@@ -20,7 +20,8 @@ use text_check::check_text;
 /// write for an input is the definition `output_of_check`.
 ///
 /// `TextTooLong` comes where the input has more than 131,072 bytes, `Unread` and `Unwritten` only where the
-/// count of faults of the input or the output rose, and `NoMemory` where memory ran out. No other stop comes.
+/// count of faults of the input or the output rose, and `NoMemory` where memory ran out. No other stop
+/// comes.
 pub fn check<S: Source, K: Sink>(
     alloc: Global,
     name: &ModName,

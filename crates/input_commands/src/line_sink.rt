@@ -2,7 +2,8 @@
 ghost use Rattle.std.specs.Prelude.{◌≡◌, ◌++◌, ◌∷◌, [], ℕ, IfErr, OnOk};
 ghost use Rattle.output_lines.specs.declared.out_line.OutLine.{OutLine};
 ghost use Rattle.input_commands.specs.Playing.{shown};
-ghost use Rattle.input_commands.specs.Writing.{HasCause, IsWriteStop, Taken, Takes, TakesFront, kept_as, written_as};
+ghost use Rattle.input_commands.specs.Writing.{HasCause, IsWriteStop, Taken, Takes};
+ghost use Rattle.input_commands.specs.Writing.{TakesFront, kept_as, written_as};
 
 use crate::showing::{show_lines, went_well};
 use crate::stop::Stop;

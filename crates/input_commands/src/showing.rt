@@ -25,7 +25,8 @@ pub fn show_lines<K: Sink>(
 ) -> Result<(), Stop>
     ensures done { OnOk result
         (Appends (K.written out.old) (K.written out.new) (lines_text (shown quiet lines.now))) }
-    ensures front { WritesFront (K.written out.old) (K.written out.new) (lines_text (shown quiet lines.now)) }
+    ensures front { WritesFront (K.written out.old) (K.written out.new)
+        (lines_text (shown quiet lines.now)) }
     ensures stops { IfErr result IsWriteStop }
     ensures faults { HasCause (K.faults out.old) (K.faults out.new) result }
 {

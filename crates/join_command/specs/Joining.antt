@@ -17,7 +17,8 @@ use Rattle.client_sessions.specs.Asking.{lines_of}
 use Rattle.client_sessions.specs.Course.{ClientCourse}
 use Rattle.client_sessions.specs.Exchange.{ReadsIn}
 use Rattle.join_command.specs.declared.stop.JoinStop.{JoinStop}
-use Rattle.join_command.specs.declared.stop.JoinStop.TheVariants.{Unwritten, NetFailed, InstancesFull, BadAnswer, NoMemory}
+use Rattle.join_command.specs.declared.stop.JoinStop.TheVariants.{Unwritten, NetFailed, InstancesFull}
+use Rattle.join_command.specs.declared.stop.JoinStop.TheVariants.{BadAnswer, NoMemory}
 
 -- what is told of a list of messages, or of bytes
 abbrev pub Words : Type 0
@@ -76,7 +77,8 @@ pub record IsCutShort (opening : Opening) (turns format : ℕ) (left left' : Wor
   pub result_is : result ≡ Err stop
 
 -- the one or the other
-abbrev pub Joins : Opening → ℕ → ℕ → Words → Words → Words → Words → Bytes → Bytes → Result ⊤ JoinStop → Type 0
+abbrev pub Joins : Opening → ℕ → ℕ → Words → Words → Words → Words → Bytes → Bytes → Result ⊤ JoinStop
+    → Type 0
 Joins opening turns format left left' sent sent' old new result =
     RunsOut opening turns format left left' sent sent' old new result
     ⊎ IsCutShort opening turns format left left' old new result

@@ -14,7 +14,8 @@ use Rattle.output_lines.specs.declared.words.InstanceFate.TheVariants.{Live, Rep
 use Rattle.core_model.specs.Names.{Name}
 use Rattle.client_model.specs.Language.{Bag, Ran}
 use Rattle.client_model.specs.Instance.{Instance, Handler, is_dispose, is_prune, is_dep, ended_as}
-use Rattle.client_model.specs.Journal.{Happening, Journal, made, evaluated, not_run, registered, no_host, ran}
+use Rattle.client_model.specs.Journal.{Happening, Journal, made, evaluated}
+use Rattle.client_model.specs.Journal.{not_run, registered, no_host, ran}
 use Rattle.client_model.specs.Journal.{dropped, ended, gave_up, gave_up_all, told}
 use Rattle.client_model.specs.Runtime.{Runtime}
 

@@ -8,7 +8,8 @@ use Rattle.output_lines.specs.declared.words.InstanceFate.TheVariants.{Live, Rep
 use Rattle.core_model.specs.Names.{Name, same_name}
 use Rattle.client_model.specs.Language.{Bag, Evaluated, Ran}
 use Rattle.client_model.specs.Instance.{live_at}
-use Rattle.client_model.specs.Journal.{Happening, Journal, made, evaluated, not_run, registered, no_host, ran}
+use Rattle.client_model.specs.Journal.{Happening, Journal, made, evaluated}
+use Rattle.client_model.specs.Journal.{not_run, registered, no_host, ran}
 use Rattle.client_model.specs.Journal.{dropped, ended, gave_up, gave_up_all, told, bag_left}
 use Rattle.client_model.specs.Runtime.{Runtime, bag_of}
 use Rattle.journal_laws.specs.Counts.{is_dispose_place}

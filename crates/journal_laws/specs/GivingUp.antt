@@ -6,7 +6,8 @@ use Rattle.hmr_types.specs.declared.words.PlanKind.TheVariants.{Reload}
 use Rattle.output_lines.specs.declared.words.InstanceFate.TheVariants.{Pruned}
 use Rattle.output_lines.specs.declared.out_line.OutLine.TheVariants as line
 use Rattle.core_model.specs.Names.{Name}
-use Rattle.client_model.specs.Journal.{Happening, Journal, made, evaluated, not_run, registered, no_host, ran}
+use Rattle.client_model.specs.Journal.{Happening, Journal, made, evaluated}
+use Rattle.client_model.specs.Journal.{not_run, registered, no_host, ran}
 use Rattle.client_model.specs.Journal.{dropped, ended, gave_up, gave_up_all, told}
 use Rattle.client_model.specs.Runtime.{Runtime}
 

@@ -35,4 +35,5 @@ pub record IsSpared (run : Run) (s : Step) (j : ℕ) (c : Client) (r : Runtime) 
 -- a step of another client changes nothing of any that is open
 abbrev pub OthersAreSpared : Run → Step → Type 0
 OthersAreSpared run s =
-    (j : ℕ) (c : Client) (r : Runtime) → HasClient run j c r → is_of_another j s ≡ true → IsSpared run s j c r
+    (j : ℕ) (c : Client) (r : Runtime) → HasClient run j c r → is_of_another j s ≡ true
+    → IsSpared run s j c r

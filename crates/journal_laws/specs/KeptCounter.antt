@@ -6,7 +6,8 @@ use Rattle.output_lines.specs.declared.words.InstanceFate.{InstanceFate}
 use Rattle.core_model.specs.Names.{Name}
 use Rattle.core_model.specs.Sources.{Text}
 use Rattle.client_model.specs.Language.{Bag}
-use Rattle.client_model.specs.Journal.{Happening, made, evaluated, not_run, registered, no_host, ran, dropped}
+use Rattle.client_model.specs.Journal.{Happening, made, evaluated, not_run}
+use Rattle.client_model.specs.Journal.{registered, no_host, ran, dropped}
 use Rattle.client_model.specs.Journal.{ended, gave_up, gave_up_all, told}
 use Rattle.world_model.specs.World.{Step, edits, settles, opens}
 use Rattle.world_model.specs.Playing.{Stage}
@@ -55,10 +56,12 @@ abbrev pub without_counter : Text
 without_counter = codes "import.meta.hot.accept();"
 
 abbrev pub by_one : Text
-by_one = codes "export const count = (import.meta.hot.data.count ?? 0) + 1;\nimport.meta.hot.dispose((data) => { data.count = count });"
+by_one =
+    codes "export const count = (import.meta.hot.data.count ?? 0) + 1;\nimport.meta.hot.dispose((data) => { data.count = count });"
 
 abbrev pub by_ten : Text
-by_ten = codes "export const count = (import.meta.hot.data.count ?? 0) + 10;\nimport.meta.hot.dispose((data) => { data.count = count });"
+by_ten =
+    codes "export const count = (import.meta.hot.data.count ?? 0) + 10;\nimport.meta.hot.dispose((data) => { data.count = count });"
 
 -- a counter that goes on from the count that was kept
 abbrev pub counting : ℕ → Module

@@ -6,8 +6,8 @@ use Rattle.world_model.specs.World.{Step, edits, settles, opens, turn, closes, s
 use Rattle.world_model.specs.World.{fresh_of, fires}
 use Rattle.world_laws.specs.Runs.{Run, sources_of, life_in, HasClient, next_reply}
 
--- any step but a turn, a look or an event of another client than d; another's opening and closing stay, since
--- the places of clients are shared
+-- any step but a turn, a look or an event of another client than d; another's opening and closing stay,
+-- since the places of clients are shared
 abbrev pub concerns : ℕ → Step → Bool
 concerns d (edits n t) = true
 concerns d (settles n v) = true

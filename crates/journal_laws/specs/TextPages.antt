@@ -18,7 +18,8 @@ use Rattle.journal_laws.specs.KeptCounter.{start_of}
 
 -- ten times the number that is kept
 abbrev pub tenfold : Text
-tenfold = codes "export let n = 10*import.meta.hot.data.n\nimport.meta.hot.dispose(d => { d.n = n })\nimport.meta.hot.accept()\n"
+tenfold =
+    codes "export let n = 10*import.meta.hot.data.n\nimport.meta.hot.dispose(d => { d.n = n })\nimport.meta.hot.accept()\n"
 
 abbrev pub text_page : Stage
 text_page = record { language = module_language; roots = m ∷ []; shelves = [] }

@@ -1,5 +1,6 @@
 -- What the variables of instances hold, read off what happened.
-use Rattle.std.specs.Prelude.{◌≡◌, ℕ, ◌==◌, Bool, true, false, List, [], ◌∷◌, ◌++◌, length, map, filter, fold}
+use Rattle.std.specs.Prelude.{◌≡◌, ◌==◌, [], ◌∷◌, ◌++◌}
+use Rattle.std.specs.Prelude.{ℕ, Bool, true, false, List, length, map, filter, fold}
 use Rattle.std.specs.Prelude.{slice_get, Contains, Option, Some, None, is_some, if◌then◌else◌}
 use Rattle.std.specs.List.{list_any}
 use Rattle.hmr_types.specs.declared.value.Slot.{Slot}
@@ -10,7 +11,8 @@ use Rattle.output_lines.specs.declared.words.InstanceStatus.TheVariants.{Done, F
 use Rattle.core_model.specs.Names.{Name, at}
 use Rattle.client_model.specs.Language.{Language, Slots, Bag, Evaluated, Ran, slot_at}
 use Rattle.client_model.specs.Instance.{Instance, Handler}
-use Rattle.client_model.specs.Journal.{Happening, Journal, made, evaluated, not_run, registered, no_host, ran}
+use Rattle.client_model.specs.Journal.{Happening, Journal, made, evaluated}
+use Rattle.client_model.specs.Journal.{not_run, registered, no_host, ran}
 use Rattle.client_model.specs.Journal.{dropped, ended, gave_up, gave_up_all, told, bag_left}
 use Rattle.client_model.specs.Runtime.{Runtime}
 use Rattle.client_model.specs.Running.{assigned, run_deed, TakesNothing}

@@ -1,6 +1,7 @@
 // Where the messages of an end in memory come from and where they go: two pipes that another end holds
 // too, or a list that was there from the start and a list of what was sent, which are told to contracts.
-ghost use Rattle.std.specs.Prelude.{◌≡◌, ◌≤◌, ◌∷◌, [], ◌++◌, Some, None, IfOk, IfSome, OnOk, OnErr, is_err, map, length};
+ghost use Rattle.std.specs.Prelude.{◌≡◌, ◌≤◌, ◌∷◌, [], ◌++◌};
+ghost use Rattle.std.specs.Prelude.{Some, None, IfOk, IfSome, OnOk, OnErr, is_err, map, length};
 ghost use Rattle.links.specs.Feeds.{coming_of, left_of, sent_by, sent_of};
 ghost use Rattle.links.specs.Messages.{is_first_long, is_long, message_bytes};
 ghost use Rattle.links.specs.Told.{IsNoneLeft, told_and, told_front};
@@ -34,8 +35,10 @@ pub(crate) struct TooLong;
 impl Lists {
     fn take(&mut self) -> Result<Option<Vec<u8>>, TooLong>
         ensures bound { IfOk result (λ got. IfSome got (λ v. length v.items ≤ message_bytes)) }
-        ensures some { IfOk result (λ got. IfSome got (λ v. coming_of self.old ≡ v.items ∷ coming_of self.new)) }
-        ensures none { IfOk result (λ got. got ≡ None → (coming_of self.old ≡ []) × (coming_of self.new ≡ [])) }
+        ensures some { IfOk result
+            (λ got. IfSome got (λ v. coming_of self.old ≡ v.items ∷ coming_of self.new)) }
+        ensures none { IfOk result
+            (λ got. got ≡ None → (coming_of self.old ≡ []) × (coming_of self.new ≡ [])) }
         ensures untaken { OnErr result (coming_of self.new ≡ coming_of self.old) }
         ensures test { is_err result ≡ is_first_long (Some (coming_of self.old)) }
         ensures sent { sent_by self.new ≡ sent_by self.old }
@@ -73,8 +76,10 @@ impl Feed {
 
     pub(crate) fn take<R: Wait>(&mut self, rt: &R) -> Result<Option<Vec<u8>>, TooLong>
         ensures bound { IfOk result (λ got. IfSome got (λ v. length v.items ≤ message_bytes)) }
-        ensures some { IfOk result (λ got. IfSome got (λ v. left_of self.old ≡ told_front (v.items ∷ []) (left_of self.new))) }
-        ensures none { IfOk result (λ got. got ≡ None → IsNoneLeft (left_of self.old) × (left_of self.new ≡ left_of self.old)) }
+        ensures some { IfOk result
+            (λ got. IfSome got (λ v. left_of self.old ≡ told_front (v.items ∷ []) (left_of self.new))) }
+        ensures none { IfOk result
+            (λ got. got ≡ None → IsNoneLeft (left_of self.old) × (left_of self.new ≡ left_of self.old)) }
         ensures untaken { OnErr result (left_of self.new ≡ left_of self.old) }
         ensures test { is_err result ≡ is_first_long (left_of self.old) }
         ensures sent { sent_of self.new ≡ sent_of self.old }
@@ -97,7 +102,8 @@ impl Feed {
 
     /// The messages that were sent, where they are told; else none.
     pub(crate) fn sent(&self) -> &[Vec<u8>]
-        ensures { IfSome (sent_of self.now) (λ messages. map (λ message. message.items) result.now ≡ messages) }
+        ensures { IfSome (sent_of self.now)
+            (λ messages. map (λ message. message.items) result.now ≡ messages) }
     {
         match self {
             Feed::Pipes(_, _) => &[],

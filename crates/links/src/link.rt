@@ -1,6 +1,7 @@
 // One end of a connection. Contracts see in which phase it is, how often it failed and, where it tells
 // them, the messages that are left to receive and those that were sent.
-ghost use Rattle.std.specs.Prelude.{◌≡◌, ◌≤◌, ◌∷◌, [], List, ℕ, Option, false, None, vec_len, length, IfOk, IfSome, OnOk, OnErr};
+ghost use Rattle.std.specs.Prelude.{◌≡◌, ◌≤◌, ◌∷◌, [], List, ℕ, Option, false, None};
+ghost use Rattle.std.specs.Prelude.{vec_len, length, IfOk, IfSome, OnOk, OnErr};
 ghost use Rattle.outside_calls.specs.Causes.{HasOutCause, is_failed};
 ghost use Rattle.hmr_base.specs.Plans.{AsPlanned, Plan};
 ghost use Rattle.links.specs.declared.link.Phase.{Phase};
@@ -56,7 +57,8 @@ pub trait Link {
         ensures sent { OnOk result (sent self.new ≡ told_and (sent self.old) (message.now ∷ [])) }
         ensures unsent { OnErr result (sent self.new ≡ sent self.old) }
         ensures cause { HasOutCause (faults self.old) (faults self.new) result }
-        ensures planned { AsPlanned (plan self.old) (plan self.new) (is_failed result) (is_long message.now) };
+        ensures planned { AsPlanned (plan self.old) (plan self.new) (is_failed result)
+            (is_long message.now) };
 
     /// The next message, or None where the other end has closed and nothing is left. It may wait.
     ///
@@ -66,12 +68,15 @@ pub trait Link {
         requires is_open { phase self.old ≡ Phase.Open }
         ensures stays { phase self.new ≡ Phase.Open }
         ensures bound { IfOk result (λ got. IfSome got (λ v. length v.items ≤ message_bytes)) }
-        ensures some { IfOk result (λ got. IfSome got (λ v. left self.old ≡ told_front (v.items ∷ []) (left self.new))) }
-        ensures none { IfOk result (λ got. got ≡ None → IsNoneLeft (left self.old) × (left self.new ≡ left self.old)) }
+        ensures some { IfOk result
+            (λ got. IfSome got (λ v. left self.old ≡ told_front (v.items ∷ []) (left self.new))) }
+        ensures none { IfOk result
+            (λ got. got ≡ None → IsNoneLeft (left self.old) × (left self.new ≡ left self.old)) }
         ensures untaken { OnErr result (left self.new ≡ left self.old) }
         ensures sent { sent self.new ≡ sent self.old }
         ensures cause { HasOutCause (faults self.old) (faults self.new) result }
-        ensures planned { AsPlanned (plan self.old) (plan self.new) (is_failed result) (is_first_long (left self.old)) };
+        ensures planned { AsPlanned (plan self.old) (plan self.new) (is_failed result)
+            (is_first_long (left self.old)) };
 
     /// Closes the end. The other end still receives what was sent before, and after that None or a
     /// failure. It takes no memory.

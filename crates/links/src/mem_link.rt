@@ -49,7 +49,8 @@ impl<R: Drop> MemLink<R> {
 
     /// The messages that were sent, where the link tells them; an end of a pair of pipes tells none.
     pub fn sent(&self) -> &[Vec<u8>]
-        ensures { IfSome (sent_of self.now.feed) (λ messages. map (λ message. message.items) result.now ≡ messages) }
+        ensures { IfSome (sent_of self.now.feed)
+            (λ messages. map (λ message. message.items) result.now ≡ messages) }
     {
         self.feed.sent()
     }

@@ -1,6 +1,7 @@
 // What gives the ends of connections. Contracts see what it was first asked, the port that it listens
 // at, how often it failed and, where it tells them, the messages of the end that comes next.
-ghost use Rattle.std.specs.Prelude.{◌≡◌, ◌≢◌, ◌≤◌, ℕ, List, Option, Some, None, false, IfOk, OnOk, OnErr, IsSome};
+ghost use Rattle.std.specs.Prelude.{◌≡◌, ◌≢◌, ◌≤◌};
+ghost use Rattle.std.specs.Prelude.{ℕ, List, Option, Some, None, false, IfOk, OnOk, OnErr, IsSome};
 ghost use Rattle.hmr_base.specs.Causes.{Rose};
 ghost use Rattle.outside_calls.specs.Causes.{HasOutCause, is_failed};
 ghost use Rattle.hmr_base.specs.Plans.{AsPlanned, Plan};

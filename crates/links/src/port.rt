@@ -46,7 +46,8 @@ impl Port {
         ensures heard { IfOk result (λ heard. self.new.heard ≡ Some heard) }
         ensures ends { self.new.ends ≡ self.old.ends }
         ensures cause { HasOutCause (faults_of self.old.plan) (faults_of self.new.plan) result }
-        ensures planned { AsPlanned (Some (plan_of self.old.plan)) (Some (plan_of self.new.plan)) (is_failed result) false }
+        ensures planned { AsPlanned (Some (plan_of self.old.plan)) (Some (plan_of self.new.plan))
+            (is_failed result) false }
     {
         self.asked = Some(Asked::Listen(port));
         self.plan.begin()?;
@@ -60,7 +61,8 @@ impl Port {
         ensures heard { self.new.heard ≡ self.old.heard }
         ensures ends { self.new.ends ≡ self.old.ends }
         ensures cause { HasOutCause (faults_of self.old.plan) (faults_of self.new.plan) result }
-        ensures planned { AsPlanned (Some (plan_of self.old.plan)) (Some (plan_of self.new.plan)) (is_failed result) false }
+        ensures planned { AsPlanned (Some (plan_of self.old.plan)) (Some (plan_of self.new.plan))
+            (is_failed result) false }
         ensures only { IfErr result (λ fault. fault ≡ OutFault.Failed) }
     {
         Ok(self.plan.begin()?)
@@ -71,7 +73,8 @@ impl Port {
         ensures heard { self.new.heard ≡ self.old.heard }
         ensures ends { self.new.ends ≡ self.old.ends }
         ensures cause { HasOutCause (faults_of self.old.plan) (faults_of self.new.plan) result }
-        ensures planned { AsPlanned (Some (plan_of self.old.plan)) (Some (plan_of self.new.plan)) (is_failed result) false }
+        ensures planned { AsPlanned (Some (plan_of self.old.plan)) (Some (plan_of self.new.plan))
+            (is_failed result) false }
     {
         if self.asked.is_none() {
             self.asked = Some(Asked::Connect(port));

@@ -1,5 +1,7 @@
--- The messages of a client as they are read: by the fields in the order of their table, and then by further keys.
-use Rattle.std.specs.Prelude.{◌≡◌, ℕ, List, [], ◌∷◌, codes, true, Option, Some, None, Result, Ok, Err, if◌then◌else◌, ⊤}
+-- The messages of a client as they are read: by the fields in the order of their table, and then by further
+-- keys.
+use Rattle.std.specs.Prelude.{◌≡◌, [], ◌∷◌, ⊤}
+use Rattle.std.specs.Prelude.{ℕ, List, codes, true, Option, Some, None, Result, Ok, Err, if◌then◌else◌}
 use Rattle.std.specs.List.{list_all}
 use Rattle.std.specs.Str.{bytes_eq}
 use Rattle.serde_json.specs.Data.{Data}
@@ -9,7 +11,8 @@ use Rattle.hmr_types.specs.Table.{is_table}
 use Rattle.message_text.specs.Words.{abort_word}
 use Rattle.update_msgs.specs.declared.message.ClientMsg.{ClientMsg}
 use Rattle.update_msgs.specs.declared.message.ClientMsg.TheVariants as msg
-use Rattle.message_json.specs.Reading.{Fault, no_type, ◌>>=◌, field, field_or, only, kind_of, HasName, name_in, number_in, most, wanted_in, some_names_in, table_in}
+use Rattle.message_json.specs.Reading.{Fault, no_type, ◌>>=◌, field, field_or, only, kind_of, HasName}
+use Rattle.message_json.specs.Reading.{name_in, number_in, most, wanted_in, some_names_in, table_in}
 use Rattle.message_json.specs.Words.{abort_causes, is_link, word_in}
 
 abbrev pub hello_of : Data → Result ClientMsg Fault

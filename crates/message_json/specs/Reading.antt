@@ -1,6 +1,8 @@
 -- How the members of a message are read from the JSON value that bytes stand for, and in which order faults
 -- come: the fields in the order of the message's table, and then further keys.
-use Rattle.std.specs.Prelude.{is_some, ◌≡◌, ℕ, List, [], ◌∷◌, codes, Bool, true, false, ◌&&◌, nat_le, if◌then◌else◌, Option, Some, None, option_and_then, option_map, Result, Ok, Err, ⊤}
+use Rattle.std.specs.Prelude.{is_some, ◌≡◌, ℕ, List, [], ◌∷◌, codes, Bool, true, false}
+use Rattle.std.specs.Prelude.{◌&&◌, nat_le, if◌then◌else◌, Option, Some, None, option_and_then}
+use Rattle.std.specs.Prelude.{option_map, Result, Ok, Err, ⊤}
 use Rattle.serde_json.specs.Data.{Data, Items, no_items, item}
 use Rattle.serde_json.specs.Find.{get, as_str, as_null, as_number, as_u64, as_array, as_object}
 use Rattle.json_readings.specs.Object.{one_of, further_member}
@@ -87,7 +89,8 @@ most = 9007199254740991
 
 -- from low to high
 unfoldable pub number_in : ℕ → ℕ → Data → Option ℕ
-number_in low high d = option_and_then (if_holds (λ n. nat_le low n && nat_le n high)) (option_and_then as_u64 (as_number d))
+number_in low high d =
+    option_and_then (if_holds (λ n. nat_le low n && nat_le n high)) (option_and_then as_u64 (as_number d))
 
 -- null, unless a value is wanted
 unfoldable pub wanted_in : {X : Type 0} → Bool → (Data → Option X) → Data → Option (Option X)
@@ -120,7 +123,8 @@ both x y = option_and_then (λ a. option_map (λ b. (a, b)) y) x
 
 -- a list of a name and a version
 unfoldable pub row_in : Data → Option (List ℕ × ℕ)
-row_in d = option_and_then (λ p. both (name_in p.0) (number_in 1 most p.1)) (option_and_then two_items (as_array d))
+row_in d =
+    option_and_then (λ p. both (name_in p.0) (number_in 1 most p.1)) (option_and_then two_items (as_array d))
 
 -- rows that are a table
 unfoldable pub table_in : Data → Option (List (List ℕ × ℕ))

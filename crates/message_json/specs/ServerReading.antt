@@ -1,6 +1,7 @@
--- The messages of a server as they are read in a format: by the fields in the order of their table, and then by
--- further keys.
-use Rattle.std.specs.Prelude.{◌≡◌, ℕ, List, [], ◌∷◌, codes, ◌==◌, ◌||◌, length, nat_le, Bool, true, ◌&&◌, if◌then◌else◌, Option, Some, None, option_and_then, Result, Ok, Err, ⊤}
+-- The messages of a server as they are read in a format: by the fields in the order of their table, and then
+-- by further keys.
+use Rattle.std.specs.Prelude.{◌≡◌, ℕ, List, [], ◌∷◌, codes, ◌==◌, ◌||◌, length, nat_le, Bool, true, ◌&&◌}
+use Rattle.std.specs.Prelude.{if◌then◌else◌, Option, Some, None, option_and_then, Result, Ok, Err, ⊤}
 use Rattle.std.specs.List.{list_all}
 use Rattle.std.specs.Str.{bytes_eq}
 use Rattle.serde_json.specs.Data.{Data}
@@ -14,7 +15,9 @@ use Rattle.update_msgs.specs.declared.message.ServerMsg.{ServerMsg}
 use Rattle.update_msgs.specs.declared.message.ServerMsg.TheVariants as msg
 use Rattle.update_msgs.specs.Writable.{most_text_bytes}
 use Rattle.message_json.specs.declared.batch.Batch.{Batch}
-use Rattle.message_json.specs.Reading.{Fault, no_type, ◌>>=◌, field, only, kind_of, HasName, if_holds, name_in, number_in, most, wanted_in, list_in, some_names_in, rising_in}
+use Rattle.message_json.specs.Reading.{Fault, no_type, ◌>>=◌, field, only, kind_of, HasName}
+use Rattle.message_json.specs.Reading.{if_holds, name_in, number_in, most, wanted_in}
+use Rattle.message_json.specs.Reading.{list_in, some_names_in, rising_in}
 use Rattle.message_json.specs.Words.{reload_causes, fault_kinds, word_in}
 
 abbrev pub ok_of : {X : Type 0} → Result X Fault → Option X
@@ -170,7 +173,8 @@ is_named u = is_name u.path && is_name u.accepted_path
 
 abbrev pub IsTyped : ServerMsg → Type 0
 IsTyped (msg.Connected client roots) = AreNames roots
-IsTyped (msg.Update replaced updates batch triggered) = AreNames replaced × (list_all is_named updates ≡ true) × AreNames triggered
+IsTyped (msg.Update replaced updates batch triggered) =
+    AreNames replaced × (list_all is_named updates ≡ true) × AreNames triggered
 IsTyped (msg.Prune paths) = AreNames paths
 IsTyped (msg.FullReload cause path batch triggered) = AreNames path × AreNames triggered
 IsTyped (msg.Error path line column kind) = is_name path ≡ true

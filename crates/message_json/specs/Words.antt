@@ -1,5 +1,6 @@
 -- The words of messages as they are read: causes, and the kinds of fault.
-use Rattle.std.specs.Prelude.{ℕ, List, [], ◌∷◌, Bool, true, false, if◌then◌else◌, Option, Some, None, option_and_then}
+use Rattle.std.specs.Prelude.{[], ◌∷◌}
+use Rattle.std.specs.Prelude.{ℕ, List, Bool, true, false, if◌then◌else◌, Option, Some, None, option_and_then}
 use Rattle.std.specs.Str.{bytes_eq}
 use Rattle.serde_json.specs.Data.{Data}
 use Rattle.serde_json.specs.Find.{as_str}
@@ -35,7 +36,8 @@ reload_causes = Root ∷ Declined ∷ []
 
 -- the kinds of fault of a text
 abbrev pub fault_kinds : List FaultWord
-fault_kinds = faults.BadByte ∷ faults.OpenString ∷ faults.OpenComment ∷ faults.BadEscape ∷ faults.NumberTooLarge ∷
+fault_kinds =
+    faults.BadByte ∷ faults.OpenString ∷ faults.OpenComment ∷ faults.BadEscape ∷ faults.NumberTooLarge ∷
     faults.TooManyTokens ∷ faults.Unexpected ∷ faults.TooDeep ∷ faults.DuplicateName ∷ faults.NotUtf8 ∷
     faults.NotAssignable ∷ faults.SpecifierBare ∷ faults.SpecifierClimbs ∷ faults.SpecifierEmpty ∷
     faults.SpecifierTooLong ∷ faults.SpecifierBadSegment ∷ faults.TooManyImports ∷ []

@@ -48,7 +48,8 @@ pub(crate) fn only_by(
     first: &[&str],
     second: &[&str],
 ) -> Result<(), MsgFault>
-    ensures { Gives result (only_by format (map (λ k. k.now) first.now) (map (λ k. k.now) second.now) (view value.now)) }
+    ensures { Gives result
+        (only_by format (map (λ k. k.now) first.now) (map (λ k. k.now) second.now) (view value.now)) }
 {
     if format == 2 {
         only(alloc, value, second)

@@ -10,7 +10,8 @@ ghost use Rattle.message_json.specs.Reading.{Gives, field};
 ghost use Rattle.message_text.specs.Words.{abort_word};
 ghost use Rattle.message_json.specs.Words.{abort_causes, word_in};
 ghost use Rattle.message_text.specs.ClientText.{say};
-ghost use Rattle.message_json.specs.ClientReading.{IsTyped, aborted_of, applied_of, ask_of, bye_of, client_of, fetch_of, hello_of, invalidate_of};
+ghost use Rattle.message_json.specs.ClientReading.{IsTyped, aborted_of, applied_of, ask_of, bye_of};
+ghost use Rattle.message_json.specs.ClientReading.{client_of, fetch_of, hello_of, invalidate_of};
 
 use crate::fault::MsgFault;
 use crate::field::{
@@ -36,7 +37,8 @@ pub fn decode_client(alloc: Global, bytes: &[u8]) -> Result<ClientMsg, MsgFault>
     ensures size { IfOk result (λ m. bytes_of m ≤ length bytes.now) }
     ensures not_json { IsErrOf result MsgFault.NotJson → (d : Data) → ¬ (HasReading bytes.now d) }
     ensures read { (d : Data) → HasReading bytes.now d → Gives result (client_of d) }
-    ensures written { (m : told.ClientMsg) → IsTyped m → IsSayable m → HasReading bytes.now (say m) → Gives result (Ok m) }
+    ensures written { (m : told.ClientMsg) → IsTyped m → IsSayable m → HasReading bytes.now (say m)
+        → Gives result (Ok m) }
 {
     match Value::from_slice(alloc, bytes) {
         Ok(value) => message_of(alloc, &value),

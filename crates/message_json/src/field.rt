@@ -6,7 +6,8 @@ ghost use Rattle.serde_json.specs.Find.{as_str};
 ghost use Rattle.serde_json.specs.View.{members_view, view};
 ghost use Rattle.json_readings.specs.Object.{further_member, one_of};
 ghost use Rattle.hmr_types.specs.ModName.{is_name};
-ghost use Rattle.message_json.specs.Reading.{Gives, field, found, if_holds, if_none, name_in, number_in, only, wanted_in};
+ghost use Rattle.message_json.specs.Reading.{Gives, field, found, if_holds, if_none};
+ghost use Rattle.message_json.specs.Reading.{name_in, number_in, only, wanted_in};
 ghost use Rattle.message_json.specs.ServerReading.{text_in};
 ghost use Rattle.update_msgs.specs.Writable.{most_text_bytes};
 
@@ -215,7 +216,8 @@ pub(crate) fn wanted_number_field(
     key: &str,
     wanted: bool,
 ) -> Result<Option<u64>, MsgFault>
-    ensures { Gives result (field (wanted_in wanted (number_in 0 9007199254740991)) key.now (view value.now)) }
+    ensures { Gives result
+        (field (wanted_in wanted (number_in 0 9007199254740991)) key.now (view value.now)) }
 {
     match value.get(key) {
         Some(inner) => found(alloc, key, wanted_number_in(wanted, inner)),
@@ -238,7 +240,8 @@ pub(crate) fn only(alloc: Global, value: &Value, known: &[&str]) -> Result<(), M
 
 #[tactic(auto, unfolding(json_readings::specs::Object::further_member))]
 fn no_further(alloc: Global, members: &Map<String, Value>, known: &[&str]) -> Result<(), MsgFault>
-    ensures { Gives result (if_none (further_member (one_of (map (λ k. k.now) known.now)) (members_view members.now.entries))) }
+    ensures { Gives result
+        (if_none (further_member (one_of (map (λ k. k.now) known.now)) (members_view members.now.entries))) }
 {
     for (key, _value) in members.iter() {
         if !is_known(known, key.as_str()) {

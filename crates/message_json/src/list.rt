@@ -3,7 +3,9 @@ ghost use Rattle.std.specs.Prelude.{◌≡◌, [], IfOk, option_and_then, option
 ghost use Rattle.serde_json.specs.Find.{as_array};
 ghost use Rattle.serde_json.specs.View.{items_view, view};
 ghost use Rattle.update_msgs.specs.Names.{rise};
-ghost use Rattle.message_json.specs.Reading.{Gives, GivesList, field, field_or, items_in, list_in, name_in, number_in, rising_in, row_in, some_names_in, table_in, two_items};
+ghost use Rattle.message_json.specs.Reading.{Gives, GivesList, field, field_or, items_in};
+ghost use Rattle.message_json.specs.Reading.{list_in, name_in, number_in, rising_in, row_in};
+ghost use Rattle.message_json.specs.Reading.{some_names_in, table_in, two_items};
 
 use crate::fault::MsgFault;
 use crate::field::{found, name_in, number_in};
@@ -85,7 +87,8 @@ pub(crate) fn some_names_field(
 // The items of a list of two.
 #[tactic(auto, using(crate::proofs::Loops::two_at))]
 fn two_items(value: &Value) -> Option<(&Value, &Value)>
-    ensures { option_map (λ p. (view p.0.now, view p.1.now)) result ≡ option_and_then two_items (as_array (view value.now)) }
+    ensures { option_map (λ p. (view p.0.now, view p.1.now)) result
+        ≡ option_and_then two_items (as_array (view value.now)) }
 {
     let first = value.get(0)?;
     let second = value.get(1)?;

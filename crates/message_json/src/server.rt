@@ -11,7 +11,9 @@ ghost use Rattle.message_text.specs.Values.{HasReading};
 ghost use Rattle.message_json.specs.Reading.{Gives, field};
 ghost use Rattle.message_json.specs.Words.{fault_kinds, reload_causes, word_in};
 ghost use Rattle.message_text.specs.ServerText.{tell};
-ghost use Rattle.message_json.specs.ServerReading.{IsTyped, connected_of, fault_of, kind_by, path_of, plain_of, prune_of, refused_of, reload_of, server_of, telling_by, text_of, update_of};
+ghost use Rattle.message_json.specs.ServerReading.{IsTyped, connected_of, fault_of, kind_by, path_of};
+ghost use Rattle.message_json.specs.ServerReading.{plain_of, prune_of, refused_of, reload_of, server_of};
+ghost use Rattle.message_json.specs.ServerReading.{telling_by, text_of, update_of};
 
 use crate::batch::{batch_of, only_by};
 use crate::fault::MsgFault;
@@ -27,9 +29,9 @@ use serde_json::Value;
 use std::alloc::Global;
 use update_msgs::ServerMsg;
 
-/// The message of a server that bytes read as in a format, 1 or 2: their JSON reading is an object of exactly
-/// the message's keys and values in that format. In format 1 an update or a reload has batch 0 and no
-/// triggered names. The faults are those of [`crate::decode_client`].
+/// The message of a server that bytes read as in a format, 1 or 2: their JSON reading is an object of
+/// exactly the message's keys and values in that format. In format 1 an update or a reload has batch 0 and
+/// no triggered names. The faults are those of [`crate::decode_client`].
 #[tactic(auto, using(crate::proofs::Back::server_given_back))]
 pub fn decode(alloc: Global, bytes: &[u8], format: u8) -> Result<ServerMsg, MsgFault>
     requires format { IsFormat format }
@@ -37,7 +39,8 @@ pub fn decode(alloc: Global, bytes: &[u8], format: u8) -> Result<ServerMsg, MsgF
     ensures ranged { IfOk result (IsWritable format) }
     ensures not_json { IsErrOf result MsgFault.NotJson → (d : Data) → ¬ (HasReading bytes.now d) }
     ensures read { (d : Data) → HasReading bytes.now d → Gives result (server_of format d) }
-    ensures written { (m : told.ServerMsg) → IsTyped m → IsWritable format m → HasReading bytes.now (tell format m)
+    ensures written { (m : told.ServerMsg) → IsTyped m → IsWritable format m
+        → HasReading bytes.now (tell format m)
         → Gives result (Ok (read_in format m)) }
 {
     match Value::from_slice(alloc, bytes) {

@@ -1,5 +1,5 @@
-// The words of messages as they are read: the cause of a plan that was given up, the cause of a reload, the kind
-// of a fault.
+// The words of messages as they are read: the cause of a plan that was given up, the cause of a reload, the
+// kind of a fault.
 ghost use Rattle.std.specs.Prelude.{◌≡◌};
 ghost use Rattle.play_text.specs.Words.{cause_word, fault_word};
 ghost use Rattle.message_text.specs.Words.{abort_word};

@@ -19,7 +19,8 @@ say (msg.Hello format roots) =
     entries ((codes "format", Some (whole format)) ∷ (codes "roots", unless_empty roots)
     ∷ (codes "type", Some (string (codes "hello"))) ∷ [])
 say msg.Ask = entries ((codes "type", Some (string (codes "ask"))) ∷ [])
-say (msg.Fetch path) = entries ((codes "path", Some (string path)) ∷ (codes "type", Some (string (codes "fetch"))) ∷ [])
+say (msg.Fetch path) =
+    entries ((codes "path", Some (string path)) ∷ (codes "type", Some (string (codes "fetch"))) ∷ [])
 say (msg.Applied table) =
     entries ((codes "table", Some (list row table)) ∷ (codes "type", Some (string (codes "applied"))) ∷ [])
 say (msg.Aborted cause path from name) =

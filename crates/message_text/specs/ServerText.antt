@@ -25,14 +25,18 @@ tell format (msg.Connected client roots) =
     entries ((codes "client", Some (whole client)) ∷ (codes "roots", Some (list string roots))
     ∷ (codes "type", Some (string (codes "connected"))) ∷ [])
 tell format (msg.Update replaced updates batch triggered) =
-    entries ((codes "batch", in_second format (whole batch)) ∷ (codes "replaced", Some (list string replaced))
-    ∷ (codes "triggeredBy", in_second format (list string triggered)) ∷ (codes "type", Some (string (codes "update")))
+    entries
+    ((codes "batch", in_second format (whole batch)) ∷ (codes "replaced", Some (list string replaced))
+    ∷ (codes "triggeredBy", in_second format (list string triggered))
+    ∷ (codes "type", Some (string (codes "update")))
     ∷ (codes "updates", Some (list js_update updates)) ∷ [])
 tell format (msg.Prune paths) =
     entries ((codes "paths", Some (list string paths)) ∷ (codes "type", Some (string (codes "prune"))) ∷ [])
 tell format (msg.FullReload cause path batch triggered) =
-    entries ((codes "batch", in_second format (whole batch)) ∷ (codes "cause", Some (string (cause_word cause)))
-    ∷ (codes "path", Some (list string path)) ∷ (codes "triggeredBy", in_second format (list string triggered))
+    entries
+    ((codes "batch", in_second format (whole batch)) ∷ (codes "cause", Some (string (cause_word cause)))
+    ∷ (codes "path", Some (list string path))
+    ∷ (codes "triggeredBy", in_second format (list string triggered))
     ∷ (codes "type", Some (string (codes "full-reload"))) ∷ [])
 tell format (msg.Error path line column kind) =
     entries ((codes "column", Some (whole column)) ∷ (codes "kind", Some (string (fault_word kind)))

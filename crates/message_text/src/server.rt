@@ -118,7 +118,8 @@ fn update_value(
 ) -> Result<Value, AllocError>
     ensures { IfOk result (λ v. view v ≡ entries (
         (codes "batch", in_second format (whole batch)) ∷ (codes "replaced", Some (view replaced.now))
-        ∷ (codes "triggeredBy", in_second format (view triggered.now)) ∷ (codes "type", Some (string (codes "update")))
+        ∷ (codes "triggeredBy", in_second format (view triggered.now))
+        ∷ (codes "type", Some (string (codes "update")))
         ∷ (codes "updates", Some (view updates.now)) ∷ [])) }
 {
     if format == 2 {

@@ -38,7 +38,8 @@ pub record PlacesSome (lister : Name) (names : List Name) (old new : Sets) : Typ
 
 -- the lister goes from under the names that aren't kept, and is else where it was
 abbrev pub Leaves : Name → List Name → List Name → Sets → Sets → Type 0
-Leaves lister names kept old new = Places lister (λ n. if has names n && not (has kept n) then false else is_under old n lister) old new
+Leaves lister names kept old new =
+    Places lister (λ n. if has names n && not (has kept n) then false else is_under old n lister) old new
 
 -- these modules are under no name; the others are where they were
 pub record IsWithout (listers : List Name) (old new : Sets) : Type 0 where

@@ -201,7 +201,8 @@ fn take_out(
 }
 
 fn remove(set: &mut BTreeSet<ModName>, name: &ModName)
-    ensures { (m : Name) → has set.new.keys m ≡ (if same_name name.now m then false else has set.old.keys m) }
+    ensures { (m : Name) → has set.new.keys m
+        ≡ (if same_name name.now m then false else has set.old.keys m) }
 {
     set.remove(name);
 }

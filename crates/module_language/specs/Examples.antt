@@ -21,7 +21,8 @@ x = codes "/d/x.js"
 
 -- imports two names, and hears of new modules of that name
 abbrev pub importer : Text
-importer = codes "import {b as c,a} from './x.js'\nexport let n = 1+(2*c)\nimport.meta.hot.accept('./x.js', m => { n = m?.b })\n"
+importer =
+    codes "import {b as c,a} from './x.js'\nexport let n = 1+(2*c)\nimport.meta.hot.accept('./x.js', m => { n = m?.b })\n"
 
 -- the callback of `importer`
 abbrev pub hears : HandlerTree
@@ -41,7 +42,8 @@ importer_tree =
 
 -- keeps its number from instance to instance
 abbrev pub keeper : Text
-keeper = codes "export let n = import.meta.hot.data.n ?? 1\nimport.meta.hot.dispose(d => { d.n = n })\nimport.meta.hot.accept()\n"
+keeper =
+    codes "export let n = import.meta.hot.data.n ?? 1\nimport.meta.hot.dispose(d => { d.n = n })\nimport.meta.hot.accept()\n"
 
 -- the disposer of `keeper`
 abbrev pub keeps : HandlerTree

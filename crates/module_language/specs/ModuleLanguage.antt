@@ -91,7 +91,8 @@ run_of code scope arguments before = ran_as (body_run code scope (map argument_o
 abbrev pub hosted_by : Text → ℕ → Bag → Ran
 hosted_by label number before = ran_as (host_ran label number before)
 
--- the language of module texts; a text that reads as no module binds nothing, and its evaluation does nothing
+-- the language of module texts; a text that reads as no module binds nothing, and its evaluation does
+-- nothing
 abbrev pub module_language : Language
 module_language = record {
   transformed = λ n t. transformed parsing n t;

@@ -87,7 +87,8 @@ pub fn handlers_are_run()
           invalidations = [];
           bag = [];
         } }
-    ensures disposer { module_language.ran keeps ((codes "n", Slot.Val (Value.Num (pos 7))) ∷ []) [] kept_five
+    ensures disposer { module_language.ran keeps
+        ((codes "n", Slot.Val (Value.Num (pos 7))) ∷ []) [] kept_five
         ≡ record {
           fault = None;
           lines = [];

@@ -32,8 +32,8 @@ pub fn links_are_the_texts_imports()
         Err fault → links_of module_language n t ≡ [] }
 {}
 
-/// Where a text has a good outcome, each specifier of it means a module; so the modules that a callback lists
-/// stand in the places of its specifiers.
+/// Where a text has a good outcome, each specifier of it means a module; so the modules that a callback
+/// lists stand in the places of its specifiers.
 pub fn specifiers_of_good_texts_mean_modules()
     ensures { (n : Name) (t : Text) (m : ModuleTree) (a : Analysis) → parsing t ≡
         Ok m → module_language.transformed n t ≡ Outcome.Good a → ItemsMean n m }

@@ -8,7 +8,8 @@ use Rattle.hmr_types.specs.Event.{event_of}
 use Rattle.module_tree.specs.Syntax.{ExprTree, num, text, undefined, name, bag, member, neg, binary, choose}
 use Rattle.module_tree.specs.Syntax.{CondTree, param, value, StmtTree, StmtTrees, no_stmts, one_stmt, log}
 use Rattle.module_tree.specs.Syntax.{assign, bag_set, throw, invalidate, branch, HandlerTree, OnceTree, code}
-use Rattle.module_tree.specs.Syntax.{host, ItemTree, import, declare, act, own, deps, dispose, prune, decline}
+use Rattle.module_tree.specs.Syntax.{host, ItemTree, import, declare, act}
+use Rattle.module_tree.specs.Syntax.{own, deps, dispose, prune, decline}
 use Rattle.module_tree.specs.Syntax.{ModuleTree}
 use Rattle.module_tree.specs.declared.tree.Op.{Op}
 use Rattle.module_tree.specs.declared.tree.Op.TheVariants as ops

@@ -112,7 +112,8 @@ deps_tokens event list ss h =
 abbrev pub item_tokens : ItemTree → List Token
 item_tokens (import s names) = import_tokens s names
 item_tokens (declare exported mutable n e) = export_tokens exported
-    ++ (declare_token mutable ∷ (token.name n ∷ (token.punct 9 ∷ (expr_tokens [] e ++ (token.punct 7 ∷ [])))))
+    ++ (declare_token mutable
+    ∷ (token.name n ∷ (token.punct 9 ∷ (expr_tokens [] e ++ (token.punct 7 ∷ [])))))
 item_tokens (act s) = stmt_tokens [] s
 item_tokens (own o) = call_tokens (codes "accept") (own_tokens o)
 item_tokens (deps list ss h) = deps_tokens (heard list ss h) list ss h

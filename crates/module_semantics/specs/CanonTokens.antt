@@ -9,7 +9,8 @@ use Rattle.module_tree.specs.declared.tree.Op.TheVariants as ops
 use Rattle.module_semantics.specs.Token as token
 use Rattle.module_semantics.specs.Token.{Token}
 use Rattle.module_semantics.specs.Kinds.{within, word_kind, free_names}
-use Rattle.module_semantics.specs.NameRules.{Within, outside, in_once, in_accept, is_param, has_name, accepts}
+use Rattle.module_semantics.specs.NameRules.{Within, outside, in_once, in_accept}
+use Rattle.module_semantics.specs.NameRules.{is_param, has_name, accepts}
 use Rattle.module_semantics.specs.Resolving.{place_of}
 use Rattle.module_semantics.specs.Canon.{op_level, level, nth}
 
@@ -73,7 +74,8 @@ fits_name n = within free_names (word_kind n)
 abbrev pub fits_param : Within → List (List ℕ) → ℕ → Bool
 fits_param outside ps i = false
 fits_param (in_once qs) ps i = false
-fits_param (in_accept qs) ps i = fits_name (nth ps i) && has_name (nth ps i) qs && place_of (nth ps i) qs == i
+fits_param (in_accept qs) ps i =
+    fits_name (nth ps i) && has_name (nth ps i) qs && place_of (nth ps i) qs == i
 
 -- an expression that reading can give there
 unfoldable pub fits_expr : Within → List (List ℕ) → ExprTree → Bool
@@ -105,10 +107,12 @@ abbrev pub cond_tokens : List (List ℕ) → CondTree → List Token
 cond_tokens ps (param i) = token.name (nth ps i) ∷ []
 cond_tokens ps (value e) = expr_tokens ps e
 
--- what follows the first body of an if, unless the other is empty; it is the tokens of the other's statements
+-- what follows the first body of an if, unless the other is empty; it is the tokens of the other's
+-- statements
 abbrev pub else_tokens : StmtTrees → List Token → List Token
 else_tokens no_stmts body = []
-else_tokens (one_stmt s r) body = token.name (codes "else") ∷ (token.punct 0 ∷ (body ++ (token.punct 1 ∷ [])))
+else_tokens (one_stmt s r) body =
+    token.name (codes "else") ∷ (token.punct 0 ∷ (body ++ (token.punct 1 ∷ [])))
 
 -- statements
 abbrev mutual

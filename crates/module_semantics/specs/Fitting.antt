@@ -1,10 +1,12 @@
 -- Which modules have a canonical text that reads back: its tokens can be written, the rules on names hold,
 -- and it isn't too deep.
-use Rattle.std.specs.Prelude.{ℕ, List, [], ◌∷◌, Bool, true, false, ◌&&◌, not, nat_le, Option, Some, None, map}
+use Rattle.std.specs.Prelude.{[], ◌∷◌, ◌&&◌}
+use Rattle.std.specs.Prelude.{ℕ, List, Bool, true, false, not, nat_le, Option, Some, None, map}
 use Rattle.std.specs.List.{list_all}
 use Rattle.std.specs.Str.{is_utf8}
 use Rattle.module_tree.specs.Syntax.{StmtTree, log, assign, bag_set, throw, invalidate, branch, HandlerTree}
-use Rattle.module_tree.specs.Syntax.{OnceTree, code, host, ItemTree, import, declare, act, own, deps, dispose}
+use Rattle.module_tree.specs.Syntax.{OnceTree, code, host, ItemTree, import}
+use Rattle.module_tree.specs.Syntax.{declare, act, own, deps, dispose}
 use Rattle.module_tree.specs.Syntax.{prune, decline, ModuleTree}
 use Rattle.module_tree.specs.declared.tree.ImportName.{ImportName}
 use Rattle.hmr_types.specs.declared.limits.TheConstants.{DEPTH, LARGEST_NUMBER}

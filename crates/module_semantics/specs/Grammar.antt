@@ -1,9 +1,21 @@
 -- The grammar of a module text: derivations, with one constructor for each production. A derivation is
 -- spelled by tokens, says something of the module, and has a depth.
-pub use Rattle.module_semantics.specs.ExprGrammar.{ExprD, NullD, NullRestD, SumD, SumRestD, ProdD, ProdRestD, UnaryD, PrimD, plain, choice, null, no_null, nullish, sum, no_sum, plus, minus, prod, no_prod, times, positive, negative, number, text, undefined, name, member, safe_member, bag, brackets, hot_spelt, nothing, not_error, expr_spelt, null_spelt, null_rest_spelt, sum_spelt, sum_rest_spelt, prod_spelt, prod_rest_spelt, unary_spelt, prim_spelt, expr_raw, null_raw, null_rest_raw, sum_raw, sum_rest_raw, prod_raw, prod_rest_raw, unary_raw, prim_raw, expr_depth, null_depth, null_rest_depth, sum_depth, sum_rest_depth, prod_depth, prod_rest_depth, unary_depth, prim_depth}
+pub use Rattle.module_semantics.specs.ExprGrammar.{ExprD, NullD, NullRestD, SumD, SumRestD, ProdD, ProdRestD}
+pub use Rattle.module_semantics.specs.ExprGrammar.{UnaryD, PrimD, plain, choice, null, no_null, nullish, sum}
+pub use Rattle.module_semantics.specs.ExprGrammar.{no_sum, plus, minus, prod, no_prod, times, positive}
+pub use Rattle.module_semantics.specs.ExprGrammar.{negative, number, text, undefined, name, member}
+pub use Rattle.module_semantics.specs.ExprGrammar.{safe_member, bag, brackets, hot_spelt, nothing, not_error}
+pub use Rattle.module_semantics.specs.ExprGrammar.{expr_spelt, null_spelt, null_rest_spelt, sum_spelt}
+pub use Rattle.module_semantics.specs.ExprGrammar.{sum_rest_spelt, prod_spelt, prod_rest_spelt, unary_spelt}
+pub use Rattle.module_semantics.specs.ExprGrammar.{prim_spelt, expr_raw, null_raw, null_rest_raw, sum_raw}
+pub use Rattle.module_semantics.specs.ExprGrammar.{sum_rest_raw, prod_raw, prod_rest_raw, unary_raw}
+pub use Rattle.module_semantics.specs.ExprGrammar.{prim_raw, expr_depth, null_depth, null_rest_depth}
+pub use Rattle.module_semantics.specs.ExprGrammar.{sum_depth, sum_rest_depth, prod_depth, prod_rest_depth}
+pub use Rattle.module_semantics.specs.ExprGrammar.{unary_depth, prim_depth}
 use Rattle.std.specs.Prelude.{ℕ, suc, max, List, [], ◌∷◌, Bool, true, false, Option, Some, None, map}
 use Rattle.std.specs.Option.{option_map}
-use Rattle.module_semantics.specs.Kinds.{IMPORT, EXPORT, CONST, LET, IF, ELSE, THROW, CONSOLE, LOG, HOST, NEW}
+use Rattle.module_semantics.specs.Kinds.{IMPORT, EXPORT, CONST, LET, IF, ELSE}
+use Rattle.module_semantics.specs.Kinds.{THROW, CONSOLE, LOG, HOST, NEW}
 use Rattle.module_semantics.specs.Kinds.{ERROR, FROM, AS, META, HOT, DATA, ACCEPT, DISPOSE, PRUNE, DECLINE}
 use Rattle.module_semantics.specs.Kinds.{INVALIDATE, ON, TEXT, OPEN_BRACE, CLOSE_BRACE, OPEN, CLOSE}
 use Rattle.module_semantics.specs.Kinds.{OPEN_BRACKET, CLOSE_BRACKET, COMMA, DOT, EQUALS, ARROW, NameAt}

@@ -2,7 +2,8 @@
 use Rattle.std.specs.Prelude.{◌≡◌, ℕ, suc, ◌+◌, ◌-◌, ◌<◌, ◌≤◌, List, ◌∷◌, ◌++◌, length, true, false, ◌⊎◌}
 use Rattle.std.specs.Prelude.{◌==◌, Some, None}
 use Rattle.module_semantics.specs.Token.{Token}
-use Rattle.module_semantics.specs.Bytes.{is_blank, is_digit, is_name_start, is_quote, not_line_end, is_escape}
+use Rattle.module_semantics.specs.Bytes.{is_blank, is_digit, is_name_start, is_quote}
+use Rattle.module_semantics.specs.Bytes.{not_line_end, is_escape}
 use Rattle.module_semantics.specs.Lexing.{begins, single, barred}
 use Rattle.module_semantics.specs.Pieces.{Part, spelled_parts, parts_size, Piece, first, more, token_of}
 use Rattle.module_semantics.specs.Pieces.{IsPiece, IsLongest, value, all, opens, unclosed, are_inside}
@@ -41,8 +42,8 @@ WrongPiece at b bs NumberTooLarge place =
 WrongPiece at b bs TooManyTokens place = ⊥
 WrongPiece at b bs NoMemory place = ⊥
 
--- what is wrong at a place, after a token and after some number of tokens: a byte that the token before bars,
--- a piece that begins so and isn't by the rules, or one token too many
+-- what is wrong at a place, after a token and after some number of tokens: a byte that the token before
+-- bars, a piece that begins so and isn't by the rules, or one token too many
 abbrev pub Wrong : After → ℕ → ℕ → ℕ → List ℕ → LexFault → Type 0
 Wrong last count at b bs f =
     ((f.kind ≡ BadByte) × (f.at ≡ at) × (barred last b ≡ true))

@@ -1,6 +1,7 @@
--- What lexing gives: the tokens of a text, or its first fault. `Pieces` and `LexFaults` say the same by rules
--- on whole texts.
-use Rattle.std.specs.Prelude.{◌≡◌, ℕ, zero, suc, ◌+◌, ◌*◌, ◌-◌, List, [], ◌∷◌, ◌++◌, length, take, drop, Bool}
+-- What lexing gives: the tokens of a text, or its first fault. `Pieces` and `LexFaults` say the same by
+-- rules on whole texts.
+use Rattle.std.specs.Prelude.{◌≡◌, ◌+◌, ◌*◌, ◌-◌, [], ◌∷◌, ◌++◌}
+use Rattle.std.specs.Prelude.{ℕ, zero, suc, List, length, take, drop, Bool}
 use Rattle.std.specs.Prelude.{true, false, ◌&&◌, ◌==◌, nat_lt, if◌then◌else◌, Option, Some, None, Result, Ok}
 use Rattle.std.specs.Prelude.{Err}
 use Rattle.hmr_types.specs.declared.limits.TheConstants.{TOKENS, LARGEST_NUMBER}
@@ -29,8 +30,8 @@ number_from at v n (b ∷ bs) =
     else number_from at (10 * v + (b - 48)) (suc n) bs)
     else Ok (v, n)
 
--- the text and its length, after n bytes behind its quote that stand for out, the last of them a backslash of
--- its own where `pending`
+-- the text and its length, after n bytes behind its quote that stand for out, the last of them a backslash
+-- of its own where `pending`
 unfoldable pub text_from : ℕ → ℕ → List ℕ → ℕ → Bool → List ℕ → Result (List ℕ × ℕ) LexFault
 text_from at q out n true [] = Err (lex_fault BadEscape (at + n))
 text_from at q out n false [] = Err (lex_fault OpenString at)
@@ -60,9 +61,10 @@ Front = Result (Option Token × ℕ) LexFault
 -- a comment, after its first slash
 unfoldable pub comment_at : ℕ → List ℕ → Front
 comment_at at [] = Err (lex_fault BadByte at)
-comment_at at (c ∷ bs) = if c == 47 then Ok (None, suc (suc (span not_line_feed bs))) else if c == 42 then (do
-  n ← comment_from at 2 bs
-  Ok (None, n)) else Err (lex_fault BadByte at)
+comment_at at (c ∷ bs) = if c == 47 then Ok (None, suc (suc (span not_line_feed bs)))
+    else if c == 42 then (do
+      n ← comment_from at 2 bs
+      Ok (None, n)) else Err (lex_fault BadByte at)
 
 -- a number, by its first digit and what follows
 unfoldable pub number_at : ℕ → ℕ → List ℕ → Front

@@ -10,7 +10,8 @@ use Rattle.hmr_types.specs.declared.words.HandlerKind.{HandlerKind}
 use Rattle.hmr_types.specs.declared.words.HandlerKind.TheVariants.{Dispose, Prune, Own, Dep}
 use Rattle.module_semantics.specs.Entries.{with_entry}
 use Rattle.module_semantics.specs.Evaluation.{value_of}
-use Rattle.module_semantics.specs.Bodies.{Registration, State, Context, Progress, next, with_result, scope_of}
+use Rattle.module_semantics.specs.Bodies.{Registration, State, Context, Progress}
+use Rattle.module_semantics.specs.Bodies.{next, with_result, scope_of}
 use Rattle.module_semantics.specs.Bodies.{run, opening}
 
 -- a declaration gives its name the value

@@ -17,8 +17,8 @@ pub record Broken : Type 0 where
   pub at : ℕ
   pub word : FaultWord
 
--- where a statement stands: in no callback, in one of `dispose` or `prune`, or in one of `accept` or `on`, with
--- these parameters
+-- where a statement stands: in no callback, in one of `dispose` or `prune`, or in one of `accept` or `on`,
+-- with these parameters
 pub data Within : Type 0 where
   outside : Within
   in_once : List (List ℕ) → Within

@@ -1,5 +1,6 @@
 -- What the grammar tells of a module text: its statements with the places of its names. Guards, parentheses,
--- spaces, comments, the quotes used and the form of `throw` are forgotten; what a name means isn't asked yet.
+-- spaces, comments, the quotes used and the form of `throw` are forgotten; what a name means isn't asked
+-- yet.
 use Rattle.std.specs.Prelude.{ℕ, List, [], ◌∷◌, Bool, Option}
 use Rattle.module_tree.specs.declared.tree.Op.{Op}
 use Rattle.module_semantics.specs.Kinds.{NameAt}
@@ -16,8 +17,8 @@ pub data RawExpr : Type 0 where
   binary : Op → RawExpr → RawExpr → RawExpr
   choose : RawExpr → RawExpr → RawExpr → RawExpr
 
--- assign: `name = value`; set: `name.key = value`; set_bag: the same of the bag; invalidate: the place of its
--- `import`
+-- assign: `name = value`; set: `name.key = value`; set_bag: the same of the bag; invalidate: the place of
+-- its `import`
 mutual
   pub data RawStmt : Type 0 where
     log : List RawExpr → RawStmt

@@ -11,12 +11,14 @@ use Rattle.module_semantics.specs.Kinds.{CONSOLE, LOG, HOST, NEW, ERROR, FROM, A
 use Rattle.module_semantics.specs.Kinds.{DISPOSE, PRUNE, DECLINE, INVALIDATE, ON, NUMBER, TEXT, OPEN_BRACE}
 use Rattle.module_semantics.specs.Kinds.{CLOSE_BRACE, OPEN, CLOSE, OPEN_BRACKET, CLOSE_BRACKET, COMMA, DOT}
 use Rattle.module_semantics.specs.Kinds.{EQUALS, PLUS, MINUS, TIMES, QUESTION, COLON, ARROW, SAFE_DOT}
-use Rattle.module_semantics.specs.Kinds.{NULLISH, reserved, free_names, all_names, bytes_of, value_of, NameAt}
+use Rattle.module_semantics.specs.Kinds.{NULLISH, reserved, free_names, all_names}
+use Rattle.module_semantics.specs.Kinds.{bytes_of, value_of, NameAt}
 use Rattle.module_semantics.specs.Kinds.{name_at}
 use Rattle.module_semantics.specs.Raw.{RawExpr, num, text, undefined, name, bag, member, neg, binary, choose}
 use Rattle.module_semantics.specs.Raw.{RawStmt, RawStmts, no_stmts, one_stmt, stmts_of, log, assign, set}
 use Rattle.module_semantics.specs.Raw.{set_bag, throw, invalidate, branch, RawHandler, RawOnce, code, host}
-use Rattle.module_semantics.specs.Raw.{RawImport, RawItem, import, declare, act, own, deps, on, dispose, prune}
+use Rattle.module_semantics.specs.Raw.{RawImport, RawItem, import, declare, act}
+use Rattle.module_semantics.specs.Raw.{own, deps, on, dispose, prune}
 use Rattle.module_semantics.specs.Raw.{decline}
 use Rattle.module_semantics.specs.Readers.{GrammarFault, unexpected, Reader, next_two, taken, mark, given}
 use Rattle.module_semantics.specs.Readers.{◌&◌, mapped, ◌▷◌, ◌◁◌, choice, many, listed, separated, end, deep}
@@ -176,12 +178,14 @@ only s = one_stmt s no_stmts
 -- what follows `else`, where it stands there
 unfoldable pub else_part : Inner → Reader RawStmts
 else_part i =
-    choice (ELSE ∷ []) (mark ELSE ▷ choice (OPEN_BRACE ∷ []) i.block (mapped only i.else_if)) (given no_stmts)
+    choice (ELSE ∷ []) (mark ELSE ▷ choice (OPEN_BRACE ∷ []) i.block (mapped only i.else_if))
+    (given no_stmts)
 
 -- an if
 unfoldable pub if_stmt : Inner → Reader RawStmt
 if_stmt i =
-    mapped (λ v. branch v.0 v.1.0 v.1.1) (mark IF ▷ mark OPEN ▷ (i.expr ◁ mark CLOSE) & i.block & else_part i)
+    mapped
+    (λ v. branch v.0 v.1.0 v.1.1) (mark IF ▷ mark OPEN ▷ (i.expr ◁ mark CLOSE) & i.block & else_part i)
 
 -- what a statement of a callback begins with
 abbrev pub stmt_firsts : List ℕ
@@ -289,7 +293,8 @@ unfoldable pub accepted : Reader RawStmts → Reader RawItem
 accepted b =
     choice (TEXT ∷ []) (mapped (λ v. deps false (alone v.0) v.1) (text_token & after_comma (callback b)))
     (choice (OPEN_BRACKET ∷ [])
-    (mapped (λ v. deps true v.0 v.1) ((mark OPEN_BRACKET ▷ listed (TEXT ∷ []) text_token ◁ mark CLOSE_BRACKET)
+    (mapped
+    (λ v. deps true v.0 v.1) ((mark OPEN_BRACKET ▷ listed (TEXT ∷ []) text_token ◁ mark CLOSE_BRACKET)
     & after_comma (list_callback b)))
     (choice own_firsts (mapped (λ o. own (Some o)) (once b)) (given (own None))))
 

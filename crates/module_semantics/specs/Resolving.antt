@@ -7,7 +7,8 @@ use Rattle.std.specs.Option.{option_map}
 use Rattle.std.specs.Str.{bytes_eq}
 use Rattle.hmr_types.specs.Event.{event_module}
 use Rattle.module_tree.specs.Syntax as tree
-use Rattle.module_tree.specs.Syntax.{ExprTree, CondTree, StmtTree, StmtTrees, HandlerTree, OnceTree, ItemTree}
+use Rattle.module_tree.specs.Syntax.{ExprTree, CondTree, StmtTree, StmtTrees}
+use Rattle.module_tree.specs.Syntax.{HandlerTree, OnceTree, ItemTree}
 use Rattle.module_tree.specs.Syntax.{ModuleTree}
 use Rattle.module_tree.specs.declared.tree.ImportName.{ImportName}
 use Rattle.module_semantics.specs.Kinds.{NameAt}

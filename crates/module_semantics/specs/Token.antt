@@ -15,8 +15,8 @@ pub record Lexeme : Type 0 where
   pub at : ℕ
   pub len : ℕ
 
--- a token, the place of its first byte, and whether it begins on a later line than the one on which the token
--- before it ends
+-- a token, the place of its first byte, and whether it begins on a later line than the one on which the
+-- token before it ends
 pub record LineToken : Type 0 where
   pub token : Token
   pub at : ℕ

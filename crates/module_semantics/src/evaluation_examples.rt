@@ -113,10 +113,12 @@ pub fn faults_of_bodies()
         (before ∷ tree.branch (tree.value (letters 4097)) tree.no_stmts tree.no_stmts ∷ after ∷ []) []
         ≡ stopped EvalFault.Range }
     ensures undefined_read { body_alone
-        (before ∷ tree.invalidate (Some (tree.member 0 false (codes "n"))) ∷ after ∷ []) (ModParam.Undef ∷ [])
+        (before ∷ tree.invalidate (Some (tree.member 0 false (codes "n"))) ∷ after ∷ [])
+        (ModParam.Undef ∷ [])
         ≡ stopped EvalFault.UndefinedRead }
     ensures bag_full { body_run
-        (record { params = []; body = tree.one_stmt (tree.bag_set (codes "key") (tree.num 1)) tree.no_stmts })
+        (record
+        { params = []; body = tree.one_stmt (tree.bag_set (codes "key") (tree.num 1)) tree.no_stmts })
         [] [] (keys 64)
         ≡ record {
           fault = Some EvalFault.BagFull;

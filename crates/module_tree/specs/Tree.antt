@@ -2,7 +2,8 @@
 use Rattle.std.specs.Prelude.{List, [], ◌∷◌, map}
 use Rattle.std.specs.Option.{option_map}
 use Rattle.module_tree.specs.Syntax as plain
-use Rattle.module_tree.specs.Syntax.{ExprTree, CondTree, StmtTree, StmtTrees, HandlerTree, OnceTree, ItemTree, ModuleTree}
+use Rattle.module_tree.specs.Syntax.{ExprTree, CondTree, StmtTree, StmtTrees, HandlerTree}
+use Rattle.module_tree.specs.Syntax.{OnceTree, ItemTree, ModuleTree}
 use Rattle.module_tree.specs.declared.tree.Expr.{Expr}
 use Rattle.module_tree.specs.declared.tree.Expr.TheOpen.{Expr-F}
 use Rattle.module_tree.specs.declared.tree.Expr.TheFolds.{fold-Expr}

@@ -5,7 +5,8 @@
 ghost use Rattle.std.specs.Option.{option_map};
 ghost use Rattle.std.specs.Prelude.{◌≡◌, IfOk, map};
 ghost use Rattle.module_tree.specs.Syntax.{binary};
-ghost use Rattle.module_tree.specs.Tree.{cond_of, expr_of, handler_of, item_of, module_of, once_of, stmt_of, stmts_of};
+ghost use Rattle.module_tree.specs.Tree.{cond_of, expr_of, handler_of, item_of, module_of};
+ghost use Rattle.module_tree.specs.Tree.{once_of, stmt_of, stmts_of};
 
 use hmr_types::{Name, Sequence, Text};
 use std::alloc::{AllocError, Global};

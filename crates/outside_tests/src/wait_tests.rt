@@ -1,5 +1,5 @@
-// Which `open`s of a folder of the file system wait. A thread beside them looks for the file that is made once
-// the folder was shown.
+// Which `open`s of a folder of the file system wait. A thread beside them looks for the file that is made
+// once the folder was shown.
 use crate::folder_tests::are;
 use crate::show;
 use folders::{FolderTree, OutFault, Tree};

@@ -1,5 +1,6 @@
 -- What a birth of the code is in the model, and what the steps of its making leave.
-use Rattle.std.specs.Prelude.{◌≡◌, ℕ, suc, false, not, Bool, List, [], ◌∷◌, ◌++◌, fold, length, map, slice_get, slice_set, Option, Some, None}
+use Rattle.std.specs.Prelude.{◌≡◌, ℕ, suc, false, not, Bool, List, [], ◌∷◌, ◌++◌, fold}
+use Rattle.std.specs.Prelude.{length, map, slice_get, slice_set, Option, Some, None}
 use Rattle.std.specs.List.{list_any}
 use Rattle.hmr_types.specs.declared.words.HandlerKind.{HandlerKind}
 use Rattle.module_tree.specs.Syntax as syntax
@@ -47,7 +48,8 @@ abbrev pub has_failed_link : {F : Type 0} → List (Instance F) → List (Name �
 has_failed_link instances links = list_any (λ link. is_failed (kept_at instances link.1)) links
 
 -- A new instance stands behind the others, without handlers, and is the live one of its name.
-pub record Adds {F : Type 0} (birth : Birth) (status : InstanceStatus) (values : Slots) (before after : Page F) : Type 0 where
+pub record Adds {F : Type 0} (birth : Birth) (status : InstanceStatus) (values : Slots)
+    (before after : Page F) : Type 0 where
   pub rest : after ≡ record before { instances = after.instances; live = after.live }
   pub new : Instance F
   pub instances : after.instances.items ≡ before.instances.items ++ new ∷ []
@@ -72,7 +74,8 @@ abbrev pub registered_all : ℕ → Name → List Registered → Registry → Re
 registered_all k n entries g = fold (λ g entry. register_once entry.what k n entry g) g entries
 
 -- The instance at a place has the handlers of the registry, the page its closures, and its lines were told.
-pub record HasRegistry {F : Type 0} (i : client.Instance) (g : Registry) (place : ℕ) (p : Page F) (began told : List OutLine) : Type 0 where
+pub record HasRegistry {F : Type 0} (i : client.Instance) (g : Registry) (place : ℕ) (p : Page F)
+    (began told : List OutLine) : Type 0 where
   pub instance : Instance F
   pub there : slice_get p.instances.items place ≡ Some instance
   pub sees : Sees (record i { handlers = g.handlers }) instance
@@ -80,9 +83,11 @@ pub record HasRegistry {F : Type 0} (i : client.Instance) (g : Registry) (place 
   pub lines : told ≡ began ++ lines_of_all p.client g.journal
 
 -- These are registered with the instance at a place: what had a registry of the model has the next.
-pub record Registers {F : Type 0} (n : Name) (entries : List Registered) (place : ℕ) (before after : Page F) (told tells : List OutLine) : Type 0 where
+pub record Registers {F : Type 0} (n : Name) (entries : List Registered) (place : ℕ) (before after : Page F)
+    (told tells : List OutLine) : Type 0 where
   pub rest : after ≡ record before { instances = after.instances; shelf = after.shelf }
   pub changed : Instance F
   pub instances : after.instances.items ≡ slice_set before.instances.items place changed
-  pub gains : (k : ℕ) (i : client.Instance) (g : Registry) (began : List OutLine) → HasRegistry i g place before began told
+  pub gains : (k : ℕ) (i : client.Instance) (g : Registry) (began : List OutLine)
+      → HasRegistry i g place before began told
       → HasRegistry i (registered_all k n entries g) place after began tells

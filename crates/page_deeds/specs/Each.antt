@@ -1,5 +1,6 @@
 -- A deed for each of several instances of a page, by their places.
-use Rattle.std.specs.Prelude.{◌≡◌, ◌&&◌, ℕ, zero, suc, Bool, true, false, List, [], ◌∷◌, length, slice_get, Option, Some, None, is_some, IfSome, if◌then◌else◌, ⊤}
+use Rattle.std.specs.Prelude.{◌≡◌, ◌&&◌, ℕ, zero, suc, Bool, true, false, List, [], ◌∷◌, length, slice_get}
+use Rattle.std.specs.Prelude.{Option, Some, None, is_some, IfSome, if◌then◌else◌, ⊤}
 use Prim.{⊥}
 use Rattle.output_lines.specs.declared.out_line.OutLine.{OutLine}
 use Rattle.core_model.specs.Names.{Name, has}
@@ -26,7 +27,8 @@ is_live_of test (Some c) = is_live_fate c.fate && test c.name
 -- the places, below k, of the live instances whose names pass the test, falling
 abbrev pub falling : {F : Type 0} → (Name → Bool) → List (Instance F) → ℕ → List ℕ
 falling test cs zero = []
-falling test cs (suc k) = if is_live_of test (slice_get cs k) then k ∷ falling test cs k else falling test cs k
+falling test cs (suc k) = if is_live_of test (slice_get cs k) then k ∷ falling test cs k
+    else falling test cs k
 
 -- those of a page
 abbrev pub live_places : {F : Type 0} → (Name → Bool) → Page F → List ℕ
@@ -45,10 +47,12 @@ StandAt p (k ∷ ks) [] = ⊥
 StandAt p (k ∷ ks) (i ∷ is) = IsAt p k i × StandAt p ks is
 
 -- the deed is done for each of the instances at these places, one after another
-pub record FollowsEach {F : Type 0} (act : model.Instance → Runtime → Did) (places : List ℕ) (before after : Page F) (told tells : List OutLine) : Type 0 where
+pub record FollowsEach {F : Type 0} (act : model.Instance → Runtime → Did) (places : List ℕ)
+    (before after : Page F) (told tells : List OutLine) : Type 0 where
   pub client : after.client ≡ before.client
   pub names : (place : ℕ) (n : Name) → name_at before place ≡ Some n → name_at after place ≡ Some n
-  pub each : (is : List model.Instance) → StandAt before places is → Follows (for_each act is) before after told tells
+  pub each : (is : List model.Instance) → StandAt before places is
+      → Follows (for_each act is) before after told tells
 
 -- a name, where there is one, gets a new instance
 abbrev pub HasNew : NewNumbers → Option Name → Type 0
@@ -56,9 +60,13 @@ HasNew numbers name = IfSome name (λ n. is_some (new_number numbers n) ≡ true
 
 -- for each runtime that the page stands for, the names that pass the test are those that are replaced, and
 -- each has there the number that it gets
-abbrev pub IsReplacing : {F : Type 0} → List Name → NewNumbers → Page F → (Runtime → Name → Option ℕ) → (Runtime → Name → Bool) → Type 0
-IsReplacing replaced numbers p number test = (r : Runtime) → StandsFor r p → (n : Name) → (test r n ≡ has replaced n) × (has replaced n ≡ true → number r n ≡ new_number numbers n)
+abbrev pub IsReplacing : {F : Type 0} → List Name → NewNumbers → Page F → (Runtime → Name → Option ℕ)
+    → (Runtime → Name → Bool) → Type 0
+IsReplacing replaced numbers p number test = (r : Runtime) → StandsFor r p → (n : Name)
+    → (test r n ≡ has replaced n) × (has replaced n ≡ true → number r n ≡ new_number numbers n)
 
 -- the deed was done for the first of the places, and is left to be done for the rest
-abbrev pub EachBegins : {F : Type 0} → (model.Instance → Runtime → Did) → (whole rest : List ℕ) → (before after : Page F) → (told tells : List OutLine) → Type 0
-EachBegins act whole rest before after told tells = (z : Page _) (more : List OutLine) → FollowsEach act rest after z tells more → FollowsEach act whole before z told more
+abbrev pub EachBegins : {F : Type 0} → (model.Instance → Runtime → Did) → (whole rest : List ℕ)
+    → (before after : Page F) → (told tells : List OutLine) → Type 0
+EachBegins act whole rest before after told tells = (z : Page _) (more : List OutLine)
+    → FollowsEach act rest after z tells more → FollowsEach act whole before z told more

@@ -18,17 +18,25 @@ abbrev pub AreBirths : (F : Type 0) → ℕ → List model.Birth → List Birth 
 AreBirths F made [] [] = ⊤
 AreBirths F made [] (birth ∷ births) = ⊥
 AreBirths F made (b ∷ bs) [] = ⊥
-AreBirths F made (b ∷ bs) (birth ∷ births) = ((p : Page F) → length p.instances.items ≡ made → IsBirth b birth p) × AreBirths F (suc made) bs births
+AreBirths F made (b ∷ bs) (birth ∷ births) =
+    ((p : Page F) → length p.instances.items ≡ made → IsBirth b birth p) × AreBirths F (suc made) bs births
 
 -- none of the names is live, and no two are the same
 abbrev pub AreNew : Numbers → List Birth → Type 0
 AreNew live [] = ⊤
-AreNew live (birth ∷ births) = (number_of live birth.name ≡ None) × ((has (map (λ b. b.name) births) birth.name ≡ false) × AreNew live births)
+AreNew live (birth ∷ births) =
+    (number_of live birth.name ≡ None)
+    × ((has (map (λ b. b.name) births) birth.name ≡ false) × AreNew live births)
 
 -- where the names are new, the making of all of them follows the model's of their births
-abbrev pub FollowsBirths : {F : Type 0} → List Birth → (before after : Page F) → (told tells : List OutLine) → Type 0
-FollowsBirths {F} births before after told tells = AreNew before.live births → (bs : List model.Birth) → AreBirths F (length before.instances.items) bs births → Follows (for_each (make module_language) bs) before after told tells
+abbrev pub FollowsBirths : {F : Type 0} → List Birth → (before after : Page F) → (told tells : List OutLine)
+    → Type 0
+FollowsBirths {F} births before after told tells = AreNew before.live births → (bs : List model.Birth)
+    → AreBirths F (length before.instances.items) bs births
+    → Follows (for_each (make module_language) bs) before after told tells
 
 -- the first of them were made, and the rest are left
-abbrev pub BirthsBegin : {F : Type 0} → (whole rest : List Birth) → (before after : Page F) → (told tells : List OutLine) → Type 0
-BirthsBegin {F} whole rest before after told tells = (z : Page F) (more : List OutLine) → FollowsBirths rest after z tells more → FollowsBirths whole before z told more
+abbrev pub BirthsBegin : {F : Type 0} → (whole rest : List Birth) → (before after : Page F)
+    → (told tells : List OutLine) → Type 0
+BirthsBegin {F} whole rest before after told tells = (z : Page F) (more : List OutLine)
+    → FollowsBirths rest after z tells more → FollowsBirths whole before z told more

@@ -12,7 +12,8 @@ number_of numbers name = entry_at name numbers
 
 -- afterwards the name has this number or none, and each other name what it had
 abbrev pub HasNumber : List ℕ → Option ℕ → Numbers → Numbers → Type 0
-HasNumber name number before after = (n : List ℕ) → number_of after n ≡ (if bytes_eq n name then number else number_of before n)
+HasNumber name number before after = (n : List ℕ)
+    → number_of after n ≡ (if bytes_eq n name then number else number_of before n)
 
 -- the number, none where it is this one
 abbrev pub without_number : ℕ → Option ℕ → Option ℕ
@@ -21,4 +22,5 @@ without_number k (Some m) = if m == k then None else Some m
 
 -- afterwards the name lacks this number, if it had it, and all else is as before
 abbrev pub LosesNumber : List ℕ → ℕ → Numbers → Numbers → Type 0
-LosesNumber name number before after = HasNumber name (without_number number (number_of before name)) before after
+LosesNumber name number before after =
+    HasNumber name (without_number number (number_of before name)) before after

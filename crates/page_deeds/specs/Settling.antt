@@ -1,5 +1,6 @@
 -- What the run of a handler left is settled.
-use Rattle.std.specs.Prelude.{◌≡◌, ℕ, List, ◌++◌, fold, length, map, slice_get, slice_set, Option, Some, None}
+use Rattle.std.specs.Prelude.{◌≡◌, ◌++◌}
+use Rattle.std.specs.Prelude.{ℕ, List, fold, length, map, slice_get, slice_set, Option, Some, None}
 use Rattle.output_lines.specs.declared.words.FaultPlace.{FaultPlace}
 use Rattle.output_lines.specs.declared.out_line.OutLine.{OutLine}
 use Rattle.core_model.specs.Names.{Name}
@@ -43,7 +44,8 @@ left_by ran = ran_as (ran_seen ran)
 
 -- What a run left is settled: its variables are assigned, its bag is kept, its lines and its invalidations
 -- stand behind the others.
-pub record Settles {F : Type 0} (at : FaultPlace) (left : Ran) (place : ℕ) (before after : Page F) (told tells : List OutLine) : Type 0 where
+pub record Settles {F : Type 0} (at : FaultPlace) (left : Ran) (place : ℕ) (before after : Page F)
+    (told tells : List OutLine) : Type 0 where
   pub client : after.client ≡ before.client
   pub live : after.live ≡ before.live
   pub shelf : after.shelf ≡ before.shelf
@@ -51,11 +53,17 @@ pub record Settles {F : Type 0} (at : FaultPlace) (left : Ran) (place : ℕ) (be
   pub changed : Instance F
   pub there : slice_get before.instances.items place ≡ Some instance
   pub instances : after.instances.items ≡ slice_set before.instances.items place changed
-  pub values : (i : model.Instance) → Sees i instance → Sees (record i { values = fold assigned i.values left.changes }) changed
+  pub values : (i : model.Instance) → Sees i instance
+      → Sees (record i { values = fold assigned i.values left.changes }) changed
   pub rest : changed ≡ record instance { values = changed.values }
   pub bags : HasBag instance.name left.bag before.bags after.bags
-  pub unsent : after.unsent.items ≡ before.unsent.items ++ invalidated instance.name (version_in (live_in before instance.name)) left.invalidations
-  pub lines : tells ≡ told ++ (log_lines before.client instance.name left.lines ++ fault_lines before.client instance.name at left.fault)
+  pub unsent : after.unsent.items
+      ≡ before.unsent.items
+      ++ invalidated instance.name (version_in (live_in before instance.name)) left.invalidations
+  pub lines : tells
+      ≡ told ++
+      (log_lines before.client instance.name left.lines
+      ++ fault_lines before.client instance.name at left.fault)
 
 -- an instance as the argument of a callback, `undefined` where there is none
 abbrev pub exports_of : {F : Type 0} → Option (Instance F) → Option Slots

@@ -1,5 +1,6 @@
 -- What a page shows of its instances.
-use Rattle.std.specs.Prelude.{ℕ, zero, suc, Bool, not, List, [], ◌++◌, map, filter, flat_map, slice_get, Option, Some, None}
+use Rattle.std.specs.Prelude.{ℕ, zero, suc, Bool, not, List, [], ◌++◌, map, filter}
+use Rattle.std.specs.Prelude.{flat_map, slice_get, Option, Some, None}
 use Rattle.output_lines.specs.declared.out_line.OutLine.{OutLine}
 use Rattle.core_model.specs.Names.{Name, at}
 use Rattle.client_model.specs.Instance.{live_at}
@@ -18,7 +19,8 @@ values_among r names = flat_map (λ n. value_lines_in n (live_at r.instances n))
 
 -- b with each of these names that it isn't linked to as it is live
 abbrev pub stale_among : Runtime → Name → List Name → List (Name × Name)
-stale_among r b names = map (λ x. (b, x)) (filter (λ x. not (same_link (link_of r b x) (live_number r x))) names)
+stale_among r b names =
+    map (λ x. (b, x)) (filter (λ x. not (same_link (link_of r b x) (live_number r x))) names)
 
 -- what the exports of an instance hold, if there is one
 abbrev pub values_under : {F : Type 0} → Name → Option (Instance F) → List OutLine
@@ -36,7 +38,8 @@ link_by (Some c) x = at c.links x
 
 -- the name with each of these that it has another number for in the one map than in the other
 abbrev pub apart : Numbers → Numbers → Name → List Name → List (Name × Name)
-apart links live b names = map (λ x. (b, x)) (filter (λ x. not (same_link (number_of links x) (number_of live x))) names)
+apart links live b names =
+    map (λ x. (b, x)) (filter (λ x. not (same_link (number_of links x) (number_of live x))) names)
 
 -- an instance and its handlers, if there is one
 abbrev pub lines_of : {F : Type 0} → ℕ → Option (Instance F) → List OutLine
@@ -46,4 +49,5 @@ lines_of k (Some c) = lines_in k c
 -- the first instances, so many, and their handlers
 abbrev pub lines_upto : {F : Type 0} → List (Instance F) → ℕ → List OutLine
 lines_upto instances zero = []
-lines_upto instances (suc place) = lines_upto instances place ++ lines_of (suc place) (slice_get instances place)
+lines_upto instances (suc place) =
+    lines_upto instances place ++ lines_of (suc place) (slice_get instances place)

@@ -1,6 +1,7 @@
 -- What a page stands for, and what a deed of the code follows. A page and a runtime of the model agree by
 -- number and by name, never by the order of a list.
-use Rattle.std.specs.Prelude.{◌≡◌, ◌==◌, ◌&&◌, ℕ, suc, true, List, [], ◌∷◌, ◌++◌, length, map, slice_get, Option, Some, None}
+use Rattle.std.specs.Prelude.{◌≡◌, ◌==◌, ◌&&◌, [], ◌∷◌, ◌++◌}
+use Rattle.std.specs.Prelude.{ℕ, suc, true, List, length, map, slice_get, Option, Some, None}
 use Rattle.std.specs.Option.{option_map}
 use Rattle.std.specs.List.{All}
 use Prim.{⊥}
@@ -50,7 +51,8 @@ abbrev pub invalidation_as : Invalidation → runtime.Invalidation
 invalidation_as i = record { name = i.name; version = i.version; message = i.message }
 
 -- the instances of the model are those of the code, by number, and the live ones by name
-pub record Matches {F : Type 0} (is : List model.Instance) (cs : List (Instance F)) (live : Numbers) : Type 0 where
+pub record Matches {F : Type 0} (is : List model.Instance) (cs : List (Instance F))
+    (live : Numbers) : Type 0 where
   pub count : length is ≡ length cs
   pub orderly : Orderly is
   pub by_number : (k : ℕ) → BothOrNone (numbered is k) (kept_at cs k)
@@ -66,7 +68,9 @@ pub record StandsFor {F : Type 0} (r : Runtime) (p : Page F) : Type 0 where
 
 -- nothing of the runtime differs but its instances, bags, unsent invalidations and closures
 abbrev pub StaysElsewhere : Runtime → Runtime → Type 0
-StaysElsewhere r after = after ≡ record r { instances = after.instances; bags = after.bags; unsent = after.unsent; shelf = after.shelf }
+StaysElsewhere r after =
+    after ≡ record r
+    { instances = after.instances; bags = after.bags; unsent = after.unsent; shelf = after.shelf }
 
 -- the name of the instance at a place
 abbrev pub name_at : {F : Type 0} → Page F → ℕ → Option Name
@@ -74,7 +78,8 @@ name_at p place = option_map (λ c. c.name) (slice_get p.instances.items place)
 
 -- For every runtime that the page stood for it stands for what the deed makes of it, and the lines
 -- are those of what the deed tells. The client's number and the names of instances stay.
-pub record Follows {F : Type 0} (deed : Runtime → Did) (before after : Page F) (told tells : List OutLine) : Type 0 where
+pub record Follows {F : Type 0} (deed : Runtime → Did) (before after : Page F)
+    (told tells : List OutLine) : Type 0 where
   pub client : after.client ≡ before.client
   pub names : (place : ℕ) (n : Name) → name_at before place ≡ Some n → name_at after place ≡ Some n
   pub stands : (r : Runtime) → StandsFor r before → StandsFor (deed r).0 after

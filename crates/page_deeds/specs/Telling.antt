@@ -47,8 +47,12 @@ deps_at p place = deps_in (slice_get p.instances.items place)
 -- the held callbacks on dependencies, so many as were passed already.
 abbrev pub listing_from : Name → ℕ → ℕ → List Handler → List ℕ
 listing_from n k passed [] = []
-listing_from n k zero (h ∷ hs) = if accepts_some h then (if has h.deps n then k ∷ listing_from n (suc k) zero hs else listing_from n (suc k) zero hs) else listing_from n (suc k) zero hs
-listing_from n k (suc passed) (h ∷ hs) = if accepts_some h then listing_from n (suc k) passed hs else listing_from n (suc k) (suc passed) hs
+listing_from n k zero (h ∷ hs) =
+    if accepts_some h
+    then (if has h.deps n then k ∷ listing_from n (suc k) zero hs else listing_from n (suc k) zero hs)
+    else listing_from n (suc k) zero hs
+listing_from n k (suc passed) (h ∷ hs) = if accepts_some h then listing_from n (suc k) passed hs
+    else listing_from n (suc k) (suc passed) hs
 
 -- those of an instance
 abbrev pub listing_of : Name → ℕ → Option model.Instance → List ℕ
@@ -57,8 +61,13 @@ listing_of n passed (Some i) = listing_from n 0 passed i.handlers
 
 -- the callbacks of the instance at a place that list the name are run, without the first so many
 abbrev pub run_listing : Name → Given → ℕ → ℕ → Runtime → Did
-run_listing n given passed place r = for_each (λ spot r. run_of module_language Dep (arguments_in n given) (numbered r.instances (suc place)) spot r) (listing_of n passed (numbered r.instances (suc place))) r
+run_listing n given passed place r =
+    for_each
+    (λ spot r. run_of module_language Dep (arguments_in n given) (numbered r.instances (suc place)) spot r)
+    (listing_of n passed (numbered r.instances (suc place))) r
 
 -- a deed of the code is the beginning of one of the model, of which the rest is left
-abbrev pub Begins : {F : Type 0} → (whole rest : Runtime → Did) → (before after : Page F) → (told tells : List OutLine) → Type 0
-Begins whole rest before after told tells = (z : Page _) (more : List OutLine) → Follows rest after z tells more → Follows whole before z told more
+abbrev pub Begins : {F : Type 0} → (whole rest : Runtime → Did) → (before after : Page F)
+    → (told tells : List OutLine) → Type 0
+Begins whole rest before after told tells = (z : Page _) (more : List OutLine)
+    → Follows rest after z tells more → Follows whole before z told more

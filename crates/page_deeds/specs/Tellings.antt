@@ -43,4 +43,5 @@ abbrev pub AreTold : Plan → Runtime → List Told → List (Name × Name) → 
 AreTold p r [] [] = ⊤
 AreTold p r [] (pair ∷ pairs) = ⊥
 AreTold p r (t ∷ rows) [] = ⊥
-AreTold p r (t ∷ rows) (pair ∷ pairs) = ((now : Runtime) → told t now ≡ tell_boundary module_language p r pair now) × AreTold p r rows pairs
+AreTold p r (t ∷ rows) (pair ∷ pairs) =
+    ((now : Runtime) → told t now ≡ tell_boundary module_language p r pair now) × AreTold p r rows pairs

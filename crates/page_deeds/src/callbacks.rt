@@ -62,13 +62,15 @@ impl<F: FnOnce(Bag) -> Result<Ran, AllocError> + Drop> Page<F> {
     ) -> Result<(), AllocError>
         requires place { place < length self.old.instances.items }
         requires turn { turn < length (deps_at self.old place) }
-        requires lists { (d : Dep) → slice_get (deps_at self.old place) turn ≡ Some d → has d.deps name.now ≡ true }
+        requires lists { (d : Dep) → slice_get (deps_at self.old place) turn ≡ Some d
+            → has d.deps name.now ≡ true }
         requires words { KeepWords F.post self.old }
         ensures count { OnOk result (length self.new.instances.items ≡ length self.old.instances.items) }
         ensures words { OnOk result (KeepWords F.post self.new) }
         ensures deps { OnOk result (deps_at self.new place ≡ deps_at self.old place) }
         ensures runs { OnOk result (Begins (run_listing name.now given.now turn place)
-            (run_listing name.now given.now (suc turn) place) self.old self.new lines.old.items lines.new.items) }
+            (run_listing name.now given.now (suc turn) place)
+            self.old self.new lines.old.items lines.new.items) }
     {
         let imports = imports_in(alloc, &self.instances, &self.instances[place])?;
         let deps = self.callback(place, turn).deps.as_slice();
@@ -99,7 +101,8 @@ impl<F: FnOnce(Bag) -> Result<Ran, AllocError> + Drop> Page<F> {
         ensures words { OnOk result (KeepWords F.post self.new) }
         ensures deps { OnOk result (deps_at self.new place ≡ deps_at self.old place) }
         ensures runs { OnOk result (Begins (run_listing name.now given.now turn place)
-            (run_listing name.now given.now (suc turn) place) self.old self.new lines.old.items lines.new.items) }
+            (run_listing name.now given.now (suc turn) place)
+            self.old self.new lines.old.items lines.new.items) }
     {
         if lists(self.callback(place, turn).deps.as_slice(), name) {
             self.run_callback(alloc, place, turn, name, given, lines)?;
@@ -121,7 +124,8 @@ impl<F: FnOnce(Bag) -> Result<Ran, AllocError> + Drop> Page<F> {
         ensures count { OnOk result (length self.new.instances.items ≡ length self.old.instances.items) }
         ensures words { OnOk result (KeepWords F.post self.new) }
         ensures follows { OnOk result (Follows
-            (run_each module_language fault_place.Dep (arguments_in name.now given.now) (accepts_dep name.now) (suc place))
+            (run_each module_language fault_place.Dep (arguments_in name.now given.now)
+            (accepts_dep name.now) (suc place))
             self.old self.new lines.old.items lines.new.items) }
     {
         for turn in 0..self.callback_count(place) {

@@ -77,11 +77,13 @@ impl<F: FnOnce(Bag) -> Result<Ran, AllocError> + Drop> Page<F> {
         requires room { length self.old.instances.items + 1 < 2 ^ 32 }
         requires callable { (f : F) → F.IsAlwaysCallable f }
         requires words { KeepWords F.post self.old }
-        ensures count { OnOk result (length self.new.instances.items ≡ suc (length self.old.instances.items)) }
+        ensures count { OnOk result
+            (length self.new.instances.items ≡ suc (length self.old.instances.items)) }
         ensures words { OnOk result (KeepWords F.post self.new) }
         ensures live { OnOk result (HasNumber birth.name (Some (suc (length self.old.instances.items)))
             self.old.live self.new.live) }
-        ensures follows { (b : model.Birth) → IsBirth b birth self.old → number_of self.old.live birth.name ≡ None
+        ensures follows { (b : model.Birth) → IsBirth b birth self.old
+            → number_of self.old.live birth.name ≡ None
             → OnOk result (Follows (make module_language b)
             self.old self.new lines.old.items lines.new.items) }
     {
@@ -105,11 +107,13 @@ impl<F: FnOnce(Bag) -> Result<Ran, AllocError> + Drop> Page<F> {
         requires room { length self.old.instances.items + 1 < 2 ^ 32 }
         requires bindings { map binding_of bindings ≡ bound_in birth.name (module_of birth.tree) }
         requires words { KeepWords F.post self.old }
-        ensures count { OnOk result (length self.new.instances.items ≡ suc (length self.old.instances.items)) }
+        ensures count { OnOk result
+            (length self.new.instances.items ≡ suc (length self.old.instances.items)) }
         ensures words { OnOk result (KeepWords F.post self.new) }
         ensures live { OnOk result (HasNumber birth.name (Some (suc (length self.old.instances.items)))
             self.old.live self.new.live) }
-        ensures follows { (b : model.Birth) → IsBirth b birth self.old → number_of self.old.live birth.name ≡ None
+        ensures follows { (b : model.Birth) → IsBirth b birth self.old
+            → number_of self.old.live birth.name ≡ None
             → OnOk result (Follows (make_unrun b) self.old self.new lines.old.items lines.new.items) }
     {
         lines.push(OutLine::Unrun {
@@ -132,11 +136,13 @@ impl<F: FnOnce(Bag) -> Result<Ran, AllocError> + Drop> Page<F> {
         requires room { length self.old.instances.items + 1 < 2 ^ 32 }
         requires bindings { map binding_of bindings ≡ bound_in birth.name (module_of birth.tree) }
         requires words { KeepWords F.post self.old }
-        ensures count { OnOk result (length self.new.instances.items ≡ suc (length self.old.instances.items)) }
+        ensures count { OnOk result
+            (length self.new.instances.items ≡ suc (length self.old.instances.items)) }
         ensures words { OnOk result (KeepWords F.post self.new) }
         ensures live { OnOk result (HasNumber birth.name (Some (suc (length self.old.instances.items)))
             self.old.live self.new.live) }
-        ensures follows { (b : model.Birth) → IsBirth b birth self.old → number_of self.old.live birth.name ≡ None
+        ensures follows { (b : model.Birth) → IsBirth b birth self.old
+            → number_of self.old.live birth.name ≡ None
             → OnOk result (Follows (make_run module_language b)
             self.old self.new lines.old.items lines.new.items) }
     {

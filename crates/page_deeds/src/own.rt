@@ -53,13 +53,15 @@ impl<F: FnOnce(Bag) -> Result<Ran, AllocError> + Drop> Page<F> {
         requires words { KeepWords F.post self.old }
         ensures count { OnOk result (length self.new.instances.items ≡ length self.old.instances.items) }
         ensures words { OnOk result (KeepWords F.post self.new) }
-        ensures fewer { IfOk result (λ more. more ≡ true → own_left self.new place < own_left self.old place) }
+        ensures fewer { IfOk result
+            (λ more. more ≡ true → own_left self.new place < own_left self.old place) }
         ensures none { IfOk result (λ more. more ≡ false
             → Follows (run_own module_language (Some (suc place)) name.now)
             self.old self.new lines.old.items lines.new.items) }
         ensures one { IfOk result (λ more. more ≡ true → (z : page.Page F) (tells : List line.OutLine)
             → Follows (run_own module_language (Some (suc place)) name.now) self.new z lines.new.items tells
-            → Follows (run_own module_language (Some (suc place)) name.now) self.old z lines.old.items tells) }
+            → Follows
+            (run_own module_language (Some (suc place)) name.now) self.old z lines.old.items tells) }
     {
         let imports = imports_in(alloc, &self.instances, &self.instances[place])?;
         let mods = self.own_arguments(alloc, name)?;

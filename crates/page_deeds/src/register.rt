@@ -88,7 +88,8 @@ impl<F: FnOnce(Bag) -> Result<Ran, AllocError> + Drop> Page<F> {
         requires words { KeepWords F.post self.old }
         ensures words { OnOk result (KeepWords F.post self.new) }
         ensures registers { (lines : _) → OnOk result (Registers name.now
-            (record { kind = kind; deps = meant name.now deps; what = syntax.code (handler_of code) } ∷ []) place
+            (record { kind = kind; deps = meant name.now deps; what = syntax.code (handler_of code) } ∷ [])
+            place
             self.old self.new lines lines) }
     {
         match kind {

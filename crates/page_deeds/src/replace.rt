@@ -1,6 +1,7 @@
 // Instances are replaced: of each its disposer is run, and its other handlers are dropped, but for the
 // callbacks on the module itself, which are set aside for the new instance.
-ghost use Rattle.std.specs.Prelude.{◌≡◌, ◌<◌, ℕ, suc, true, is_some, Bool, Option, Some, None, length, IfOk, OnOk};
+ghost use Rattle.std.specs.Prelude.{◌≡◌, ◌<◌};
+ghost use Rattle.std.specs.Prelude.{ℕ, suc, true, is_some, Bool, Option, Some, None, length, IfOk, OnOk};
 ghost use Rattle.std.specs.List.{All};
 ghost use Rattle.core_model.specs.Names.{Name, has};
 ghost use Rattle.client_model.specs.Applying.{live_of, replace_instance};
@@ -98,10 +99,10 @@ impl<F: FnOnce(Bag) -> Result<Ran, AllocError> + Drop> Page<F> {
 
     /// The live instances of these names are replaced, the latest first, each by the instance of the number
     /// that its name gets. Adds their lines, and answers the places of those that were replaced, in that
-    /// order: their callbacks on themselves stay set aside there, until `drop_all`. None is live under one of
-    /// the names then, nor under a name under which none was before. Only want of memory
-    /// refuses; the page is then of no more use. It takes time in proportion to the number of instances and
-    /// to what the disposers do.
+    /// order: their callbacks on themselves stay set aside there, until `drop_all`. None is live under one
+    /// of the names then, nor under a name under which none was before. Only want of memory refuses; the
+    /// page is then of no more use. It takes time in proportion to the number of instances and to what the
+    /// disposers do.
     pub fn replace_all(
         &mut self,
         alloc: Global,
@@ -116,13 +117,15 @@ impl<F: FnOnce(Bag) -> Result<Ran, AllocError> + Drop> Page<F> {
         ensures words { OnOk result (KeepWords F.post self.new) }
         ensures follows { (number : Runtime → Name → Option ℕ) (test : Runtime → Name → Bool)
             → IsReplacing replaced numbers.now self.old number test
-            → OnOk result (Follows (λ r. for_each (replace_instance module_language (number r)) (live_of (test r) r) r)
+            → OnOk result
+            (Follows (λ r. for_each (replace_instance module_language (number r)) (live_of (test r) r) r)
             self.old self.new lines.old.items lines.new.items) }
         ensures gone { (r : Runtime) → StandsFor r self.old → (n : Name) → has replaced n ≡ true
             → OnOk result (number_of self.new.live n ≡ None) }
         ensures fewer { (r : Runtime) → StandsFor r self.old → (n : Name) → number_of self.old.live n ≡ None
             → OnOk result (number_of self.new.live n ≡ None) }
-        ensures within { IfOk result (λ places. All (λ k. k < length self.old.instances.items) places.items) }
+        ensures within { IfOk result
+            (λ places. All (λ k. k < length self.old.instances.items) places.items) }
         ensures places { (r : Runtime) → StandsFor r self.old
             → IfOk result (λ places. StandAt self.old places.items (live_of (has replaced) r)) }
     {

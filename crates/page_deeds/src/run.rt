@@ -29,7 +29,8 @@ impl<F: FnOnce(Bag) -> Result<Ran, AllocError> + Drop> Page<F> {
         requires words { KeepWords F.post self.old }
         ensures count { OnOk result (length self.new.instances.items ≡ length self.old.instances.items) }
         ensures words { OnOk result (KeepWords F.post self.new) }
-        ensures follows { OnOk result (Follows (run_each module_language Dispose no_arguments disposes (suc place))
+        ensures follows { OnOk result
+            (Follows (run_each module_language Dispose no_arguments disposes (suc place))
             self.old self.new lines.old.items lines.new.items) }
     {
         let imports = imports_in(alloc, &self.instances, &self.instances[place])?;
@@ -58,7 +59,8 @@ impl<F: FnOnce(Bag) -> Result<Ran, AllocError> + Drop> Page<F> {
         requires words { KeepWords F.post self.old }
         ensures count { OnOk result (length self.new.instances.items ≡ length self.old.instances.items) }
         ensures words { OnOk result (KeepWords F.post self.new) }
-        ensures follows { OnOk result (Follows (run_each module_language Prune no_arguments prunes (suc place))
+        ensures follows { OnOk result
+            (Follows (run_each module_language Prune no_arguments prunes (suc place))
             self.old self.new lines.old.items lines.new.items) }
     {
         let imports = imports_in(alloc, &self.instances, &self.instances[place])?;

@@ -19,7 +19,8 @@ fn add_invalidations(
     version: Ver,
     messages: &[Text],
 ) -> Result<(), AllocError>
-    ensures { OnOk result (unsent.new.items ≡ unsent.old.items ++ invalidated name.now version messages.now) }
+    ensures { OnOk result
+        (unsent.new.items ≡ unsent.old.items ++ invalidated name.now version messages.now) }
 {
     for message in messages {
         unsent.push(Invalidation {
@@ -64,7 +65,8 @@ impl<F: Drop> Page<F> {
         lines: &mut Vec<OutLine>,
     ) -> Result<(), AllocError>
         requires place { place < length self.old.instances.items }
-        ensures { OnOk result (Settles at (left_by ran) place self.old self.new lines.old.items lines.new.items) }
+        ensures { OnOk result
+            (Settles at (left_by ran) place self.old self.new lines.old.items lines.new.items) }
     {
         let Ran {
             fault,

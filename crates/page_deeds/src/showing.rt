@@ -8,7 +8,8 @@ ghost use Rattle.client_model.specs.Runtime.{Runtime};
 ghost use Rattle.client_model.specs.Stale.{same_link};
 ghost use Rattle.page_deeds.specs.Live.{number_of};
 ghost use Rattle.page_deeds.specs.Settling.{live_in};
-ghost use Rattle.page_deeds.specs.Showing.{apart, lines_upto, link_by, stale_among, values_among, values_kept, values_under};
+ghost use Rattle.page_deeds.specs.Showing.{apart, lines_upto, link_by, stale_among, values_among};
+ghost use Rattle.page_deeds.specs.Showing.{values_kept, values_under};
 ghost use Rattle.page_deeds.specs.Standing.{StandsFor};
 
 use crate::live::LiveNumbers;
@@ -53,7 +54,8 @@ fn tell_apart(
     importer: &ModName,
     imports: &[ModName],
 ) -> Result<(), AllocError>
-    ensures { OnOk result (edges.new.items ≡ edges.old.items ++ apart links.now live.now importer.now imports.now) }
+    ensures { OnOk result
+        (edges.new.items ≡ edges.old.items ++ apart links.now live.now importer.now imports.now) }
 {
     for import in imports {
         if !same_link(links.get(import), live.get(import)) {
@@ -66,7 +68,8 @@ fn tell_apart(
 impl<F> Page<F> {
     /// Adds the lines of what the exports of the live module of a name hold, where there is one.
     fn tell_live(&self, lines: &mut Vec<OutLine>, name: &ModName) -> Result<(), AllocError>
-        ensures { OnOk result (lines.new.items ≡ lines.old.items ++ values_under name.now (live_in self.now name.now)) }
+        ensures { OnOk result
+            (lines.new.items ≡ lines.old.items ++ values_under name.now (live_in self.now name.now)) }
     {
         match self.live_instance(name) {
             Some(instance) => tell_values(lines, name, instance),
@@ -102,7 +105,8 @@ impl<F> Page<F> {
 
     /// The numbers of the links of the live module of a name, by name; none where none is live.
     fn links_of(&self, alloc: Global, name: &ModName) -> Result<LiveNumbers, AllocError>
-        ensures { IfOk result (λ numbers. (x : Name) → number_of numbers x ≡ link_by (live_in self.now name.now) x) }
+        ensures { IfOk result
+            (λ numbers. (x : Name) → number_of numbers x ≡ link_by (live_in self.now name.now) x) }
     {
         match self.live_instance(name) {
             Some(instance) => by_name(alloc, instance.links.as_slice()),

@@ -19,7 +19,8 @@ impl<F: FnOnce(Bag) -> Result<Ran, AllocError> + Drop> Page<F> {
         requires { place < length self.old.instances.items }
         ensures count { length self.new.instances.items ≡ length self.old.instances.items }
         ensures words { KeepWords F.post self.old → KeepWords F.post self.new }
-        ensures follows { (lines : _) → Follows (drop_each is_left_behind (suc place)) self.old self.new lines lines }
+        ensures follows { (lines : _) → Follows
+            (drop_each is_left_behind (suc place)) self.old self.new lines lines }
     {
         self.instances[place].drop_left_behind();
     }
@@ -29,7 +30,8 @@ impl<F: FnOnce(Bag) -> Result<Ran, AllocError> + Drop> Page<F> {
         requires { place < length self.old.instances.items }
         ensures count { length self.new.instances.items ≡ length self.old.instances.items }
         ensures words { KeepWords F.post self.old → KeepWords F.post self.new }
-        ensures follows { (lines : _) → Follows (drop_each is_held (suc place)) self.old self.new lines lines }
+        ensures follows { (lines : _) → Follows
+            (drop_each is_held (suc place)) self.old self.new lines lines }
     {
         self.instances[place].drop_held();
     }

@@ -82,7 +82,8 @@ impl<F> Page<F> {
         is_forced: bool,
     ) -> Telling
         ensures within { is_within result (length self.now.instances.items) }
-        ensures told { (p : Plan) (r : Runtime) → StandsFor r self.now → has (new_names p r) name.now ≡ is_new
+        ensures told { (p : Plan) (r : Runtime) → StandsFor r self.now
+            → has (new_names p r) name.now ≡ is_new
             → has r.page.forced name.now ≡ is_forced → (now : Runtime)
             → told_by boundary.now name.now result now
             ≡ tell_boundary module_language p r (boundary.now, name.now) now }
@@ -112,7 +113,8 @@ impl<F> Page<F> {
     ) -> Result<Told, AllocError>
         ensures within { IfOk result (λ t. is_within t.telling (length self.now.instances.items)) }
         ensures told { (p : Plan) (r : Runtime) → StandsFor r self.now → IsAsKnown numbers.now forced.now p r
-            → (now : Runtime) → IfOk result (λ t. told t now ≡ tell_boundary module_language p r pair.now now) }
+            → (now : Runtime)
+            → IfOk result (λ t. told t now ≡ tell_boundary module_language p r pair.now now) }
     {
         let is_new = numbers.get(&pair.1).is_some();
         let is_forced = forced.has(&pair.1);

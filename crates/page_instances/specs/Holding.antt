@@ -13,4 +13,5 @@ held_handler k deps deed = record { kind = k; deps = deps; deed = deed; end = He
 
 -- the instance with one handler more, and with what that displaces dropped
 abbrev pub with_held : HandlerKind → List Name → Deed → model.Instance → model.Instance
-with_held k deps deed i = record i { handlers = with_dropped (is_displaced_by k) i.handlers ++ held_handler k deps deed ∷ [] }
+with_held k deps deed i =
+    record i { handlers = with_dropped (is_displaced_by k) i.handlers ++ held_handler k deps deed ∷ [] }

@@ -25,7 +25,8 @@ slot_by (Some k) instances x = slot_in (kept_at instances k) x
 
 -- what these names of imports hold now
 abbrev pub bound_slots : {F : Type 0} → List (Instance F) → List (Name × ℕ) → List Bound → Slots
-bound_slots instances links bounds = map (λ b. (b.local, slot_by (at links b.dependency) instances b.exported)) bounds
+bound_slots instances links bounds =
+    map (λ b. (b.local, slot_by (at links b.dependency) instances b.exported)) bounds
 
 -- what the code of an instance reads: its own variables, and its imports
 abbrev pub scope_in : {F : Type 0} → List (Instance F) → Instance F → Slots

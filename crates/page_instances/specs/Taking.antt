@@ -9,7 +9,8 @@ use Rattle.page_instances.specs.declared.instance.Instance.{Instance}
 use Rattle.page_instances.specs.Seeing.{Sees, deed_in}
 
 -- this handler was the first that passes the test: where it stood, and what is left
-pub record TakenOff {F : Type 0} (test : model.Handler → Bool) (h : Handler F) (i : model.Instance) (after : Instance F) : Type 0 where
+pub record TakenOff {F : Type 0} (test : model.Handler → Bool) (h : Handler F) (i : model.Instance)
+    (after : Instance F) : Type 0 where
   pub spot : ℕ
   pub handler : model.Handler
   pub there : slice_get i.handlers spot ≡ Some handler
@@ -19,6 +20,7 @@ pub record TakenOff {F : Type 0} (test : model.Handler → Bool) (h : Handler F)
   pub sees : Sees (record i { handlers = with_end spot Spent i.handlers }) after
 
 -- no handler passes the test, and nothing has changed
-pub record Lacks {F : Type 0} (test : model.Handler → Bool) (i : model.Instance) (after : Instance F) : Type 0 where
+pub record Lacks {F : Type 0} (test : model.Handler → Bool) (i : model.Instance)
+    (after : Instance F) : Type 0 where
   pub places : places_from 0 test i.handlers ≡ []
   pub sees : Sees i after

@@ -31,8 +31,10 @@ impl<F: FnOnce(Bag) -> Result<Ran, AllocError> + Drop> Instance<F> {
         requires word { KeepsItsWord F.post handler }
         ensures sees { (deps : List Name) (i : model.Instance) → Sees i self.old
             → OnOk result (Sees (with_held kind.Dispose deps (deed_in handler) i) self.new) }
-        ensures word { KeepTheirWord F.post self.old.held → OnOk result (KeepTheirWord F.post self.new.held) }
-        ensures rest { OnOk result (self.new ≡ record self.old { marks = self.new.marks; held = self.new.held }) }
+        ensures word { KeepTheirWord F.post self.old.held
+            → OnOk result (KeepTheirWord F.post self.new.held) }
+        ensures rest { OnOk result
+            (self.new ≡ record self.old { marks = self.new.marks; held = self.new.held }) }
     {
         tables_keep_their_word::<F>();
         drop_marks(&mut self.marks, Those::Kind(HandlerKind::Dispose));
@@ -51,8 +53,10 @@ impl<F: FnOnce(Bag) -> Result<Ran, AllocError> + Drop> Instance<F> {
         requires word { KeepsItsWord F.post handler }
         ensures sees { (deps : List Name) (i : model.Instance) → Sees i self.old
             → OnOk result (Sees (with_held kind.Prune deps (deed_in handler) i) self.new) }
-        ensures word { KeepTheirWord F.post self.old.held → OnOk result (KeepTheirWord F.post self.new.held) }
-        ensures rest { OnOk result (self.new ≡ record self.old { marks = self.new.marks; held = self.new.held }) }
+        ensures word { KeepTheirWord F.post self.old.held
+            → OnOk result (KeepTheirWord F.post self.new.held) }
+        ensures rest { OnOk result
+            (self.new ≡ record self.old { marks = self.new.marks; held = self.new.held }) }
     {
         tables_keep_their_word::<F>();
         drop_marks(&mut self.marks, Those::Kind(HandlerKind::Prune));
@@ -71,8 +75,10 @@ impl<F: FnOnce(Bag) -> Result<Ran, AllocError> + Drop> Instance<F> {
         requires word { KeepsItsWord F.post handler }
         ensures sees { (deps : List Name) (i : model.Instance) → Sees i self.old
             → OnOk result (Sees (with_held kind.Own deps (deed_in handler) i) self.new) }
-        ensures word { KeepTheirWord F.post self.old.held → OnOk result (KeepTheirWord F.post self.new.held) }
-        ensures rest { OnOk result (self.new ≡ record self.old { marks = self.new.marks; held = self.new.held }) }
+        ensures word { KeepTheirWord F.post self.old.held
+            → OnOk result (KeepTheirWord F.post self.new.held) }
+        ensures rest { OnOk result
+            (self.new ≡ record self.old { marks = self.new.marks; held = self.new.held }) }
     {
         tables_keep_their_word::<F>();
         if let Err(e) = add_mark(&mut self.marks, HandlerKind::Own, handled) {
@@ -99,8 +105,10 @@ impl<F: FnOnce(Bag) -> Result<Ran, AllocError> + Drop> Instance<F> {
         requires word { KeepsItsWord F.post handler }
         ensures sees { (deps : List Name) (i : model.Instance) → Sees i self.old
             → OnOk result (Sees (with_held kind deps (deed_in handler) i) self.new) }
-        ensures word { KeepTheirWord F.post self.old.held → OnOk result (KeepTheirWord F.post self.new.held) }
-        ensures rest { OnOk result (self.new ≡ record self.old { marks = self.new.marks; held = self.new.held }) }
+        ensures word { KeepTheirWord F.post self.old.held
+            → OnOk result (KeepTheirWord F.post self.new.held) }
+        ensures rest { OnOk result
+            (self.new ≡ record self.old { marks = self.new.marks; held = self.new.held }) }
     {
         match kind {
             HandlerKind::Dispose => self.hold_disposer(handler, handled),
@@ -115,8 +123,10 @@ impl<F: FnOnce(Bag) -> Result<Ran, AllocError> + Drop> Instance<F> {
     pub fn add_dep(&mut self, deps: Vec<ModName>, what: HandlerCode) -> Result<(), AllocError>
         ensures sees { (i : model.Instance) → Sees i self.old
             → OnOk result (Sees (with_held kind.Dep deps.items (code (handler_of what)) i) self.new) }
-        ensures word { KeepTheirWord F.post self.old.held → OnOk result (KeepTheirWord F.post self.new.held) }
-        ensures rest { OnOk result (self.new ≡ record self.old { marks = self.new.marks; held = self.new.held }) }
+        ensures word { KeepTheirWord F.post self.old.held
+            → OnOk result (KeepTheirWord F.post self.new.held) }
+        ensures rest { OnOk result
+            (self.new ≡ record self.old { marks = self.new.marks; held = self.new.held }) }
     {
         tables_keep_their_word::<F>();
         add_mark(&mut self.marks, HandlerKind::Dep, Handled::Code)?;

@@ -52,7 +52,8 @@ impl<F> Instance<F> {
         status: InstanceStatus,
         values: Vec<(Name, Slot)>,
     ) -> Self
-        ensures sees { (b : Birth) → b.name ≡ name → b.entry.version ≡ version → b.entry.analysis.exports ≡ exports
+        ensures sees { (b : Birth) → b.name ≡ name → b.entry.version ≡ version
+            → b.entry.analysis.exports ≡ exports
             → b.links ≡ links → module_language.bindings b.name b.text ≡ map binding_of bindings
             → Sees (born b status values.items []) result }
         ensures name { result.name ≡ name }

@@ -84,7 +84,8 @@ pub fn add_mark(
     kind: HandlerKind,
     handled: Handled,
 ) -> Result<(), AllocError>
-    ensures { OnOk result (marks.new.items ≡ marks.old.items ++ record { kind = kind; handled = handled; end = Held } ∷ []) }
+    ensures { OnOk result
+        (marks.new.items ≡ marks.old.items ++ record { kind = kind; handled = handled; end = Held } ∷ []) }
 {
     marks.push(Mark {
         kind,

@@ -58,7 +58,8 @@ fn add_bound<F>(
     links: &[(ModName, u32)],
     bounds: &[Bound],
 ) -> Result<(), AllocError>
-    ensures { OnOk result (vars.new.items ≡ vars.old.items ++ bound_slots instances.now links.now bounds.now) }
+    ensures { OnOk result
+        (vars.new.items ≡ vars.old.items ++ bound_slots instances.now links.now bounds.now) }
 {
     for bound in bounds {
         let slot = slot_by(
@@ -96,7 +97,8 @@ pub fn imports_in<F>(
     instances: &[Instance<F>],
     instance: &Instance<F>,
 ) -> Result<Env, AllocError>
-    ensures { IfOk result (λ env. env.vars ≡ bound_slots instances.now instance.now.links instance.now.bindings) }
+    ensures { IfOk result
+        (λ env. env.vars ≡ bound_slots instances.now instance.now.links instance.now.bindings) }
 {
     let links = instance.links.as_slice();
     let bindings = instance.bindings.as_slice();

@@ -17,7 +17,8 @@ fn tell_each(
     values: &[(Name, Slot)],
     exports: &[Name],
 ) -> Result<(), AllocError>
-    ensures { OnOk result (lines.new.items ≡ lines.old.items ++ export_lines name.now values.now exports.now) }
+    ensures { OnOk result
+        (lines.new.items ≡ lines.old.items ++ export_lines name.now values.now exports.now) }
 {
     for export in exports {
         lines.push(OutLine::Value {
@@ -64,7 +65,8 @@ fn tell_one<F>(
     instance: &Instance<F>,
 ) -> Result<(), AllocError>
     ensures { OnOk result (lines.new.items ≡ lines.old.items
-        ++ line.Instance number instance.now.name instance.now.version instance.now.status instance.now.fate ∷ []) }
+        ++ line.Instance number instance.now.name instance.now.version instance.now.status instance.now.fate
+        ∷ []) }
 {
     lines.push(OutLine::Instance {
         number,

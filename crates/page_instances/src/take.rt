@@ -18,7 +18,8 @@ use std::alloc::AllocError;
 impl<F: FnOnce(Bag) -> Result<Ran, AllocError> + Drop> Instance<F> {
     /// Hands out the disposer; then none is held. It takes no memory.
     pub fn take_disposer(&mut self) -> Option<Handler<F>>
-        ensures some { IfSome result (λ h. (i : model.Instance) → Sees i self.old → TakenOff disposes h i self.new) }
+        ensures some { IfSome result
+            (λ h. (i : model.Instance) → Sees i self.old → TakenOff disposes h i self.new) }
         ensures none { IfNone result ((i : model.Instance) → Sees i self.old → Lacks disposes i self.new) }
         ensures word { KeepTheirWord F.post self.old.held → IfSome result (KeepsItsWord F.post) }
         ensures left { KeepTheirWord F.post self.old.held → KeepTheirWord F.post self.new.held }
@@ -37,7 +38,8 @@ impl<F: FnOnce(Bag) -> Result<Ran, AllocError> + Drop> Instance<F> {
 
     /// Hands out the prune handler; then none is held. It takes no memory.
     pub fn take_prune(&mut self) -> Option<Handler<F>>
-        ensures some { IfSome result (λ h. (i : model.Instance) → Sees i self.old → TakenOff prunes h i self.new) }
+        ensures some { IfSome result
+            (λ h. (i : model.Instance) → Sees i self.old → TakenOff prunes h i self.new) }
         ensures none { IfNone result ((i : model.Instance) → Sees i self.old → Lacks prunes i self.new) }
         ensures word { KeepTheirWord F.post self.old.held → IfSome result (KeepsItsWord F.post) }
         ensures left { KeepTheirWord F.post self.old.held → KeepTheirWord F.post self.new.held }
@@ -57,8 +59,10 @@ impl<F: FnOnce(Bag) -> Result<Ran, AllocError> + Drop> Instance<F> {
     /// Hands out the earliest callback on the module itself: None exactly where none is held. It takes no
     /// memory.
     pub fn take_own(&mut self) -> Option<Handler<F>>
-        ensures some { IfSome result (λ h. (i : model.Instance) → Sees i self.old → TakenOff accepts_own h i self.new) }
-        ensures none { IfNone result ((i : model.Instance) → Sees i self.old → Lacks accepts_own i self.new) }
+        ensures some { IfSome result
+            (λ h. (i : model.Instance) → Sees i self.old → TakenOff accepts_own h i self.new) }
+        ensures none { IfNone result
+            ((i : model.Instance) → Sees i self.old → Lacks accepts_own i self.new) }
         ensures word { KeepTheirWord F.post self.old.held → IfSome result (KeepsItsWord F.post) }
         ensures left { KeepTheirWord F.post self.old.held → KeepTheirWord F.post self.new.held }
         ensures earliest { result ≡ slice_get self.old.held.own 0 }

@@ -1,5 +1,6 @@
 -- The script that is made of a number of modules and a seed.
-use Rattle.std.specs.Prelude.{ℕ, zero, suc, ◌+◌, ◌*◌, ◌/◌, ◌%◌, ◌==◌, nat_lt, if◌then◌else◌, List, [], ◌∷◌, ◌++◌, codes, decimal}
+use Rattle.std.specs.Prelude.{◌+◌, ◌*◌, ◌/◌, ◌%◌, ◌==◌, [], ◌∷◌, ◌++◌}
+use Rattle.std.specs.Prelude.{ℕ, zero, suc, nat_lt, if◌then◌else◌, List, codes, decimal}
 use Rattle.std.specs.List.{flat_map}
 use Rattle.play_script.specs.Script.{Contents}
 use Rattle.play_script.specs.declared.script_line.ScriptLine.{ScriptLine}
@@ -28,7 +29,8 @@ children i = (4 * i + 1) ∷ (4 * i + 2) ∷ (4 * i + 3) ∷ (4 * i + 4) ∷ []
 
 -- the import of a module
 abbrev pub import_line : ℕ → List ℕ
-import_line c = codes "import { v as v" ++ decimal c ++ codes " } from \"./m" ++ decimal c ++ codes ".js\";\n"
+import_line c =
+    codes "import { v as v" ++ decimal c ++ codes " } from \"./m" ++ decimal c ++ codes ".js\";\n"
 
 -- the import of a module, where there are so many modules that it is one of them
 abbrev pub import_of : ℕ → ℕ → List ℕ

@@ -1,5 +1,6 @@
 -- The summary of the run of a generated script, read off the lines of the run.
-use Rattle.std.specs.Prelude.{ℕ, Bool, true, false, ◌&&◌, List, [], ◌∷◌, ◌++◌, codes, decimal, count_by, if◌then◌else◌}
+use Rattle.std.specs.Prelude.{◌&&◌, [], ◌∷◌, ◌++◌}
+use Rattle.std.specs.Prelude.{ℕ, Bool, true, false, List, codes, decimal, count_by, if◌then◌else◌}
 use Rattle.std.specs.List.{flat_map, list_any}
 use Rattle.hmr_types.specs.ModName.{is_text}
 use Rattle.hmr_types.specs.declared.words.PlanKind.TheVariants as plans
@@ -65,7 +66,8 @@ updates_text count updates = codes "modules " ++ decimal count ++ codes " update
 
 -- how many reloads were applied, and how many instances were made
 unfoldable pub reloads_text : ℕ → ℕ → List ℕ
-reloads_text reloads instances = codes "reloads " ++ decimal reloads ++ codes " instances " ++ decimal instances
+reloads_text reloads instances =
+    codes "reloads " ++ decimal reloads ++ codes " instances " ++ decimal instances
 
 -- the line
 abbrev pub summary_line : ℕ → ℕ → ℕ → ℕ → Bool → List ℕ

@@ -2,7 +2,8 @@
 // to four others.
 ghost use Rattle.std.specs.Prelude.{◌≡◌, ◌++◌, ◌<◌, IfOk, OnOk, string_bytes};
 ghost use Rattle.std.specs.List.{flat_map};
-ghost use Rattle.page_maker.specs.Making.{accept_line, children, import_line, import_of, module_name, module_text, value_line};
+ghost use Rattle.page_maker.specs.Making.{accept_line, children, import_line, import_of};
+ghost use Rattle.page_maker.specs.Making.{module_name, module_text, value_line};
 
 use hmr_types::{ModName, NameFault};
 use std::alloc::{AllocError, Global};

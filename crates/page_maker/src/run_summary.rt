@@ -1,7 +1,9 @@
 // The summary of the run of a generated script, read off the lines of the run.
 ghost use Rattle.std.specs.List.{list_any};
 ghost use Rattle.std.specs.Prelude.{◌≡◌, ◌++◌, IfOk, OnOk, count_by, string_bytes};
-ghost use Rattle.page_maker.specs.Summary.{answer, fresh_text, is_equal, is_fresh, is_module, is_reload, is_up, is_update, module_text, reloads_text, shown_text, summary, summary_line, table_text, updates_text};
+ghost use Rattle.page_maker.specs.Summary.{answer, fresh_text, is_equal, is_fresh, is_module, is_reload};
+ghost use Rattle.page_maker.specs.Summary.{is_up, is_update, module_text, reloads_text, shown_text, summary};
+ghost use Rattle.page_maker.specs.Summary.{summary_line, table_text, updates_text};
 
 use hmr_types::PlanKind;
 use output_lines::{ClientState, OutLine};

@@ -2,7 +2,8 @@
 ghost use Rattle.std.specs.List.{All};
 ghost use Rattle.std.specs.Prelude.{◌≡◌, ◌++◌, ◌∷◌, [], ◌≤◌, ◌<◌, ◌+◌, IfOk, OnOk};
 ghost use Rattle.play_script.specs.Asked.{HasFormat};
-ghost use Rattle.page_maker.specs.Making.{edit_of, ending, generated, made, module_name, next, opening, round, rounds, state_after};
+ghost use Rattle.page_maker.specs.Making.{edit_of, ending, generated, made, module_name};
+ghost use Rattle.page_maker.specs.Making.{next, opening, round, rounds, state_after};
 
 use crate::draws::Draws;
 use crate::module_text::{module_name, module_text};

@@ -1,6 +1,7 @@
 -- A plan's walk in steps: a list of tasks, the next first, and what the walk met and left so far. The
 -- walk stops where it comes to a module that isn't fetched, and goes on from there once it is.
-use Rattle.std.specs.Prelude.{◌≡◌, ℕ, zero, suc, true, List, [], ◌∷◌, ◌++◌, map, filter, Option, is_some, is_none, if◌then◌else◌}
+use Rattle.std.specs.Prelude.{◌≡◌, [], ◌∷◌, ◌++◌}
+use Rattle.std.specs.Prelude.{ℕ, zero, suc, true, List, map, filter, Option, is_some, is_none, if◌then◌else◌}
 use Rattle.page_plan.specs.declared.tasks.Task.{Task}
 use Rattle.page_plan.specs.declared.tasks.Task.TheVariants.{Visit, Leave}
 use Rattle.core_model.specs.Names.{Name, has, first_of}
@@ -24,7 +25,8 @@ meet next n tasks w = record { tasks = visits (next n) ++ Leave n ∷ tasks; wal
 -- the next task is done; a module that was met before is passed
 abbrev pub done_one : (Name → List Name) → List Task → Walked → Walking
 done_one next [] w = record { tasks = []; walked = w }
-done_one next (Visit n ∷ tasks) w = if has w.met n then record { tasks = tasks; walked = w } else meet next n tasks w
+done_one next (Visit n ∷ tasks) w = if has w.met n then record { tasks = tasks; walked = w }
+    else meet next n tasks w
 done_one next (Leave n ∷ tasks) w = record { tasks = tasks; walked = left_too n w }
 
 -- one task more is done

@@ -1,5 +1,6 @@
 // The new instances of a plan: which modules get one, and the number of each.
-ghost use Rattle.std.specs.Prelude.{◌≡◌, ◌+◌, ◌^◌, ◌<◌, filter, length, not, suc, Some, None, if◌then◌else◌, IfOk};
+ghost use Rattle.std.specs.Prelude.{◌≡◌, ◌+◌, ◌^◌, ◌<◌};
+ghost use Rattle.std.specs.Prelude.{filter, length, not, suc, Some, None, if◌then◌else◌, IfOk};
 ghost use Rattle.std.specs.Option.{option_or};
 ghost use Rattle.core_model.specs.Names.{Name, has};
 ghost use Rattle.page_plan.specs.Numbers.{new_number};
@@ -20,7 +21,8 @@ pub fn new_names(
     view: &View,
     order: &[ModName],
 ) -> Result<Vec<ModName>, AllocError>
-    ensures { IfOk result (λ names. names.items ≡ filter (λ n. not (is_kept plan.now view.now n)) order.now) }
+    ensures { IfOk result
+        (λ names. names.items ≡ filter (λ n. not (is_kept plan.now view.now n)) order.now) }
 {
     let mut names = Vec::new(alloc);
     for name in order {
@@ -60,7 +62,9 @@ impl Numbers {
     /// The numbers of the new instances of these names, where so many instances were made before.
     pub fn of(alloc: Global, made: u32, names: &[ModName]) -> Result<Numbers, AllocError>
         requires { made + length names.now < 2 ^ 32 }
-        ensures { (n : Name) → IfOk result (λ numbers. new_number numbers n ≡ (if has names.now n then Some (suc made + place_of names.now n) else None)) }
+        ensures { (n : Name) → IfOk result
+            (λ numbers. new_number numbers n
+            ≡ (if has names.now n then Some (suc made + place_of names.now n) else None)) }
     {
         let mut numbers = BTreeMap::new(alloc);
         let mut number = made;

@@ -34,7 +34,8 @@ fn told_and_kept(
     told: &[(ModName, Ver)],
     kept: &View,
 ) -> Result<Vec<ModName>, AllocError>
-    ensures { IfOk result (λ names. names.items ≡ sorted (names_of told.now ++ names_of (table_of kept.now))) }
+    ensures { IfOk result
+        (λ names. names.items ≡ sorted (names_of told.now ++ names_of (table_of kept.now))) }
 {
     let mut names = names_told(alloc, told)?;
     let mut more = kept.names(alloc)?;
@@ -55,7 +56,9 @@ fn names_told(alloc: Global, told: &[(ModName, Ver)]) -> Result<Vec<ModName>, Al
 
 // The first of these names that is told at another version than it is kept at.
 fn first_differing<'a>(told: &Told, kept: &View, names: &'a [ModName]) -> Option<&'a ModName>
-    ensures { option_map (λ n. n.now) result ≡ first_of (filter (λ n. not (version_at told.now n == version_at (table_of kept.now) n)) names.now) }
+    ensures { option_map (λ n. n.now) result
+        ≡ first_of
+        (filter (λ n. not (version_at told.now n == version_at (table_of kept.now) n)) names.now) }
 {
     for name in names {
         if told.version(name) != version_kept(kept, name) {

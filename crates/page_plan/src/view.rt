@@ -13,7 +13,8 @@ use std::alloc::{AllocError, Global};
 
 /// The first of these names that has no entry in the plan. It takes no memory.
 pub(crate) fn unfetched<'a>(plan: &Plan, view: &View, names: &'a [ModName]) -> Option<&'a ModName>
-    ensures { option_map (λ n. n.now) result ≡ first_of (filter (λ n. not (is_some (entry_at plan.now view.now n))) names.now) }
+    ensures { option_map (λ n. n.now) result
+        ≡ first_of (filter (λ n. not (is_some (entry_at plan.now view.now n))) names.now) }
 {
     for name in names {
         if plan.entry(view, name).is_none() {
@@ -31,7 +32,8 @@ pub fn made_view(
     view: &View,
     order: &[ModName],
 ) -> Result<View, AllocError>
-    ensures { (roots : List Name) → order.now ≡ evaluation_order roots plan.now view.now → IfOk result (λ made. made ≡ new_view roots plan.now view.now) }
+    ensures { (roots : List Name) → order.now ≡ evaluation_order roots plan.now view.now
+        → IfOk result (λ made. made ≡ new_view roots plan.now view.now) }
 {
     let names = copy_of(alloc, order)?;
     let met = rising(names)?;
@@ -47,7 +49,8 @@ pub(crate) fn new_view(
     view: &View,
     met: &[ModName],
 ) -> Result<View, AllocError>
-    ensures { (roots : List Name) → met.now ≡ sorted (met_of roots plan.now view.now) → IfOk result (λ made. made ≡ new_view roots plan.now view.now) }
+    ensures { (roots : List Name) → met.now ≡ sorted (met_of roots plan.now view.now)
+        → IfOk result (λ made. made ≡ new_view roots plan.now view.now) }
 {
     let set = NameSet::of(alloc, met)?;
     let names = all_names(alloc, met, view)?;
@@ -74,7 +77,8 @@ fn collect(
     names: &[ModName],
 ) -> Result<View, AllocError>
     requires { rising names.now ≡ true }
-    ensures { IfOk result (λ made. made ≡ collect (λ n. new_entry (has met.now n) plan.now view.now n) names.now) }
+    ensures { IfOk result
+        (λ made. made ≡ collect (λ n. new_entry (has met.now n) plan.now view.now n) names.now) }
 {
     let mut made = View::new(alloc);
     for name in names {
@@ -90,7 +94,10 @@ fn put_found(
     name: &ModName,
     entry: Option<(Ver, &Analysis)>,
 ) -> Result<(), AllocError>
-    ensures { OnOk result (made.new ≡ put_found name.now (option_map (λ found. record { version = found.0; analysis = found.1.now }) entry.entry) made.old) }
+    ensures { OnOk result
+        (made.new
+        ≡ put_found name.now
+        (option_map (λ found. record { version = found.0; analysis = found.1.now }) entry.entry) made.old) }
 {
     if let Some((version, analysis)) = entry {
         made.put(name.clone()?, version, analysis.clone()?)?;
@@ -105,7 +112,8 @@ fn new_entry<'a>(
     is_met: bool,
     name: &ModName,
 ) -> Option<(Ver, &'a Analysis)>
-    ensures { option_map (λ found. record { version = found.0; analysis = found.1.now }) result ≡ new_entry is_met plan.now view.now name.now }
+    ensures { option_map (λ found. record { version = found.0; analysis = found.1.now }) result
+        ≡ new_entry is_met plan.now view.now name.now }
 {
     if is_met {
         return plan.entry(view, name);

@@ -1,6 +1,7 @@
 // A plan's walk, depth first from the roots, each module once. The walk keeps a stack of tasks, so that
 // it stops where it comes to a module that isn't fetched, and goes on from there once it is.
-ghost use Rattle.std.specs.Prelude.{◌≡◌, ◌∷◌, ◌++◌, ◌+◌, ◌<◌, ◌||◌, [], List, false, length, reverse, not, IfNone, IfOk, OnOk, option_to_list};
+ghost use Rattle.std.specs.Prelude.{◌≡◌, ◌∷◌, ◌++◌, ◌+◌, ◌<◌, ◌||◌, []};
+ghost use Rattle.std.specs.Prelude.{List, false, length, reverse, not, IfNone, IfOk, OnOk, option_to_list};
 ghost use Rattle.core_model.specs.Names.{Name, has, same_name};
 ghost use Rattle.core_model.specs.Page.{Plan};
 ghost use Rattle.core_model.specs.View.{View};
@@ -53,9 +54,13 @@ impl Walker {
     /// proportion to the imports of the modules that it meets, and the logarithm of their number for
     /// each.
     pub fn go_on(&mut self, plan: &Plan, view: &View) -> Result<Option<ModName>, AllocError>
-        ensures at { (roots : List Name) → IsAt roots plan.now view.now self.old → OnOk result (IsAt roots plan.now view.now self.new) }
-        ensures needed { (roots : List Name) → IsAt roots plan.now view.now self.old → IfOk result (λ needed. needed ≡ needed_of roots plan.now view.now) }
-        ensures order { (roots : List Name) → IsAt roots plan.now view.now self.old → IfOk result (λ needed. IfNone needed (self.new.left ≡ evaluation_order roots plan.now view.now)) }
+        ensures at { (roots : List Name) → IsAt roots plan.now view.now self.old
+            → OnOk result (IsAt roots plan.now view.now self.new) }
+        ensures needed { (roots : List Name) → IsAt roots plan.now view.now self.old
+            → IfOk result (λ needed. needed ≡ needed_of roots plan.now view.now) }
+        ensures order { (roots : List Name) → IsAt roots plan.now view.now self.old
+            → IfOk result
+            (λ needed. IfNone needed (self.new.left ≡ evaluation_order roots plan.now view.now)) }
     {
         loop {
             match self.turn(plan, view)? {
@@ -82,8 +87,10 @@ impl Walker {
 
     // Does the next task.
     fn turn(&mut self, plan: &Plan, view: &View) -> Result<Turn, AllocError>
-        ensures at { (roots : List Name) → IsAt roots plan.now view.now self.old → OnOk result (IsAt roots plan.now view.now self.new) }
-        ensures told { (roots : List Name) → IsAt roots plan.now view.now self.old → IfOk result (IsTurn roots plan.now view.now self.new.left) }
+        ensures at { (roots : List Name) → IsAt roots plan.now view.now self.old
+            → OnOk result (IsAt roots plan.now view.now self.new) }
+        ensures told { (roots : List Name) → IsAt roots plan.now view.now self.old
+            → IfOk result (IsTurn roots plan.now view.now self.new.left) }
         ensures less { IfOk result (OnMore (room self.new < room self.old)) }
     {
         match pop_task(&mut self.tasks) {
@@ -98,9 +105,14 @@ impl Walker {
 
     // Visits a module.
     fn visit(&mut self, plan: &Plan, view: &View, name: ModName) -> Result<Turn, AllocError>
-        ensures at { (roots : List Name) → IsAt roots plan.now view.now (record self.old { tasks = Visit name ∷ self.old.tasks }) → OnOk result (IsAt roots plan.now view.now self.new) }
-        ensures told { (roots : List Name) → IsAt roots plan.now view.now (record self.old { tasks = Visit name ∷ self.old.tasks }) → IfOk result (IsTurn roots plan.now view.now self.new.left) }
-        ensures less { IfOk result (OnMore (room self.new < room (record self.old { tasks = Visit name ∷ self.old.tasks }))) }
+        ensures at { (roots : List Name) → IsAt roots plan.now view.now
+            (record self.old { tasks = Visit name ∷ self.old.tasks }) → OnOk result
+            (IsAt roots plan.now view.now self.new) }
+        ensures told { (roots : List Name) → IsAt roots plan.now view.now
+            (record self.old { tasks = Visit name ∷ self.old.tasks }) → IfOk result
+            (IsTurn roots plan.now view.now self.new.left) }
+        ensures less { IfOk result
+            (OnMore (room self.new < room (record self.old { tasks = Visit name ∷ self.old.tasks }))) }
     {
         if self.met.has(&name) {
             return Ok(Turn::More);
@@ -132,7 +144,8 @@ impl Walker {
         requires { has self.old.met name ≡ false }
         ensures tasks { OnOk result (self.new.tasks ≡ visits imports.now ++ Leave name ∷ self.old.tasks) }
         ensures left { OnOk result (self.new.left ≡ self.old.left) }
-        ensures met { (n : Name) → OnOk result (has self.new.met n ≡ (same_name name n || has self.old.met n)) }
+        ensures met { (n : Name) → OnOk result
+            (has self.new.met n ≡ (same_name name n || has self.old.met n)) }
         ensures less { OnOk result (room self.new < room self.old) }
     {
         let copy = copy_name(&name)?;

@@ -1,6 +1,7 @@
 -- What a plan makes new instances from and what it does with the old ones, against the plan of the
 -- definitions, and what it makes of a page.
-use Rattle.std.specs.Prelude.{◌≡◌, ◌+◌, ◌&&◌, ◌++◌, ℕ, suc, true, false, ⊤, List, filter_map, length, map, Option, Some, None, is_some, if◌then◌else◌}
+use Rattle.std.specs.Prelude.{◌≡◌, ◌+◌, ◌&&◌, ◌++◌, ℕ, suc, true, false, ⊤, List, filter_map}
+use Rattle.std.specs.Prelude.{length, map, Option, Some, None, is_some, if◌then◌else◌}
 use Rattle.std.specs.List.{All}
 use Rattle.std.specs.Option.{option_or}
 use Rattle.hmr_types.specs.declared.words.PlanKind.{PlanKind}
@@ -41,7 +42,8 @@ abbrev pub links_by : NewNumbers → now_live.Numbers → List Name → List (Na
 links_by numbers now imports = filter_map (λ m. link_to m (number_then numbers now m)) imports
 
 -- what a new instance of a name is made from: its entry in the plan, its links and its tree
-pub record IsMadeOf (p : Plan) (view : View) (numbers : NewNumbers) (now : now_live.Numbers) (trees : List (Name × Module)) (n : Name) (birth : Birth) : Type 0 where
+pub record IsMadeOf (p : Plan) (view : View) (numbers : NewNumbers) (now : now_live.Numbers)
+    (trees : List (Name × Module)) (n : Name) (birth : Birth) : Type 0 where
   pub entry : Entry
   pub there : entry_at p view n ≡ Some entry
   pub name : birth.name ≡ n
@@ -52,7 +54,9 @@ pub record IsMadeOf (p : Plan) (view : View) (numbers : NewNumbers) (now : now_l
 
 -- the numbers are those of the plan's new instances
 abbrev pub AreNumbers : Runtime → Plan → NewNumbers → Type 0
-AreNumbers r p numbers = (n : Name) → new_number numbers n ≡ (if has (new_names p r) n then Some (suc (length r.instances) + place_of (new_names p r) n) else None)
+AreNumbers r p numbers = (n : Name)
+    → new_number numbers n
+    ≡ (if has (new_names p r) n then Some (suc (length r.instances) + place_of (new_names p r) n) else None)
 
 -- what makes it possible to update a page: what is replaced gets a number, and callbacks that are called
 -- are those of instances that are there
@@ -71,7 +75,8 @@ pub record IsUpdate (r : Runtime) (p : Plan) (u : Update) : Type 0 where
   pub kind : p.kind ≡ plan_kind.Update
   pub replaced : (n : Name) → has u.replaced n ≡ (has p.replaced n && has (new_names p r) n)
   pub numbers : AreNumbers r p u.numbers
-  pub rows : (now : Runtime) → for_each told u.rows.items now ≡ for_each (tell_boundary module_language p r) r.pairs now
+  pub rows : (now : Runtime)
+      → for_each told u.rows.items now ≡ for_each (tell_boundary module_language p r) r.pairs now
 
 -- the change is that of the plan
 abbrev pub IsChange : Runtime → Plan → Change → Type 0
@@ -106,10 +111,12 @@ AreCountedIn p view = (n : Name) (e : Entry) → entry_at p view n ≡ Some e �
 
 -- What was done to a page, and what the model's client became meanwhile: the page stands for that, and the
 -- lines are those of what happened. Versions stay counted, and what is live and not new is on the new page.
-pub record HasChanged {F : Type 0} (did : Did) (r : Runtime) (p : Plan) (before after : Page F) (began tells : List OutLine) : Type 0 where
+pub record HasChanged {F : Type 0} (did : Did) (r : Runtime) (p : Plan) (before after : Page F)
+    (began tells : List OutLine) : Type 0 where
   pub client : after.client ≡ before.client
   pub stands : StandsFor did.0 after
   pub elsewhere : StaysElsewhere r did.0
   pub lines : tells ≡ began ++ lines_of_all before.client did.1
   pub counted : AreCountedIn p r.page.view → IsCountedPage before → IsCountedPage after
-  pub live : (n : Name) → has (new_names p r) n ≡ false → at (new_view r.roots p r.page.view) n ≡ None → number_of after.live n ≡ None
+  pub live : (n : Name) → has (new_names p r) n ≡ false → at (new_view r.roots p r.page.view) n ≡ None
+      → number_of after.live n ≡ None

@@ -8,7 +8,8 @@ use Rattle.client_model.specs.Runtime.{Cause}
 
 -- the line of a batch, where the message has one
 abbrev pub batch_lines : ℕ → ℕ → List Name → List OutLine
-batch_lines client batch triggered = if batch == 0 then [] else line.Batch client batch (in_order triggered) ∷ []
+batch_lines client batch triggered = if batch == 0 then []
+    else line.Batch client batch (in_order triggered) ∷ []
 
 -- the line of each boundary
 abbrev pub accept_lines : ℕ → List (Name × Name) → List OutLine

@@ -43,7 +43,8 @@ pub record IsReady (r : Runtime) (p : Plan) (ready : Ready) : Type 0 where
 
 -- the trees are what the texts read as that were fetched
 abbrev pub HasTrees : Runtime → List (Name × Module) → Type 0
-HasTrees r trees = (n : Name) → option_map (λ t. module_in (parsing t)) (at r.texts n) ≡ option_map module_of (at trees n)
+HasTrees r trees = (n : Name)
+    → option_map (λ t. module_in (parsing t)) (at r.texts n) ≡ option_map module_of (at trees n)
 
 -- the module that is needed next; where none is, all that ends the plan
 abbrev pub IsNext : Runtime → Plan → Next → Type 0
@@ -86,7 +87,9 @@ plan_with p n e = record p { staged = with_row n e p.staged }
 
 -- the runtime with what was fetched for its plan
 abbrev pub runtime_with : Plan → Name → ℕ → Text → Analysis → Runtime → Runtime
-runtime_with p n v t a r = record r { page = staged p n (record { version = v; analysis = a }) r.page; texts = with_row n t r.texts }
+runtime_with p n v t a r =
+    record r
+    { page = staged p n (record { version = v; analysis = a }) r.page; texts = with_row n t r.texts }
 
 -- the runtime with a cause that a fetch found
 abbrev pub with_cause_of : model.Cause → Runtime → Runtime
@@ -94,5 +97,6 @@ with_cause_of cause r = record r { cause = Some cause }
 
 -- a text that came: it is staged, or the plan can't be carried out
 abbrev pub IsFetched : Outcome → Runtime → Plan → Name → ℕ → Text → UnderWay → Type 0
-IsFetched (Good a) r p n v t u = IsUnderWay (runtime_with p n v t a r) (plan_with p n (record { version = v; analysis = a })) u
+IsFetched (Good a) r p n v t u =
+    IsUnderWay (runtime_with p n v t a r) (plan_with p n (record { version = v; analysis = a })) u
 IsFetched (Bad fault) r p n v t u = IsUnderWay (with_cause_of (model.broken n) r) p u

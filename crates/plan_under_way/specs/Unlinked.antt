@@ -17,7 +17,8 @@ bound_of n (Some tree) = bound_in n (module_of tree)
 
 -- the causes that imports of a module of this name give
 abbrev pub unlinked_among : Plan → View → Name → List Binding → List Cause
-unlinked_among p view n bindings = map (λ b. unlinked n b.dependency b.exported) (filter (is_unlinked p view) bindings)
+unlinked_among p view n bindings =
+    map (λ b. unlinked n b.dependency b.exported) (filter (is_unlinked p view) bindings)
 
 -- the causes that the imports of these modules give, in order
 abbrev pub unlinked_by : Plan → View → List (Name × Module) → List Name → List Cause

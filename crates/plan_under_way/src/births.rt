@@ -1,6 +1,7 @@
 // What the new instances of a plan are made from. It is found before the old instances end, since links are
 // by the numbers that are live once the plan is applied.
-ghost use Rattle.std.specs.Prelude.{◌≡◌, ◌+◌, ◌≤◌, ◌++◌, if◌then◌else◌, length, option_to_list, suc, Some, None, IfOk, OnOk};
+ghost use Rattle.std.specs.Prelude.{◌≡◌, ◌+◌, ◌≤◌, ◌++◌};
+ghost use Rattle.std.specs.Prelude.{if◌then◌else◌, length, option_to_list, suc, Some, None, IfOk, OnOk};
 ghost use Rattle.std.specs.List.{AllZip};
 ghost use Rattle.module_tree.specs.declared.tree.Module.{Module};
 ghost use Rattle.hmr_types.specs.declared.limits.TheConstants.{INSTANCES};

@@ -9,7 +9,8 @@ ghost use Rattle.client_model.specs.Runtime.{Runtime};
 ghost use Rattle.page_plan.specs.Numbers.{new_number};
 ghost use Rattle.page_plan.specs.Plans.{IsSamePlan};
 ghost use Rattle.page_deeds.specs.Standing.{KeepWords, StandsFor};
-ghost use Rattle.plan_under_way.specs.Changing.{AreMade, AreNumbers, CanChange, CanUpdate, HasChanged, IsChange, IsUpdate, page_done};
+ghost use Rattle.plan_under_way.specs.Changing.{AreMade, AreNumbers, CanChange, CanUpdate, HasChanged};
+ghost use Rattle.plan_under_way.specs.Changing.{IsChange, IsUpdate, page_done};
 
 use const_eval::Ran;
 use hmr_types::{ModName, PlanKind};

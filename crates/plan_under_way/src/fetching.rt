@@ -9,7 +9,8 @@ ghost use Rattle.core_model.specs.Sources.{Text};
 ghost use Rattle.client_model.specs.Runtime.{Runtime};
 ghost use Rattle.module_language.specs.ModuleLanguage.{module_in, module_language};
 ghost use Rattle.plan_under_way.specs.Planned.{IsPlanned};
-ghost use Rattle.plan_under_way.specs.UnderWay.{IsFetched, IsUnderWay, cause_of, plan_with, runtime_with, with_cause_of};
+ghost use Rattle.plan_under_way.specs.UnderWay.{IsFetched, IsUnderWay, cause_of, plan_with};
+ghost use Rattle.plan_under_way.specs.UnderWay.{runtime_with, with_cause_of};
 
 use crate::cause::Cause;
 use crate::planning::next_of;
@@ -32,8 +33,11 @@ impl UnderWay {
         text: Text,
     ) -> Result<UnderWay, AllocError>
         requires short { length text ≤ 4294967294 }
-        ensures under_way { (r : Runtime) (p : Plan) → r.page.view ≡ view.now → IsUnderWay r p self → entry_at p r.page.view name ≡ None → IfOk result (IsFetched (module_language.transformed name text) r p name version text) }
-        ensures planned { (loaded : Bool) → IsPlanned loaded self → IsVersion version → IfOk result (IsPlanned loaded) }
+        ensures under_way { (r : Runtime) (p : Plan) → r.page.view ≡ view.now → IsUnderWay r p self
+            → entry_at p r.page.view name ≡ None
+            → IfOk result (IsFetched (module_language.transformed name text) r p name version text) }
+        ensures planned { (loaded : Bool) → IsPlanned loaded self → IsVersion version
+            → IfOk result (IsPlanned loaded) }
     {
         match read(alloc, &name, text.as_str().as_bytes())? {
             Some(found) => self.with_text(alloc, view, name, version, found),
@@ -50,8 +54,14 @@ impl UnderWay {
         version: Ver,
         found: Parsed,
     ) -> Result<UnderWay, AllocError>
-        ensures under_way { (r : Runtime) (p : Plan) (t : Text) → r.page.view ≡ view.now → IsUnderWay r p self → entry_at p r.page.view name ≡ None → module_in (parsing t) ≡ module_of found.tree → IfOk result (IsUnderWay (runtime_with p name version t found.analysis r) (plan_with p name (record { version = version; analysis = found.analysis }))) }
-        ensures planned { (loaded : Bool) → IsPlanned loaded self → IsVersion version → IfOk result (IsPlanned loaded) }
+        ensures under_way { (r : Runtime) (p : Plan) (t : Text) → r.page.view ≡ view.now
+            → IsUnderWay r p self → entry_at p r.page.view name ≡ None
+            → module_in (parsing t) ≡ module_of found.tree
+            → IfOk result
+            (IsUnderWay (runtime_with p name version t found.analysis r)
+            (plan_with p name (record { version = version; analysis = found.analysis }))) }
+        ensures planned { (loaded : Bool) → IsPlanned loaded self → IsVersion version
+            → IfOk result (IsPlanned loaded) }
     {
         let mut plan = self;
         plan.add_text(alloc, view, name, version, found)?;
@@ -67,8 +77,14 @@ impl UnderWay {
         version: Ver,
         found: Parsed,
     ) -> Result<(), AllocError>
-        ensures under_way { (r : Runtime) (p : Plan) (t : Text) → r.page.view ≡ view.now → IsUnderWay r p self.old → entry_at p r.page.view name ≡ None → module_in (parsing t) ≡ module_of found.tree → OnOk result (IsUnderWay (runtime_with p name version t found.analysis r) (plan_with p name (record { version = version; analysis = found.analysis })) self.new) }
-        ensures planned { (loaded : Bool) → IsPlanned loaded self.old → IsVersion version → OnOk result (IsPlanned loaded self.new) }
+        ensures under_way { (r : Runtime) (p : Plan) (t : Text) → r.page.view ≡ view.now
+            → IsUnderWay r p self.old → entry_at p r.page.view name ≡ None
+            → module_in (parsing t) ≡ module_of found.tree
+            → OnOk result
+            (IsUnderWay (runtime_with p name version t found.analysis r)
+            (plan_with p name (record { version = version; analysis = found.analysis })) self.new) }
+        ensures planned { (loaded : Bool) → IsPlanned loaded self.old → IsVersion version
+            → OnOk result (IsPlanned loaded self.new) }
     {
         let Parsed { tree, analysis } = found;
         self.trees.insert(copy_name(&name)?, tree)?;
@@ -79,7 +95,8 @@ impl UnderWay {
 
     /// The plan with a cause that a fetch found. It takes no memory.
     fn with_cause(self, cause: Cause) -> UnderWay
-        ensures under_way { (r : Runtime) (p : Plan) → IsUnderWay r p self → IsUnderWay (with_cause_of (cause_of cause) r) p result }
+        ensures under_way { (r : Runtime) (p : Plan) → IsUnderWay r p self
+            → IsUnderWay (with_cause_of (cause_of cause) r) p result }
         ensures planned { (loaded : Bool) → IsPlanned loaded self → IsPlanned loaded result }
     {
         let mut plan = self;

@@ -31,7 +31,9 @@ pub(crate) fn first_unlinked(
     trees: &BTreeMap<ModName, Module>,
     names: &[ModName],
 ) -> Result<Option<Cause>, AllocError>
-    ensures { (r : Runtime) (p : Plan) → r.page.view ≡ view.now → IsSamePlan p plan.now → HasTrees r trees.now.entries → names.now ≡ new_names p r → IfOk result (λ found. link_cause module_language p r ≡ option_map cause_of found) }
+    ensures { (r : Runtime) (p : Plan) → r.page.view ≡ view.now → IsSamePlan p plan.now
+        → HasTrees r trees.now.entries → names.now ≡ new_names p r
+        → IfOk result (λ found. link_cause module_language p r ≡ option_map cause_of found) }
 {
     let found = first_in(alloc, view, plan, trees, names)?;
     Ok(found)
@@ -45,7 +47,9 @@ fn first_in(
     trees: &BTreeMap<ModName, Module>,
     names: &[ModName],
 ) -> Result<Option<Cause>, AllocError>
-    ensures { IfOk result (λ found. option_map cause_of found ≡ first_of (unlinked_by plan.now view.now trees.now.entries names.now)) }
+    ensures { IfOk result
+        (λ found. option_map cause_of found
+        ≡ first_of (unlinked_by plan.now view.now trees.now.entries names.now)) }
 {
     for name in names {
         if let Some(cause) = unlinked_of(alloc, view, plan, trees, name)? {
@@ -63,7 +67,10 @@ fn unlinked_of(
     trees: &BTreeMap<ModName, Module>,
     name: &ModName,
 ) -> Result<Option<Cause>, AllocError>
-    ensures { IfOk result (λ found. option_map cause_of found ≡ first_of (unlinked_among plan.now view.now name.now (bound_of name.now (at trees.now.entries name.now)))) }
+    ensures { IfOk result
+        (λ found. option_map cause_of found
+        ≡ first_of
+        (unlinked_among plan.now view.now name.now (bound_of name.now (at trees.now.entries name.now)))) }
 {
     match trees.get(name) {
         Some(tree) => unlinked_in(alloc, view, plan, name, &tree.items),
@@ -79,7 +86,9 @@ fn unlinked_in(
     base: &ModName,
     items: &[Item],
 ) -> Result<Option<Cause>, AllocError>
-    ensures { IfOk result (λ found. option_map cause_of found ≡ first_of (unlinked_among plan.now view.now base.now (bound_in base.now (map item_of items.now)))) }
+    ensures { IfOk result
+        (λ found. option_map cause_of found
+        ≡ first_of (unlinked_among plan.now view.now base.now (bound_in base.now (map item_of items.now)))) }
 {
     for item in items {
         if let Some(cause) = unlinked_by_item(alloc, view, plan, base, item)? {
@@ -97,7 +106,9 @@ fn unlinked_by_item(
     base: &ModName,
     item: &Item,
 ) -> Result<Option<Cause>, AllocError>
-    ensures { IfOk result (λ found. option_map cause_of found ≡ first_of (unlinked_among plan.now view.now base.now (bound_by base.now (item_of item.now)))) }
+    ensures { IfOk result
+        (λ found. option_map cause_of found
+        ≡ first_of (unlinked_among plan.now view.now base.now (bound_by base.now (item_of item.now)))) }
 {
     match item {
         Item::Import { spec, names } => match meaning(alloc, base, spec)? {
@@ -116,7 +127,9 @@ fn unlinked_names(
     dependency: &ModName,
     names: &[ImportName],
 ) -> Result<Option<Cause>, AllocError>
-    ensures { IfOk result (λ found. option_map cause_of found ≡ first_of (unlinked_among plan.now view.now base.now (map (binding_to dependency.now) names.now))) }
+    ensures { IfOk result
+        (λ found. option_map cause_of found
+        ≡ first_of (unlinked_among plan.now view.now base.now (map (binding_to dependency.now) names.now))) }
 {
     for name in names {
         if !exports(view, plan, dependency, &name.exported) {

@@ -30,8 +30,10 @@ pub fn next_of(
     trees: &BTreeMap<ModName, Module>,
     walker: &mut Walker,
 ) -> Result<Next, AllocError>
-    ensures walk { (r : Runtime) (p : Plan) → r.page.view ≡ view.now → IsSamePlan p plan.now → IsAt r.roots p r.page.view walker.old → OnOk result (IsAt r.roots p r.page.view walker.new) }
-    ensures next { (r : Runtime) (p : Plan) → r.page.view ≡ view.now → IsSamePlan p plan.now → HasTrees r trees.now.entries → IsAt r.roots p r.page.view walker.old → IfOk result (IsNext r p) }
+    ensures walk { (r : Runtime) (p : Plan) → r.page.view ≡ view.now → IsSamePlan p plan.now
+        → IsAt r.roots p r.page.view walker.old → OnOk result (IsAt r.roots p r.page.view walker.new) }
+    ensures next { (r : Runtime) (p : Plan) → r.page.view ≡ view.now → IsSamePlan p plan.now
+        → HasTrees r trees.now.entries → IsAt r.roots p r.page.view walker.old → IfOk result (IsNext r p) }
 {
     match walker.go_on(plan, view)? {
         Some(name) => Ok(Next::Fetch(name)),
@@ -50,7 +52,9 @@ fn ready(
     trees: &BTreeMap<ModName, Module>,
     order: &[ModName],
 ) -> Result<Ready, AllocError>
-    ensures { (r : Runtime) (p : Plan) → r.page.view ≡ view.now → IsSamePlan p plan.now → HasTrees r trees.now.entries → order.now ≡ evaluation_order r.roots p r.page.view → next_needed p r ≡ None → IfOk result (IsReady r p) }
+    ensures { (r : Runtime) (p : Plan) → r.page.view ≡ view.now → IsSamePlan p plan.now
+        → HasTrees r trees.now.entries → order.now ≡ evaluation_order r.roots p r.page.view
+        → next_needed p r ≡ None → IfOk result (IsReady r p) }
 {
     let made = made_view(alloc, plan, view, order)?;
     let table = table_of(alloc, &made)?;

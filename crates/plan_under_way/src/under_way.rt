@@ -9,7 +9,8 @@ ghost use Rattle.client_model.specs.Requesting.{apply_or_abort, carry_on, cause_
 ghost use Rattle.client_model.specs.Runtime.{Runtime};
 ghost use Rattle.module_language.specs.ModuleLanguage.{module_language};
 ghost use Rattle.plan_under_way.specs.Planned.{count_in};
-ghost use Rattle.plan_under_way.specs.UnderWay.{IsNext, IsReady, IsUnderWay, cause_of, is_aborted, is_applied_told};
+ghost use Rattle.plan_under_way.specs.UnderWay.{IsNext, IsReady, IsUnderWay, cause_of};
+ghost use Rattle.plan_under_way.specs.UnderWay.{is_aborted, is_applied_told};
 
 use crate::cause::{Cause, abort_message};
 use hmr_types::{ModName, Table};
@@ -66,7 +67,8 @@ impl UnderWay {
     /// applied. The message can be written. It takes time in proportion to the message; only want of memory
     /// refuses.
     pub fn request(&self, alloc: Global) -> Result<ClientMsg, AllocError>
-        ensures request { (r : Runtime) (p : Plan) → IsUnderWay r p self.now → IfOk result (λ asked. asked ≡ carry_on r.cause module_language p r) }
+        ensures request { (r : Runtime) (p : Plan) → IsUnderWay r p self.now
+            → IfOk result (λ asked. asked ≡ carry_on r.cause module_language p r) }
         ensures sayable { IfOk result IsSayable }
     {
         match &self.cause {
@@ -77,7 +79,9 @@ impl UnderWay {
 
     /// Why the plan is given up, where what carries it on tells so. It takes no memory.
     pub fn into_cause(self) -> Option<Cause>
-        ensures { (r : Runtime) (p : Plan) → IsUnderWay r p self → is_aborted (carry_on r.cause module_language p r) ≡ true → option_map cause_of result ≡ cause_by r.cause module_language p r }
+        ensures { (r : Runtime) (p : Plan) → IsUnderWay r p self
+            → is_aborted (carry_on r.cause module_language p r) ≡ true
+            → option_map cause_of result ≡ cause_by r.cause module_language p r }
     {
         let UnderWay { cause, next, .. } = self;
         match cause {
@@ -90,7 +94,8 @@ impl UnderWay {
     /// takes no memory.
     pub fn count(&self) -> usize
         ensures made { (r : Runtime) (p : Plan) → IsUnderWay r p self.now
-            → is_applied_told (carry_on r.cause module_language p r) ≡ true → result ≡ length (new_names p r) }
+            → is_applied_told (carry_on r.cause module_language p r) ≡ true
+            → result ≡ length (new_names p r) }
         ensures count { result ≡ count_in self.now.next }
     {
         match &self.next {
@@ -103,7 +108,9 @@ impl UnderWay {
 impl Next {
     // The next fetch, or the end of the plan.
     fn request(&self, alloc: Global) -> Result<ClientMsg, AllocError>
-        ensures request { (r : Runtime) (p : Plan) → IsNext r p self.now → IfOk result (λ asked. asked ≡ fetch_or_finish (next_needed p r) (link_cause module_language p r) p r) }
+        ensures request { (r : Runtime) (p : Plan) → IsNext r p self.now
+            → IfOk result
+            (λ asked. asked ≡ fetch_or_finish (next_needed p r) (link_cause module_language p r) p r) }
         ensures sayable { IfOk result IsSayable }
     {
         match self {
@@ -116,7 +123,9 @@ impl Next {
 
     // The import that isn't exported, where all is fetched.
     fn into_cause(self) -> Option<Cause>
-        ensures { (r : Runtime) (p : Plan) → IsNext r p self → is_aborted (fetch_or_finish (next_needed p r) (link_cause module_language p r) p r) ≡ true → option_map cause_of result ≡ link_cause module_language p r }
+        ensures { (r : Runtime) (p : Plan) → IsNext r p self
+            → is_aborted (fetch_or_finish (next_needed p r) (link_cause module_language p r) p r) ≡ true
+            → option_map cause_of result ≡ link_cause module_language p r }
     {
         match self {
             Next::Fetch(_) => None,
@@ -128,7 +137,8 @@ impl Next {
 impl Ready {
     // The plan is given up where a new instance can't be linked, else it is applied.
     fn request(&self, alloc: Global) -> Result<ClientMsg, AllocError>
-        ensures request { (r : Runtime) (p : Plan) → IsReady r p self.now → IfOk result (λ asked. asked ≡ apply_or_abort (link_cause module_language p r) p r) }
+        ensures request { (r : Runtime) (p : Plan) → IsReady r p self.now
+            → IfOk result (λ asked. asked ≡ apply_or_abort (link_cause module_language p r) p r) }
         ensures sayable { IfOk result IsSayable }
     {
         match &self.link {

@@ -3,12 +3,15 @@
 -- A text is lines, and a line by itself says nothing, text, a root, an edit or a command. The lines are
 -- checked in order, since all but those that say nothing may stand only behind certain others. The
 -- commands of a script are what its lines say, in order, where an edit takes the text directly below it.
-use Rattle.std.specs.Prelude.{◌≡◌, ℕ, ◌+◌, ◌*◌, ◌-◌, ◌==◌, nat_le, nat_lt, Bool, true, false, not, ◌&&◌, List, [], ◌∷◌, ◌++◌, length, fold, codes, Option, Some, None, Result, Ok, Err, if◌then◌else◌, ◌⊎◌}
+use Rattle.std.specs.Prelude.{◌≡◌, ℕ, ◌+◌, ◌*◌, ◌-◌, ◌==◌, nat_le, nat_lt, Bool, true, false}
+use Rattle.std.specs.Prelude.{not, ◌&&◌, List, [], ◌∷◌, ◌++◌, length, fold, codes, Option}
+use Rattle.std.specs.Prelude.{Some, None, Result, Ok, Err, if◌then◌else◌, ◌⊎◌}
 use Rattle.std.specs.List.{list_all, list_any, slice_split}
 use Rattle.std.specs.Str.{is_utf8}
 use Rattle.hmr_types.specs.ModName.{between, is_name, is_text}
 use Rattle.hmr_types.specs.Results.{◌>>=◌}
-use Rattle.hmr_types.specs.declared.limits.TheConstants.{LARGEST_CLIENT, LARGEST_NUMBER, ROOTS, SCRIPT_LINE_BYTES}
+use Rattle.hmr_types.specs.declared.limits.TheConstants.{LARGEST_CLIENT, LARGEST_NUMBER}
+use Rattle.hmr_types.specs.declared.limits.TheConstants.{ROOTS, SCRIPT_LINE_BYTES}
 use Rattle.play_script.specs.declared.draft.Draft.{Draft}
 use Rattle.play_script.specs.declared.script_line.ScriptLine.{ScriptLine}
 use Rattle.play_script.specs.declared.script_line.ScriptLine.TheVariants as lines
@@ -20,7 +23,9 @@ use Rattle.play_script.specs.declared.form.Form.TheVariants as forms
 use Rattle.play_script.specs.declared.words.Said.TheVariants as says
 use Rattle.play_script.specs.declared.fault.ScriptFault.{ScriptFault}
 use Rattle.play_script.specs.declared.fault.ScriptKind.{ScriptKind}
-use Rattle.play_script.specs.declared.fault.ScriptKind.TheVariants.{NotUtf8, LineTooLong, CutLine, TextWithoutEdit, UnknownWord, WordCount, BadName, BadNumber, RootPlace, NoMemory}
+use Rattle.play_script.specs.declared.fault.ScriptKind.TheVariants.{NotUtf8, LineTooLong, CutLine}
+use Rattle.play_script.specs.declared.fault.ScriptKind.TheVariants.{TextWithoutEdit, UnknownWord, WordCount}
+use Rattle.play_script.specs.declared.fault.ScriptKind.TheVariants.{BadName, BadNumber, RootPlace, NoMemory}
 use Rattle.play_script.specs.declared.fault.Refusal.{Refusal}
 use Rattle.play_script.specs.declared.fault.Refusal.TheVariants as refusals
 
@@ -54,7 +59,8 @@ cut_line (b ∷ bs) = record { bytes = b ∷ bs; ended = false } ∷ []
 -- the lines of bytes before which `line` stands since the last LF
 abbrev pub lines_from : List ℕ → List ℕ → List Line
 lines_from line [] = cut_line line
-lines_from line (b ∷ bs) = if is_line_end b then record { bytes = line; ended = true } ∷ lines_from [] bs else lines_from (line ++ b ∷ []) bs
+lines_from line (b ∷ bs) = if is_line_end b then record { bytes = line; ended = true } ∷ lines_from [] bs
+    else lines_from (line ++ b ∷ []) bs
 
 -- the words of a line: what stands between its spaces, one more than it has spaces
 abbrev pub words : List ℕ → List (List ℕ)
@@ -77,7 +83,8 @@ up_to most n = if nat_le n most then Some n else None
 -- the number that a digit from 1 to 9 and then digits write, where it isn't too large
 abbrev pub number_of : ℕ → List ℕ → Option ℕ
 number_of most [] = None
-number_of most (b ∷ bs) = if between 49 57 b && list_all is_digit bs then up_to most (digits_value (b ∷ bs)) else None
+number_of most (b ∷ bs) = if between 49 57 b && list_all is_digit bs then up_to most (digits_value (b ∷ bs))
+    else None
 
 -- the value that is there, or this fault
 abbrev pub or_fault : ScriptKind → Option ℕ → Result ℕ ScriptKind
@@ -121,14 +128,17 @@ opening format ws = all_named ws >>= λ roots. Ok (says.Command (lines.Open form
 abbrev pub settle : List (List ℕ) → Result Said ScriptKind
 settle [] = Ok (says.Command lines.SettleAll)
 settle (word ∷ []) = Err WordCount
-settle (name ∷ version ∷ []) = named name >>= λ n. number LARGEST_NUMBER version >>= λ v. Ok (says.Command (lines.Settle n v))
+settle (name ∷ version ∷ []) =
+    named name >>= λ n. number LARGEST_NUMBER version >>= λ v. Ok (says.Command (lines.Settle n v))
 settle (name ∷ version ∷ other ∷ more) = Err WordCount
 
 -- `turns`, with a client and a number of turns
 abbrev pub turns : List (List ℕ) → Result Said ScriptKind
 turns [] = Err WordCount
 turns (word ∷ []) = Err WordCount
-turns (client ∷ most ∷ []) = number LARGEST_CLIENT client >>= λ c. number LARGEST_CLIENT most >>= λ k. Ok (says.Command (lines.Turns c k))
+turns (client ∷ most ∷ []) =
+    number LARGEST_CLIENT client >>= λ c. number LARGEST_CLIENT most
+    >>= λ k. Ok (says.Command (lines.Turns c k))
 turns (client ∷ most ∷ other ∷ more) = Err WordCount
 
 -- `fresh`, alone or with a client
@@ -222,7 +232,9 @@ is_empty (x ∷ xs) = false
 
 -- a root may come before every command, under a name of its own, and as the sixteenth at most
 abbrev pub may_be_root : Draft → List ℕ → Bool
-may_be_root draft name = not draft.began && nat_lt (length draft.roots) ROOTS && not (list_any (λ root. is_text root name) draft.roots)
+may_be_root draft name =
+    not draft.began && nat_lt (length draft.roots) ROOTS
+    && not (list_any (λ root. is_text root name) draft.roots)
 
 -- a command may come where a root came; in edits, everywhere
 abbrev pub asks_a_root : Form → Bool
@@ -246,9 +258,12 @@ below_edit false draft = Err TextWithoutEdit
 abbrev pub placed : Draft → Said → Result Draft ScriptKind
 placed draft says.Nothing = Ok (record draft { in_edit = false })
 placed draft says.Text = below_edit draft.in_edit draft
-placed draft (says.Root name) = allowed (may_be_root draft name) (record draft { roots = draft.roots ++ name ∷ []; in_edit = false })
-placed draft (says.Edit name) = allowed (may_be_command draft) (record draft { began = true; in_edit = true })
-placed draft (says.Command command) = allowed (may_be_command draft) (record draft { began = true; in_edit = false })
+placed draft (says.Root name) =
+    allowed (may_be_root draft name) (record draft { roots = draft.roots ++ name ∷ []; in_edit = false })
+placed draft (says.Edit name) =
+    allowed (may_be_command draft) (record draft { began = true; in_edit = true })
+placed draft (says.Command command) =
+    allowed (may_be_command draft) (record draft { began = true; in_edit = false })
 
 -- the script so far after a line, or the line's first fault
 abbrev pub line_read : Draft → List ℕ → Bool → Result Draft ScriptKind
@@ -262,7 +277,8 @@ numbered n (Err kind) = Err (record { line = n; kind = kind })
 -- what stands after the lines from the one of this number on: the first fault is the answer of all
 abbrev pub checked : Draft → ℕ → List Line → Result Draft ScriptFault
 checked draft n [] = Ok draft
-checked draft n (line ∷ more) = numbered n (line_read draft line.bytes line.ended) >>= λ next. checked next (n + 1) more
+checked draft n (line ∷ more) =
+    numbered n (line_read draft line.bytes line.ended) >>= λ next. checked next (n + 1) more
 
 -- the text of a line of text
 abbrev pub text_of : List ℕ → Option (List ℕ)
@@ -309,7 +325,9 @@ finished ls draft = record { roots = draft.roots; lines = commands ls }
 
 -- the script that bytes say, or their first fault
 abbrev pub script_of : List ℕ → Result Contents ScriptFault
-script_of text = checked (beginning forms.Page) 1 (lines_from [] text) >>= λ draft. Ok (finished (lines_from [] text) draft)
+script_of text =
+    checked (beginning forms.Page) 1 (lines_from [] text)
+    >>= λ draft. Ok (finished (lines_from [] text) draft)
 
 -- the fault of a script whose line of this number is refused
 abbrev pub fault_at : ℕ → Refusal → ScriptFault

@@ -1,9 +1,11 @@
 -- The canonical spelling of a script, and which scripts have one.
-use Rattle.std.specs.Prelude.{◌≡◌, ℕ, ◌∷◌, ◌++◌, length, Bool, true, not, ◌&&◌, ◌==◌, nat_le, nat_lt, if◌then◌else◌, List, [], codes, map}
+use Rattle.std.specs.Prelude.{◌≡◌, ◌∷◌, ◌++◌, ◌&&◌, ◌==◌, []}
+use Rattle.std.specs.Prelude.{ℕ, length, Bool, true, not, nat_le, nat_lt, if◌then◌else◌, List, codes, map}
 use Rattle.std.specs.List.{flat_map, list_all, list_any}
 use Rattle.std.specs.Str.{is_utf8}
 use Rattle.hmr_types.specs.ModName.{is_name, is_text}
-use Rattle.hmr_types.specs.declared.limits.TheConstants.{LARGEST_CLIENT, LARGEST_NUMBER, ROOTS, SCRIPT_LINE_BYTES}
+use Rattle.hmr_types.specs.declared.limits.TheConstants.{LARGEST_CLIENT, LARGEST_NUMBER}
+use Rattle.hmr_types.specs.declared.limits.TheConstants.{ROOTS, SCRIPT_LINE_BYTES}
 use Rattle.play_script.specs.declared.script_line.ScriptLine.{ScriptLine}
 use Rattle.play_script.specs.declared.script_line.ScriptLine.TheVariants as lines
 use Rattle.play_script.specs.Texts.{names_text, spaced, spaced_number}
@@ -41,7 +43,8 @@ command_lines line = command_text line ∷ text_lines line
 
 -- the lines of a script: its roots, then its commands
 abbrev pub script_lines : Contents → List (List ℕ)
-script_lines script = map (λ name. codes "root" ++ spaced name) script.roots ++ flat_map command_lines script.lines
+script_lines script =
+    map (λ name. codes "root" ++ spaced name) script.roots ++ flat_map command_lines script.lines
 
 -- lines, each with LF
 abbrev pub ended_by_lf : List (List ℕ) → List ℕ
@@ -62,7 +65,9 @@ fits line = line.ended && is_utf8 line.bytes && nat_lt (length line.bytes) SCRIP
 
 -- an opening in format 1 or 2, whose names are names and stand on one line
 abbrev pub is_opening : ℕ → List (List ℕ) → Bool
-is_opening format roots = in_range 2 format && list_all is_name roots && nat_le (length (open_word format ++ names_text roots)) SCRIPT_LINE_BYTES
+is_opening format roots =
+    in_range 2 format && list_all is_name roots
+    && nat_le (length (open_word format ++ names_text roots)) SCRIPT_LINE_BYTES
 
 -- a command whose names are names, whose numbers are in their range, and whose text is lines that fit
 abbrev pub is_writable : ScriptLine → Bool
@@ -82,7 +87,9 @@ is_writable line = true
 -- roots behind others: names, none of them an earlier one, and at most 16 in all
 abbrev pub are_roots : List (List ℕ) → List (List ℕ) → Bool
 are_roots before [] = true
-are_roots before (name ∷ more) = is_name name && nat_lt (length before) ROOTS && not (list_any (λ root. is_text root name) before) && are_roots (before ++ name ∷ []) more
+are_roots before (name ∷ more) =
+    is_name name && nat_lt (length before) ROOTS && not (list_any (λ root. is_text root name) before)
+    && are_roots (before ++ name ∷ []) more
 
 -- a script that has a spelling
 pub record HasSpelling (script : Contents) : Type 0 where

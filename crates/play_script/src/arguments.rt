@@ -2,7 +2,8 @@
 ghost use Rattle.std.specs.Prelude.{◌≡◌, ◌≤◌, IfOk, IfSome, map};
 ghost use Rattle.std.specs.List.{list_all};
 ghost use Rattle.hmr_types.specs.ModName.{between};
-ghost use Rattle.play_script.specs.Script.{Gives, named, all_named, number, number_of, up_to, digits_value, is_digit, with_digit, one_word};
+ghost use Rattle.play_script.specs.Script.{Gives, named, all_named, number, number_of, up_to};
+ghost use Rattle.play_script.specs.Script.{digits_value, is_digit, with_digit, one_word};
 
 use crate::fault::{Refusal, ScriptKind};
 use hmr_types::limits::{LARGEST_CLIENT, LARGEST_NUMBER};

@@ -1,7 +1,9 @@
 // The commands of a script, read from its text one by one: the lines are gone over until one says a
 // command, and the text of an edit is taken from the lines of text directly below it.
-ghost use Rattle.std.specs.Prelude.{◌≡◌, [], ◌∷◌, ◌++◌, IfOk, IfSome, OnOk, OnErr, MatchOption, codes, option_map};
-ghost use Rattle.play_script.specs.Script.{Line, command_of, commands, lines_from, text_below, text_of, whole_line};
+ghost use Rattle.std.specs.Prelude.{◌≡◌, [], ◌∷◌, ◌++◌};
+ghost use Rattle.std.specs.Prelude.{IfOk, IfSome, OnOk, OnErr, MatchOption, codes, option_map};
+ghost use Rattle.play_script.specs.Script.{Line, command_of, commands, lines_from};
+ghost use Rattle.play_script.specs.Script.{text_below, text_of, whole_line};
 ghost use Rattle.play_script.specs.Asked.{HasFormat, IsNext};
 
 use crate::fault::Refusal;
@@ -67,7 +69,9 @@ impl<'a> Commands<'a> {
 
 /// The first command of a text, where there is one.
 pub(crate) fn next_command(alloc: Global, text: &[u8]) -> Result<Option<Found<'_>>, AllocError>
-    ensures { IfOk result (λ found. MatchOption found (commands (lines_from [] text.now) ≡ []) (λ f. commands (lines_from [] text.now) ≡ f.command ∷ commands (lines_from [] f.below.now))) }
+    ensures { IfOk result
+        (λ found. MatchOption found (commands (lines_from [] text.now) ≡ [])
+        (λ f. commands (lines_from [] text.now) ≡ f.command ∷ commands (lines_from [] f.below.now))) }
 {
     let mut left = text;
     while let Some(first) = first_line(left) {

@@ -4,7 +4,8 @@ ghost use Rattle.std.specs.Prelude.{true, false, ◌≡◌, ◌++◌, [], ◌∷
 ghost use Rattle.hmr_types.specs.declared.limits.TheConstants.{ROOTS};
 ghost use Rattle.std.specs.List.{list_any};
 ghost use Rattle.hmr_types.specs.ModName.{is_text};
-ghost use Rattle.play_script.specs.Script.{Gives, beginning, below_edit, placed, asks_a_root, may_be_root, may_be_command, allowed, is_empty};
+ghost use Rattle.play_script.specs.Script.{Gives, beginning, below_edit, placed, asks_a_root};
+ghost use Rattle.play_script.specs.Script.{may_be_root, may_be_command, allowed, is_empty};
 
 use crate::fault::{Refusal, ScriptKind};
 use crate::form::Form;
@@ -79,7 +80,10 @@ impl Draft {
     }
 
     fn behind_root(self, name: ModName) -> Result<Draft, Refusal>
-        ensures { Gives (λ d. d) result (allowed (may_be_root self name) (record self { roots = self.roots ++ name ∷ []; in_edit = false })) }
+        ensures { Gives
+            (λ d. d)
+            result (allowed (may_be_root self name)
+            (record self { roots = self.roots ++ name ∷ []; in_edit = false })) }
     {
         if !may_be_root(self.roots.as_slice(), self.began, &name) {
             return Err(Refusal::Fault(ScriptKind::RootPlace));
@@ -101,7 +105,9 @@ impl Draft {
     }
 
     fn behind_command(self, is_edit: bool) -> Result<Draft, Refusal>
-        ensures { Gives (λ d. d) result (allowed (may_be_command self) (record self { began = true; in_edit = is_edit })) }
+        ensures { Gives
+            (λ d. d)
+            result (allowed (may_be_command self) (record self { began = true; in_edit = is_edit })) }
     {
         if asks_a_root(self.form) && self.roots.as_slice().is_empty() {
             return Err(Refusal::Fault(ScriptKind::RootPlace));
@@ -126,7 +132,9 @@ fn asks_a_root(form: Form) -> bool
 }
 
 fn may_be_root(roots: &[ModName], began: bool, name: &ModName) -> bool
-    ensures { result ≡ (not began && nat_lt (length roots.now) ROOTS && not (list_any (λ root. is_text root name.now) roots.now)) }
+    ensures { result
+        ≡ (not began && nat_lt (length roots.now) ROOTS
+        && not (list_any (λ root. is_text root name.now) roots.now)) }
 {
     !began && roots.len() < ROOTS && !has_root(roots, name)
 }

@@ -15,7 +15,9 @@ pub struct FirstLine<'a> {
 
 /// The first line of these bytes, where there are any. The time is linear in the line.
 pub fn first_line(text: &[u8]) -> Option<FirstLine<'_>>
-    ensures line { MatchOption result (lines_from [] text.now ≡ []) (λ first. lines_from [] text.now ≡ record { bytes = first.bytes.now; ended = first.ended } ∷ lines_from [] first.below.now) }
+    ensures line { MatchOption result (lines_from [] text.now ≡ [])
+        (λ first. lines_from [] text.now
+        ≡ record { bytes = first.bytes.now; ended = first.ended } ∷ lines_from [] first.below.now) }
     ensures shorter { IfSome result (λ first. length first.below.now < length text.now) }
 {
     for at in 0..text.len() {
@@ -32,7 +34,9 @@ pub fn first_line(text: &[u8]) -> Option<FirstLine<'_>>
 
 /// The line that no LF ends, where there is one.
 fn last_line(text: &[u8]) -> Option<FirstLine<'_>>
-    ensures line { MatchOption result (cut_line text.now ≡ []) (λ first. cut_line text.now ≡ record { bytes = first.bytes.now; ended = first.ended } ∷ lines_from [] first.below.now) }
+    ensures line { MatchOption result (cut_line text.now ≡ [])
+        (λ first. cut_line text.now
+        ≡ record { bytes = first.bytes.now; ended = first.ended } ∷ lines_from [] first.below.now) }
     ensures shorter { IfSome result (λ first. length first.below.now < length text.now) }
 {
     if text.is_empty() {

@@ -1,8 +1,9 @@
-// Reads a script of either form. Its lines are gone over once: each is checked by itself and against those before it,
-// and the first that is refused is the answer of all. Only the roots are kept.
+// Reads a script of either form. Its lines are gone over once: each is checked by itself and against those
+// before it, and the first that is refused is the answer of all. Only the roots are kept.
 ghost use Rattle.std.specs.Prelude.{◌≡◌, ◌≤◌, ◌↔◌, [], length, IsTrue};
 ghost use Rattle.std.specs.Str.{is_utf8, IsUtf8};
-ghost use Rattle.play_script.specs.Script.{Gives, IsReading, beginning, checked, line_read, line_said_in, lines_from, numbered, script_of};
+ghost use Rattle.play_script.specs.Script.{Gives, IsReading, beginning, checked, line_read};
+ghost use Rattle.play_script.specs.Script.{line_said_in, lines_from, numbered, script_of};
 ghost use Rattle.play_script.specs.Edits.{edits_of};
 
 use crate::draft::Draft;

@@ -1,7 +1,9 @@
 // What one line says: nothing, text, or by its words a root, the beginning of an edit, or a command.
 ghost use Rattle.std.specs.Prelude.{◌≡◌, IfOk, map};
 ghost use Rattle.hmr_types.specs.ModName.{is_text};
-ghost use Rattle.play_script.specs.Script.{Gives, whole_line_in, words, said_in, in_form, command, known_word, no_word, one_name, one_client, opening, settle, turns, fresh};
+ghost use Rattle.play_script.specs.Script.{Gives, whole_line_in, words, said_in, in_form};
+ghost use Rattle.play_script.specs.Script.{command, known_word, no_word, one_name, one_client};
+ghost use Rattle.play_script.specs.Script.{opening, settle, turns, fresh};
 
 use crate::arguments::{only_word, read_count, read_name, read_names, read_version};
 use crate::fault::{Refusal, ScriptKind};

@@ -4,7 +4,8 @@ use Rattle.std.specs.List.{flat_map}
 use Rattle.std.specs.Fmt.{signed_decimal}
 use Rattle.play_script.specs.Texts.{names_text, spaced, spaced_number}
 use Rattle.play_text.specs.Texts.{of_client, escaped, quoted, after_space}
-use Rattle.play_text.specs.Words.{fault_word, refusal_word, plan_word, cause_word, place_word, kind_word, state_word, end_word, status_word, ending_word}
+use Rattle.play_text.specs.Words.{fault_word, refusal_word, plan_word, cause_word, place_word}
+use Rattle.play_text.specs.Words.{kind_word, state_word, end_word, status_word, ending_word}
 use Rattle.hmr_types.specs.declared.analysis.FaultWord.{FaultWord}
 use Rattle.hmr_types.specs.declared.analysis.TextFault.{TextFault}
 use Rattle.output_lines.specs.declared.out_line.OutLine.{OutLine}
@@ -82,46 +83,59 @@ handled_text (handlers.Host label number) = codes "host " ++ flat_map escaped la
 
 -- what an instance is, and what became of it
 abbrev pub instance_text : ℕ → List ℕ → ℕ → InstanceStatus → InstanceFate → List ℕ
-instance_text number name version status fate = decimal number ++ spaced name ++ spaced_number version ++ spaced (status_word status) ++ spaced (fate_text fate)
+instance_text number name version status fate =
+    decimal number ++ spaced name ++ spaced_number version ++ spaced (status_word status)
+    ++ spaced (fate_text fate)
 
 -- a line without its LF
 abbrev pub body_text : OutLine → List ℕ
 body_text (lines.Edit name outcome) = codes "edit " ++ name ++ spaced (edit_text outcome)
 body_text (lines.Remove name outcome) = codes "remove " ++ name ++ spaced (remove_text outcome)
-body_text (lines.Settle name version outcome) = codes "settle " ++ name ++ spaced_number version ++ spaced (result_text outcome)
+body_text (lines.Settle name version outcome) =
+    codes "settle " ++ name ++ spaced_number version ++ spaced (result_text outcome)
 body_text (lines.Open client) = codes "open " ++ decimal client
 body_text lines.OpenRefused = codes "open refused"
 body_text lines.OpenBadRoots = codes "open bad-roots"
 body_text (lines.Close client) = codes "close " ++ decimal client
 body_text (lines.Unknown client) = codes "unknown " ++ decimal client
 body_text (lines.Applied client plan) = of_client client (codes " ") ++ plan_word plan
-body_text (lines.Reload client cause path) = of_client client (codes " reload ") ++ cause_word cause ++ names_text path
-body_text (lines.Batch client batch triggered) = of_client client (codes " batch ") ++ decimal batch ++ codes " by" ++ names_text triggered
+body_text (lines.Reload client cause path) =
+    of_client client (codes " reload ") ++ cause_word cause ++ names_text path
+body_text (lines.Batch client batch triggered) =
+    of_client client (codes " batch ") ++ decimal batch ++ codes " by" ++ names_text triggered
 body_text (lines.Update client replaced) = of_client client (codes " update") ++ names_text replaced
 body_text (lines.Accept client boundary via) = of_client client (codes " accept ") ++ boundary ++ spaced via
 body_text (lines.Aborted client outcome) = of_client client (codes " aborted ") ++ abort_text outcome
 body_text (lines.Pruned client name) = of_client client (codes " pruned ") ++ name
-body_text (lines.Error client name line column word) = of_client client (codes " error ") ++ name ++ spaced (fault_at line column word)
+body_text (lines.Error client name line column word) =
+    of_client client (codes " error ") ++ name ++ spaced (fault_at line column word)
 body_text (lines.Wait client name) = of_client client (codes " wait ") ++ name
 body_text (lines.Log client name text) = of_client client (codes " log ") ++ name ++ after_space text
-body_text (lines.Fault client name place fault) = of_client client (codes " fault ") ++ name ++ spaced (place_word place) ++ spaced (eval_fault fault)
+body_text (lines.Fault client name place fault) =
+    of_client client (codes " fault ") ++ name ++ spaced (place_word place) ++ spaced (eval_fault fault)
 body_text (lines.Unrun client name) = of_client client (codes " unrun ") ++ name
-body_text (lines.NoHost client name label) = of_client client (codes " nohost ") ++ name ++ spaced (flat_map escaped label)
-body_text (lines.Invalidated client name message) = of_client client (codes " invalidated ") ++ name ++ after_space message
+body_text (lines.NoHost client name label) =
+    of_client client (codes " nohost ") ++ name ++ spaced (flat_map escaped label)
+body_text (lines.Invalidated client name message) =
+    of_client client (codes " invalidated ") ++ name ++ after_space message
 body_text (lines.Ignored client name) = of_client client (codes " ignored ") ++ name
 body_text (lines.Ended client word) = of_client client (codes " ended ") ++ ending_word word
 body_text (lines.Client client state) = codes "client " ++ decimal client ++ spaced (state_word state)
 body_text (lines.Module name version) = name ++ spaced_number version
 body_text (lines.Stale importer dependency) = codes "stale " ++ importer ++ spaced dependency
 body_text (lines.Values client) = codes "values " ++ decimal client
-body_text (lines.Value name export value) = codes "value " ++ name ++ spaced export ++ spaced (slot_text value)
+body_text (lines.Value name export value) =
+    codes "value " ++ name ++ spaced export ++ spaced (slot_text value)
 body_text (lines.Fates client) = codes "fates " ++ decimal client
-body_text (lines.Instance number name version status fate) = codes "instance " ++ instance_text number name version status fate
-body_text (lines.Handler kind handled end) = kind_word kind ++ spaced (handled_text handled) ++ spaced (end_word end)
+body_text (lines.Instance number name version status fate) =
+    codes "instance " ++ instance_text number name version status fate
+body_text (lines.Handler kind handled end) =
+    kind_word kind ++ spaced (handled_text handled) ++ spaced (end_word end)
 body_text lines.Fresh = codes "fresh"
 body_text (lines.FreshOf client) = codes "fresh " ++ decimal client
 body_text (lines.Missing name) = codes "missing " ++ name
-body_text (lines.Unlinked importer dependency export) = codes "unlinked " ++ importer ++ spaced dependency ++ spaced export
+body_text (lines.Unlinked importer dependency export) =
+    codes "unlinked " ++ importer ++ spaced dependency ++ spaced export
 
 -- a line with its LF
 abbrev pub line_text : OutLine → List ℕ

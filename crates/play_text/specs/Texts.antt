@@ -8,11 +8,15 @@ of_client client word = decimal client ++ word
 
 -- a byte of a text on one line: the backslash, LF and CR as escapes
 abbrev pub escaped : ℕ → List ℕ
-escaped b = if b == 92 then codes "\\\\" else (if b == 10 then codes "\\n" else (if b == 13 then codes "\\r" else b ∷ []))
+escaped b = if b == 92 then codes "\\\\"
+    else (if b == 10 then codes "\\n" else (if b == 13 then codes "\\r" else b ∷ []))
 
 -- a byte of a text in quotes
 abbrev pub quoted_byte : ℕ → List ℕ
-quoted_byte b = if b == 92 then codes "\\\\" else (if b == 34 then codes "\\\"" else (if b == 10 then codes "\\n" else (if b == 9 then codes "\\t" else (if b == 13 then codes "\\r" else b ∷ []))))
+quoted_byte b = if b == 92 then codes "\\\\"
+    else (if b == 34 then codes "\\\""
+    else (if b == 10 then codes "\\n"
+    else (if b == 9 then codes "\\t" else (if b == 13 then codes "\\r" else b ∷ []))))
 
 -- a text in quotes
 abbrev pub quoted : List ℕ → List ℕ

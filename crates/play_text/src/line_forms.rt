@@ -55,7 +55,8 @@ pub fn put_triple(
     second: &str,
     third: &str,
 ) -> Result<(), AllocError>
-    ensures { OnOk result (out.new.items ≡ out.old.items ++ (word.now ++ first.now ++ spaced second.now ++ spaced third.now)) }
+    ensures { OnOk result
+        (out.new.items ≡ out.old.items ++ (word.now ++ first.now ++ spaced second.now ++ spaced third.now)) }
 {
     put_pair(out, word, first, second)?;
     put_spaced(out, third)
@@ -76,7 +77,8 @@ pub fn put_of_names(
     word: &str,
     names: &[ModName],
 ) -> Result<(), AllocError>
-    ensures { OnOk result (out.new.items ≡ out.old.items ++ (of_client client word.now ++ names_text names.now)) }
+    ensures { OnOk result
+        (out.new.items ≡ out.old.items ++ (of_client client word.now ++ names_text names.now)) }
 {
     put_of(out, client, word)?;
     put_names(out, names)
@@ -90,7 +92,8 @@ pub fn put_of_message(
     name: &ModName,
     text: &Text,
 ) -> Result<(), AllocError>
-    ensures { OnOk result (out.new.items ≡ out.old.items ++ (of_client client word.now ++ name.now ++ after_space text.now)) }
+    ensures { OnOk result
+        (out.new.items ≡ out.old.items ++ (of_client client word.now ++ name.now ++ after_space text.now)) }
 {
     put_of_text(out, client, word, name.as_str())?;
     put_after_space(out, text)
@@ -137,7 +140,8 @@ pub fn put_settle_line(
     version: Ver,
     outcome: &SettleWord,
 ) -> Result<(), AllocError>
-    ensures { OnOk result (out.new.items ≡ out.old.items ++ body_text (lines.Settle name.now version outcome.now)) }
+    ensures { OnOk result
+        (out.new.items ≡ out.old.items ++ body_text (lines.Settle name.now version outcome.now)) }
 {
     put_worded(out, "settle ", name.as_str())?;
     put_spaced_number(out, version)?;
@@ -165,7 +169,8 @@ pub fn put_batch_line(
     batch: u64,
     triggered: &[ModName],
 ) -> Result<(), AllocError>
-    ensures { OnOk result (out.new.items ≡ out.old.items ++ body_text (lines.Batch client batch triggered.now)) }
+    ensures { OnOk result
+        (out.new.items ≡ out.old.items ++ body_text (lines.Batch client batch triggered.now)) }
 {
     put_of(out, client, " batch ")?;
     put_number(out, batch)?;
@@ -180,7 +185,8 @@ pub fn put_accept_line(
     boundary: &ModName,
     via: &ModName,
 ) -> Result<(), AllocError>
-    ensures { OnOk result (out.new.items ≡ out.old.items ++ body_text (lines.Accept client boundary.now via.now)) }
+    ensures { OnOk result
+        (out.new.items ≡ out.old.items ++ body_text (lines.Accept client boundary.now via.now)) }
 {
     put_of_text(out, client, " accept ", boundary.as_str())?;
     put_spaced(out, via.as_str())
@@ -207,7 +213,8 @@ pub fn put_error_line(
     column: u64,
     word: FaultWord,
 ) -> Result<(), AllocError>
-    ensures { OnOk result (out.new.items ≡ out.old.items ++ body_text (lines.Error client name.now line column word)) }
+    ensures { OnOk result
+        (out.new.items ≡ out.old.items ++ body_text (lines.Error client name.now line column word)) }
 {
     put_of_text(out, client, " error ", name.as_str())?;
     put(out, " ")?;
@@ -222,7 +229,8 @@ pub fn put_fault_line(
     place: FaultPlace,
     fault: &EvalFault,
 ) -> Result<(), AllocError>
-    ensures { OnOk result (out.new.items ≡ out.old.items ++ body_text (lines.Fault client name.now place fault.now)) }
+    ensures { OnOk result
+        (out.new.items ≡ out.old.items ++ body_text (lines.Fault client name.now place fault.now)) }
 {
     put_of_text(out, client, " fault ", name.as_str())?;
     put_spaced(out, place_str(place))?;
@@ -237,7 +245,8 @@ pub fn put_nohost_line(
     name: &ModName,
     label: &Text,
 ) -> Result<(), AllocError>
-    ensures { OnOk result (out.new.items ≡ out.old.items ++ body_text (lines.NoHost client name.now label.now)) }
+    ensures { OnOk result
+        (out.new.items ≡ out.old.items ++ body_text (lines.NoHost client name.now label.now)) }
 {
     put_of_text(out, client, " nohost ", name.as_str())?;
     put(out, " ")?;
@@ -263,7 +272,8 @@ pub fn put_value_line(
     export: &Name,
     value: &Slot,
 ) -> Result<(), AllocError>
-    ensures { OnOk result (out.new.items ≡ out.old.items ++ body_text (lines.Value name.now export.now value.now)) }
+    ensures { OnOk result
+        (out.new.items ≡ out.old.items ++ body_text (lines.Value name.now export.now value.now)) }
 {
     put_pair(out, "value ", name.as_str(), export.as_str())?;
     put(out, " ")?;
@@ -279,7 +289,9 @@ pub fn put_instance_line(
     status: InstanceStatus,
     fate: &InstanceFate,
 ) -> Result<(), AllocError>
-    ensures { OnOk result (out.new.items ≡ out.old.items ++ body_text (lines.Instance number name.now version status fate.now)) }
+    ensures { OnOk result
+        (out.new.items
+        ≡ out.old.items ++ body_text (lines.Instance number name.now version status fate.now)) }
 {
     put(out, "instance ")?;
     put_instance(out, number, name, version, status, fate)

@@ -1,7 +1,9 @@
 // The parts of a line that have several forms: an outcome, a fault, a value, a fate.
 ghost use Rattle.std.specs.Prelude.{◌≡◌, ◌++◌, OnOk};
 ghost use Rattle.play_text.specs.Texts.{after_space};
-ghost use Rattle.play_text.specs.Lines.{fault_at, text_fault, edit_text, remove_text, result_text, abort_text, eval_fault, slot_text, fate_text, instance_text, handled_text};
+ghost use Rattle.play_text.specs.Lines.{fault_at, text_fault, edit_text, remove_text};
+ghost use Rattle.play_text.specs.Lines.{result_text, abort_text, eval_fault, slot_text};
+ghost use Rattle.play_text.specs.Lines.{fate_text, instance_text, handled_text};
 
 use crate::pieces::{
     put, put_escaped, put_number, put_quoted, put_signed, put_spaced, put_spaced_number,
@@ -22,7 +24,8 @@ pub fn put_instance(
     status: InstanceStatus,
     fate: &InstanceFate,
 ) -> Result<(), AllocError>
-    ensures { OnOk result (out.new.items ≡ out.old.items ++ instance_text number name.now version status fate.now) }
+    ensures { OnOk result
+        (out.new.items ≡ out.old.items ++ instance_text number name.now version status fate.now) }
 {
     put_number(out, u64::from(number))?;
     put_spaced(out, name.as_str())?;

@@ -1,6 +1,7 @@
 // The spelling of each word that stands in a line.
 ghost use Rattle.std.specs.Prelude.{◌≡◌};
-ghost use Rattle.play_text.specs.Words.{fault_word, refusal_word, plan_word, cause_word, place_word, kind_word, state_word, end_word, status_word, ending_word};
+ghost use Rattle.play_text.specs.Words.{fault_word, refusal_word, plan_word, cause_word, place_word};
+ghost use Rattle.play_text.specs.Words.{kind_word, state_word, end_word, status_word, ending_word};
 
 use hmr_types::{EditRefusal, FaultWord, HandlerKind, PlanKind, ReloadCause};
 use output_lines::{ClientState, EndWord, FaultPlace, HandlerEnd, InstanceStatus};

@@ -1,5 +1,6 @@
 -- The paths to the names that a search meets, kept as the place from which an edge led to each.
-use Rattle.std.specs.Prelude.{◌≡◌, ℕ, ◌<◌, not, List, [], ◌∷◌, ◌++◌, length, filter, get_or, Option, Some, None, if◌then◌else◌}
+use Rattle.std.specs.Prelude.{◌≡◌, ◌<◌, [], ◌∷◌, ◌++◌}
+use Rattle.std.specs.Prelude.{ℕ, not, List, length, filter, get_or, Option, Some, None, if◌then◌else◌}
 use Rattle.core_model.specs.Names.{Name, has}
 
 -- those of the names that aren't met

@@ -17,4 +17,5 @@ bag_of bags name = bag_or_empty (entry_at name bags)
 
 -- afterwards the name has this bag, and each other name the bag that it had
 abbrev pub HasBag : List ℕ → Kept → KeptBags → KeptBags → Type 0
-HasBag name bag before after = (n : List ℕ) → bag_of after n ≡ (if bytes_eq n name then bag else bag_of before n)
+HasBag name bag before after = (n : List ℕ)
+    → bag_of after n ≡ (if bytes_eq n name then bag else bag_of before n)

@@ -1,7 +1,7 @@
 // Transcripts of a client. Each row is played or told. Played is a row with a message of a server, as JSON;
-// a row `lie KIND ..`, with wrong answers of these kinds; and a row with `?` at its front, which looks at the
-// client or fires an event at it. What it tells stands behind it, and the request that stands is told before
-// each message.
+// a row `lie KIND ..`, with wrong answers of these kinds; and a row with `?` at its front, which looks at
+// the client or fires an event at it. What it tells stands behind it, and the request that stands is told
+// before each message.
 ghost use Rattle.std.specs.Prelude.{◌≡◌, ℕ, IfOk, codes};
 ghost use Rattle.handler_table.specs.Held.{IsHost};
 ghost use Rattle.update_msgs.specs.Writable.{IsFormat, IsWritable};
@@ -383,7 +383,8 @@ pub fn played<F: FnOnce(Bag) -> Result<Ran, AllocError> + Drop, M: Fn(u32) -> F 
     requires format { IsFormat format }
     requires makes { M.IsAlwaysCallable make }
     requires callable { (f : F) → F.IsAlwaysCallable f }
-    requires hosts { (n : ℕ) (f : F) → M.post make n f → IsHost F.post (record { label = codes "H"; number = n; call = f }) }
+    requires hosts { (n : ℕ) (f : F) → M.post make n f
+        → IsHost F.post (record { label = codes "H"; number = n; call = f }) }
 {
     let label = text(alloc, "H")?;
     let mut out = String::new(alloc);

@@ -36,8 +36,8 @@ module _ {R L G : Type 0} (g : Link.Ghosts L) where
     pub runs : Runs Worked running job
     pub of : JobOf g (hub_mark hub) job
 
-  -- The workers and sessions are of the hub, and so is what was gathered; there is room for what they and the
-  -- clients leave.
+  -- The workers and sessions are of the hub, and so is what was gathered; there is room for what they and
+  -- the clients leave.
   pub record IsCrew {C : Type 0} (hub : Hub) (running : Vec (Running (ServeJob R L G g) (ServeOut R L)))
       (clients : Vec C) (gathered : Gathered) : Type 0 where
     pub jobs : All (RunsOn hub) running.items

@@ -128,7 +128,8 @@ where
         ensures few { sum (P.begun spawner.new) ≤ sum (P.begun spawner.old) + length workers.takers.items }
         ensures kept { OnOk result (passes_due self.new.running self.new.gathered
             ≡ passes_due self.old.running self.old.gathered + length workers.takers.items) }
-        ensures logs { logs_due self.new.clients self.new.gathered ≡ logs_due self.old.clients self.old.gathered }
+        ensures logs { logs_due self.new.clients self.new.gathered
+            ≡ logs_due self.old.clients self.old.gathered }
         ensures spent { IsSpentBy (all_given pass.old) (all_given pass.new) result }
         ensures failed { IsErrOf result Cause.Fault → Rose (N.faults net.old) (N.faults net.new) }
     {
@@ -174,7 +175,8 @@ where
         ensures few { sum (P.begun spawner.new) ≤ sum (P.begun spawner.old) + 1 }
         ensures kept { OnOk result (passes_due self.new.running self.new.gathered
             ≡ passes_due self.old.running self.old.gathered + 1) }
-        ensures logs { logs_due self.new.clients self.new.gathered ≡ logs_due self.old.clients self.old.gathered }
+        ensures logs { logs_due self.new.clients self.new.gathered
+            ≡ logs_due self.old.clients self.old.gathered }
         ensures spent { IsSpentBy (all_given pass.old) (all_given pass.new) result }
         ensures failed { IsErrOf result Cause.Fault → Rose (N.faults net.old) (N.faults net.new) }
     {
@@ -356,7 +358,8 @@ where
         ensures few { sum (P.begun spawner.new) ≤ sum (P.begun spawner.old) + count }
         ensures kept { OnOk result (passes_due self.new.running self.new.gathered
             ≡ passes_due self.old.running self.old.gathered + count) }
-        ensures logs { logs_due self.new.clients self.new.gathered ≡ logs_due self.old.clients self.old.gathered }
+        ensures logs { logs_due self.new.clients self.new.gathered
+            ≡ logs_due self.old.clients self.old.gathered }
         ensures spent { IsSpentBy (all_given pass.old) (all_given pass.new) result }
         ensures failed { IsErrOf result Cause.Fault → Rose (N.faults net.old) (N.faults net.new) }
     {
@@ -393,7 +396,8 @@ where
         ensures few { sum (P.begun spawner.new) ≤ sum (P.begun spawner.old) + 1 }
         ensures kept { OnOk result (passes_due self.new.running self.new.gathered
             ≡ passes_due self.old.running self.old.gathered + 1) }
-        ensures logs { logs_due self.new.clients self.new.gathered ≡ logs_due self.old.clients self.old.gathered }
+        ensures logs { logs_due self.new.clients self.new.gathered
+            ≡ logs_due self.old.clients self.old.gathered }
         ensures spent { IsSpentBy (all_given pass.old) (all_given pass.new) result }
         ensures failed { IsErrOf result Cause.Fault → Rose (N.faults net.old) (N.faults net.new) }
     {
@@ -430,7 +434,8 @@ where
         ensures few { sum (P.begun spawner.new) ≤ sum (P.begun spawner.old) + 1 }
         ensures kept { OnOk result (passes_due self.new.running self.new.gathered
             ≡ passes_due self.old.running self.old.gathered + 1) }
-        ensures logs { logs_due self.new.clients self.new.gathered ≡ logs_due self.old.clients self.old.gathered }
+        ensures logs { logs_due self.new.clients self.new.gathered
+            ≡ logs_due self.old.clients self.old.gathered }
         ensures spent { IsSpentBy (all_given pass.old) (all_given pass.new) result }
         ensures unfailed { IfErr result (λ cause. cause ≢ Cause.Fault) }
     {

@@ -110,7 +110,8 @@ where
         ensures few { sum (P.begun spawner.new) ≤ sum (P.begun spawner.old) + 1 }
         ensures kept { passes_due self.new.running self.new.gathered
             ≡ passes_due self.old.running self.old.gathered + 1 }
-        ensures logs { logs_due self.new.clients self.new.gathered ≡ logs_due self.old.clients self.old.gathered }
+        ensures logs { logs_due self.new.clients self.new.gathered
+            ≡ logs_due self.old.clients self.old.gathered }
     {
         match start(rt, alloc, spawner, job) {
             Ok(running) => self.running.push_reserved(running),

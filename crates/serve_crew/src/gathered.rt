@@ -14,8 +14,8 @@ use serve_reports::Log;
 use std::alloc::Global;
 
 /// What jobs that ended have left. How they ended is told by `memory`, `full` and `fault` alone: a session
-/// that ended by a bad message, and a client of the program's own that ended by one, by an unexpected answer or
-/// by too many instances, leave all three false.
+/// that ended by a bad message, and a client of the program's own that ended by one, by an unexpected answer
+/// or by too many instances, leave all three false.
 #[derive(Drop)]
 pub struct Gathered {
     /// The passes of workers and sessions, begun or given up.

@@ -6,10 +6,10 @@
 //! finished, and a [`Gathered`] has what they left: the passes, the logs of clients, and what went wrong.
 //!
 //! Stands on `serve_jobs` for what a job is and ends in, on `jobs` for how it is started, on `links` for
-//! connections and on `hmr_hub` for passes. Keeps: each pass that was split off for a job comes back, and each
-//! of the program's own clients leaves a log; a fault is noted only where the count of the net or of the
-//! spawner rose; each end is shut and given back; and there is room for what a job leaves before it is started.
-//! Knows nothing of edits, folders or reports.
+//! connections and on `hmr_hub` for passes. Keeps: each pass that was split off for a job comes back, and
+//! each of the program's own clients leaves a log; a fault is noted only where the count of the net or of
+//! the spawner rose; each end is shut and given back; and there is room for what a job leaves before it is
+//! started. Knows nothing of edits, folders or reports.
 #![tactic(auto)]
 
 mod beginning;

@@ -11,7 +11,8 @@ ending_of told = option_map (λ t. t.0) told
 
 -- how a client's job has ended: its link is shut, it was worked or given up, and an ending by a fault of the
 -- link is shown by the link's count
-pub record IsClientEnd {X : Type 0} (phase : Phase) (faults : ℕ) (told : Option (Ended × X)) (worked : Bool) : Type 0 where
+pub record IsClientEnd {X : Type 0} (phase : Phase) (faults : ℕ) (told : Option (Ended × X))
+    (worked : Bool) : Type 0 where
   pub shut : phase ≡ Shut
   pub faulty : ending_of told ≡ Some LinkFault → faults ≢ 0
   pub unstopped : ending_of told ≢ Some Stopped

@@ -24,10 +24,12 @@ pub record IsShut {L : Type 0} (g : Link.Ghosts L) (link : L) (ended : Option En
 module _ {R L G : Type 0} (g : Link.Ghosts L) where
   -- what may be handed back for a job, worked or not: of its kind, and with its hub and passes
   abbrev pub OutOf : ServeJob R L G g → ServeOut R L → Type 0
-  OutOf (Worker j) (WorkerOut board ended) = SameBoard j.board board × (ended ≡ Some (Err TranscriptFull) → board.full ≡ true)
+  OutOf (Worker j) (WorkerOut board ended) =
+      SameBoard j.board board × (ended ≡ Some (Err TranscriptFull) → board.full ≡ true)
   OutOf (Worker j) (SessionOut desk link ended) = ⊥
   OutOf (Session j) (WorkerOut board ended) = ⊥
-  OutOf (Session j) (SessionOut desk link ended) = SameDesk j.desk desk × IsShut g link ended × (ended ≡ Some Stopped → desk.full ≡ true)
+  OutOf (Session j) (SessionOut desk link ended) =
+      SameDesk j.desk desk × IsShut g link ended × (ended ≡ Some Stopped → desk.full ≡ true)
 
   -- the job's pass is of the hub with this mark
   abbrev pub JobOf : TableId → ServeJob R L G g → Type 0
@@ -37,8 +39,10 @@ module _ {R L G : Type 0} (g : Link.Ghosts L) where
 module _ {R L : Type 0} (g : Link.Ghosts L) where
   -- what was handed back has a pass of the hub with this mark
   abbrev pub OutIsGood : TableId → ServeOut R L → Type 0
-  OutIsGood mark (WorkerOut board ended) = (mark_of board.pass ≡ mark) × (ended ≡ Some (Err TranscriptFull) → board.full ≡ true)
-  OutIsGood mark (SessionOut desk link ended) = (mark_of desk.pass ≡ mark) × IsShut g link ended × (ended ≡ Some Stopped → desk.full ≡ true)
+  OutIsGood mark (WorkerOut board ended) =
+      (mark_of board.pass ≡ mark) × (ended ≡ Some (Err TranscriptFull) → board.full ≡ true)
+  OutIsGood mark (SessionOut desk link ended) =
+      (mark_of desk.pass ≡ mark) × IsShut g link ended × (ended ≡ Some Stopped → desk.full ≡ true)
 
 module _ {R L G : Type 0} (g : Link.Ghosts L) where
   -- what is handed back of a job that was worked: a session's desk was left at last
@@ -46,7 +50,8 @@ module _ {R L G : Type 0} (g : Link.Ghosts L) where
   HasLeft (Worker j) (WorkerOut board ended) = ⊤
   HasLeft (Worker j) (SessionOut desk link ended) = ⊥
   HasLeft (Session j) (WorkerOut board ended) = ⊥
-  HasLeft (Session j) (SessionOut desk link ended) = (served : HubDesk R) × SameDesk j.desk served × Left served desk
+  HasLeft (Session j) (SessionOut desk link ended) =
+      (served : HubDesk R) × SameDesk j.desk served × Left served desk
 
   -- what is handed back of a job that was given up: its desk or board as it was
   abbrev pub IsUntouched : ServeJob R L G g → ServeOut R L → Type 0

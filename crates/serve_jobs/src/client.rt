@@ -46,8 +46,8 @@ pub struct ClientEnd<L> {
     pub client: ClientId,
     /// Its end of the link, which is shut.
     pub link: L,
-    /// How its session ended, and the lines of what it took, in order. `None` exactly where the job was given
-    /// up.
+    /// How its session ended, and the lines of what it took, in order. `None` exactly where the job was
+    /// given up.
     pub told: Option<(Ended, Vec<OutLine>)>,
 }
 

@@ -2,7 +2,8 @@
 //
 // A thread may be refused after the job has gone into its closure, which the caller then gets back. So
 // caller and closure share a flag: a closure that finds it set gives its job up, and tells which it did.
-ghost use Rattle.std.specs.Prelude.{◌≡◌, ◌≤◌, ◌<◌, IfErr, IfOk, OnErr, OnOk, Bool, false, is_some, sum, true};
+ghost use Rattle.std.specs.Prelude.{◌≡◌, ◌≤◌, ◌<◌};
+ghost use Rattle.std.specs.Prelude.{IfErr, IfOk, OnErr, OnOk, Bool, false, is_some, sum, true};
 ghost use Rattle.hmr_base.specs.Causes.{Rose};
 ghost use Rattle.jobs.specs.Begun.{most_starts, one_more};
 ghost use Rattle.serve_jobs.specs.ClientEnds.{IsClientEnd};
@@ -117,7 +118,8 @@ pub fn start_client<
 ) -> Result<RunningClient<L>, ClientEnd<L>>
     requires few { sum (P.begun spawner.old) < most_starts }
     requires ready { IsReady F.post ((f : F) → F.IsAlwaysCallable f) job.opening.shelf }
-    ensures refused { IfErr result (λ end. IsClientEnd (L.phase end.link) (L.faults end.link) end.told false) }
+    ensures refused { IfErr result
+        (λ end. IsClientEnd (L.phase end.link) (L.faults end.link) end.told false) }
     ensures begun { OnOk result (P.begun spawner.new ≡ one_more (P.begun spawner.old) 2) }
     ensures same { OnErr result (P.begun spawner.new ≡ P.begun spawner.old) }
     ensures later { P.faults spawner.old ≤ P.faults spawner.new }
@@ -153,7 +155,8 @@ pub fn finish_client<P: Spawner, L: Link + Drop, R: Threads + Wait>(
     spawner: &mut P,
     running: RunningClient<L>,
 ) -> ClientEnd<L>
-    ensures ended { (worked : Bool) × IsClientEnd (L.phase result.link) (L.faults result.link) result.told worked }
+    ensures ended { (worked : Bool)
+        × IsClientEnd (L.phase result.link) (L.faults result.link) result.told worked }
     ensures failed { is_some result.told ≡ false → Rose (P.faults spawner.old) (P.faults spawner.new) }
     ensures begun { P.begun spawner.new ≡ P.begun spawner.old }
     ensures later { P.faults spawner.old ≤ P.faults spawner.new }

@@ -1,13 +1,13 @@
 //! What the threads of a server do, and what they hand back.
 //!
-//! A [`ServeJob`] is a worker or a session; worked or given up, it ends in a [`ServeOut`]. A [`ClientJob`] is
-//! a client of the program's own, which [`start_client`] begins in a thread and [`finish_client`] waits for;
-//! it ends in a [`ClientEnd`]. Stands on `hub_desks` for desks and boards, on `transform_pool`, `sessions` and
-//! `client_sessions` for the work itself, and on `jobs` for what a job is and what counts its start. Keeps: an
-//! Out is of its job's kind, with the job's hub and passes; its link is shut; an ending by a fault of the link
-//! or by a full transcript stands in it only where the link, or the desk or board, shows that; the hub was
-//! told that the client of a session is gone, and a job that was given up told it nothing. Knows nothing of
-//! which jobs a server starts, nor of what becomes of their Outs.
+//! A [`ServeJob`] is a worker or a session; worked or given up, it ends in a [`ServeOut`]. A [`ClientJob`]
+//! is a client of the program's own, which [`start_client`] begins in a thread and [`finish_client`] waits
+//! for; it ends in a [`ClientEnd`]. Stands on `hub_desks` for desks and boards, on `transform_pool`,
+//! `sessions` and `client_sessions` for the work itself, and on `jobs` for what a job is and what counts its
+//! start. Keeps: an Out is of its job's kind, with the job's hub and passes; its link is shut; an ending by
+//! a fault of the link or by a full transcript stands in it only where the link, or the desk or board, shows
+//! that; the hub was told that the client of a session is gone, and a job that was given up told it nothing.
+//! Knows nothing of which jobs a server starts, nor of what becomes of their Outs.
 #![tactic(auto)]
 
 mod client;

@@ -14,9 +14,11 @@ impl<R: Wait + Drop, L: Link + Drop, G: Gate + Drop> Job for ServeJob<R, L, G> {
 
     ghost use Rattle.serve_jobs.specs.Outs.{HasLeft, IsUntouched, OutOf, is_unrun, kind_of};
 
-    ghost works = { λ job out. OutOf ⟦<L as Link>⟧ job out × (is_unrun out ≡ false) × HasLeft ⟦<L as Link>⟧ job out };
+    ghost works = { λ job out. OutOf ⟦<L as Link>⟧ job out × (is_unrun out ≡ false)
+        × HasLeft ⟦<L as Link>⟧ job out };
 
-    ghost gives_up = { λ job out. OutOf ⟦<L as Link>⟧ job out × (is_unrun out ≡ true) × IsUntouched ⟦<L as Link>⟧ job out };
+    ghost gives_up = { λ job out. OutOf ⟦<L as Link>⟧ job out × (is_unrun out ≡ true)
+        × IsUntouched ⟦<L as Link>⟧ job out };
 
     ghost kind_of = { kind_of };
 

@@ -8,7 +8,8 @@ use std::sync::{Arc, Wait};
 use std::thread;
 
 /// Lets version 2 pass once version 3 has passed, which sets `third`, and every other version at once;
-/// version 2 then sets `turned`. After 100,000,000 turns of its loop it passes all the same and sets nothing.
+/// version 2 then sets `turned`. After 100,000,000 turns of its loop it passes all the same and sets
+/// nothing.
 #[derive(Drop)]
 pub struct TurningGate {
     pub third: Arc<AtomicBool, Global>,

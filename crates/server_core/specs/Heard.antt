@@ -12,7 +12,8 @@ use Rattle.server_core.specs.Clients.{Clients, AreClients, numbers_of}
 use Rattle.server_core.specs.Said.{said, IsWritten}
 
 -- a connected client's request is heard on its own record
-abbrev pub heard_of : Option Client → Sources → ℕ → Request → List (ℕ × Client) → List (ℕ × Client) × model.Reply
+abbrev pub heard_of : Option Client → Sources → ℕ → Request → List (ℕ × Client)
+    → List (ℕ × Client) × model.Reply
 heard_of None s i r rows = (rows, refused UnknownClient)
 heard_of (Some c) s i r rows = (with_client i (heard i s c r).0 rows, (heard i s c r).1)
 
@@ -22,9 +23,12 @@ heard_by s i r rows = heard_of (client_at rows i) s i r rows
 
 -- a request was heard: the clients are those after it, the reply is the definition's and can be written,
 -- after a want of memory they are as before, and every other record is as it was
-pub record IsHeard (s : Sources) (i : ℕ) (r : Request) (old new : Clients) (result : Result Reply AllocError) : Type 0 where
-  pub stands : (rows : List (ℕ × Client)) → AreClients s rows old → OnOk result (AreClients s (heard_by s i r rows).0 new)
-  pub reply : (rows : List (ℕ × Client)) → AreClients s rows old → IfOk result (λ reply. said (heard_by s i r rows).1 ≡ reply)
+pub record IsHeard (s : Sources) (i : ℕ) (r : Request) (old new : Clients)
+    (result : Result Reply AllocError) : Type 0 where
+  pub stands : (rows : List (ℕ × Client)) → AreClients s rows old
+      → OnOk result (AreClients s (heard_by s i r rows).0 new)
+  pub reply : (rows : List (ℕ × Client)) → AreClients s rows old
+      → IfOk result (λ reply. said (heard_by s i r rows).1 ≡ reply)
   pub written : (rows : List (ℕ × Client)) → AreClients s rows old → IfOk result IsWritten
   pub kept : (rows : List (ℕ × Client)) → AreClients s rows old → OnErr result (AreClients s rows new)
   pub numbers : numbers_of new ≡ numbers_of old

@@ -1,9 +1,11 @@
 -- What the core keeps, and when that is what the events so far give.
-use Rattle.std.specs.Prelude.{◌≡◌, ℕ, ◌==◌, Bool, true, false, not, ◌||◌, List, ◌∷◌, Result, IfOk, IsOk, OnOk, OnErr, Option, Some, None}
+use Rattle.std.specs.Prelude.{◌≡◌, ℕ, ◌==◌, Bool, true, false, not, ◌||◌, List, ◌∷◌}
+use Rattle.std.specs.Prelude.{Result, IfOk, IsOk, OnOk, OnErr, Option, Some, None}
 use Rattle.std.specs.declared.alloc.AllocError.{AllocError}
 use Rattle.core_model.specs.Names.{Name}
 use Rattle.core_model.specs.Roots.{are_bad}
-use Rattle.core_model.specs.Sources.{Sources, edit, result, EditAnswer, job, same, removed, edit_refused, edit_answer}
+use Rattle.core_model.specs.Sources.{Sources, edit, result, EditAnswer, job, same}
+use Rattle.core_model.specs.Sources.{removed, edit_refused, edit_answer}
 use Rattle.core_model.specs.Client.{Client}
 use Rattle.core_model.specs.Requests.{Request, ask, fetch, applied_as, aborted, invalidate}
 use Rattle.core_model.specs.Core as model
@@ -62,8 +64,11 @@ is_free core (model.disconnect i) = true
 pub record IsStep (event : model.Event) (old new : Kept) (result : Result Reply AllocError) : Type 0 where
   pub roots : new.roots ≡ old.roots
   pub stands : (past : List model.Event) → StandsFor past old → OnOk result (StandsFor (event ∷ past) new)
-  pub reply : (past : List model.Event) → StandsFor past old → IfOk result (λ reply. said (model.step old.roots (core_after old.roots past) event).1 ≡ reply)
+  pub reply : (past : List model.Event) → StandsFor past old
+      → IfOk result (λ reply. said (model.step old.roots (core_after old.roots past) event).1 ≡ reply)
   pub written : (past : List model.Event) → StandsFor past old → IfOk result IsWritten
   pub kept : (past : List model.Event) → StandsFor past old → OnErr result (StandsFor past new)
-  pub free : (past : List model.Event) → StandsFor past old → is_free (core_after old.roots past) event ≡ true → IsOk result
-  pub others : (j : ℕ) (k : client.Kept) → leaves j event ≡ true → client_at old.clients j ≡ Some k → client_at new.clients j ≡ Some k
+  pub free : (past : List model.Event) → StandsFor past old
+      → is_free (core_after old.roots past) event ≡ true → IsOk result
+  pub others : (j : ℕ) (k : client.Kept) → leaves j event ≡ true → client_at old.clients j ≡ Some k
+      → client_at new.clients j ≡ Some k

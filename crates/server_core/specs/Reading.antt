@@ -29,4 +29,5 @@ page_of core i = option_map (λ (c : Client). table_of c.page.view) (client_at c
 
 -- what a connected client's page would load anew
 abbrev pub load_at : Core → ℕ → Option FreshLoad
-load_at core i = option_map (λ (c : Client). fresh_load links core.sources.served c.roots) (client_at core.clients i)
+load_at core i =
+    option_map (λ (c : Client). fresh_load links core.sources.served c.roots) (client_at core.clients i)

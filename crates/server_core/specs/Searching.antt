@@ -44,5 +44,6 @@ unlinked_in None names n m = []
 unlinked_in (Some set) names n m = map (λ x. (n, m, x)) (sorted (filter (λ x. not (has set x)) names))
 
 -- what n imports from m, and m doesn't export, by look-up
-abbrev pub unlinked_by : List (Name × List Name) → List (Name × List Name) → Name → Name → List (Name × Name × Name)
+abbrev pub unlinked_by : List (Name × List Name) → List (Name × List Name) → Name → Name
+    → List (Name × Name × Name)
 unlinked_by sets linked n m = unlinked_in (at sets m) (kept_or_none (at linked m)) n m

@@ -17,7 +17,8 @@ use version_map::{EditFault, EditOutcome, Settled};
 impl Core {
     /// A module gets a text, or its source is taken away.
     pub(crate) fn edit(&mut self, name: ModName, text: Option<Vec<u8>>) -> Result<Reply, AllocError>
-        ensures { IsStep (model.change (changes.edit name (option_map (λ t. t.items) text))) self.old self.new result }
+        ensures { IsStep
+            (model.change (changes.edit name (option_map (λ t. t.items) text))) self.old self.new result }
     {
         match text {
             Some(text) => self.give(name, text),
@@ -58,7 +59,9 @@ impl Core {
         transformed: Transformed,
         ver: Ver,
     ) -> Result<Reply, AllocError>
-        ensures { IsStep (model.change (changes.result transformed.name transformed.text transformed.outcome ver)) self.old self.new result }
+        ensures { IsStep
+            (model.change (changes.result transformed.name transformed.text transformed.outcome ver))
+            self.old self.new result }
     {
         let name = transformed.name().clone()?;
         if is_good(transformed.outcome()) {
@@ -72,7 +75,9 @@ impl Core {
     fn settle_good(&mut self, transformed: Transformed, ver: Ver, name: &ModName) -> Reply
         requires good { is_good transformed.outcome ≡ true }
         requires name { name.now ≡ transformed.name }
-        ensures { IsStep (model.change (changes.result transformed.name transformed.text transformed.outcome ver)) self.old self.new (Ok result) }
+        ensures { IsStep
+            (model.change (changes.result transformed.name transformed.text transformed.outcome ver))
+            self.old self.new (Ok result) }
     {
         let settled = self.versions.settle(transformed, ver);
         if let Settled::Served = settled {
@@ -92,7 +97,9 @@ impl Core {
     ) -> Result<Reply, AllocError>
         requires bad { is_good transformed.outcome ≡ false }
         requires name { name.now ≡ transformed.name }
-        ensures { IsStep (model.change (changes.result transformed.name transformed.text transformed.outcome ver)) self.old self.new result }
+        ensures { IsStep
+            (model.change (changes.result transformed.name transformed.text transformed.outcome ver))
+            self.old self.new result }
     {
         make_room(&mut self.clients)?;
         let copies = copies_for(alloc, &self.clients, name)?;

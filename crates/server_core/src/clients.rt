@@ -1,6 +1,7 @@
 // The connected clients in the order of their numbers, of which there are at most 32, and what each is
 // told of a change of the sources.
-ghost use Rattle.std.specs.Prelude.{◌≡◌, ◌<◌, ◌≤◌, ℕ, All, IfNone, IfOk, IfSome, List, None, OnOk, Some, get_or, is_some, length, slice_set};
+ghost use Rattle.std.specs.Prelude.{◌≡◌, ◌<◌, ◌≤◌, ℕ, All, IfNone, IfOk, IfSome, List, None};
+ghost use Rattle.std.specs.Prelude.{OnOk, Some, get_or, is_some, length, slice_set};
 ghost use Rattle.std.specs.Option.{option_copied};
 ghost use Rattle.core_model.specs.Client.{Client, with_notice, without_notice};
 ghost use Rattle.core_model.specs.Core.{client_at, each_client, with_client, without_client};
@@ -22,9 +23,14 @@ pub(crate) fn place_of(clients: &[Row], number: ClientId) -> Option<usize>
     ensures none { IfNone result (client_at clients.now number ≡ None) }
     ensures known { is_some result ≡ is_some (client_at clients.now number) }
     ensures within { IfSome result (λ place. place < length clients.now) }
-    ensures there { IfSome result (λ place. (d : ℕ × client.Kept) → client_at clients.now number ≡ Some (get_or clients.now place d).1) }
-    ensures number { IfSome result (λ place. (d : ℕ × client.Kept) → (get_or clients.now place d).0 ≡ number) }
-    ensures with { IfSome result (λ place. (k : client.Kept) → with_client number k clients.now ≡ slice_set clients.now place (number, k)) }
+    ensures there { IfSome result
+        (λ place. (d : ℕ × client.Kept)
+        → client_at clients.now number ≡ Some (get_or clients.now place d).1) }
+    ensures number { IfSome result
+        (λ place. (d : ℕ × client.Kept) → (get_or clients.now place d).0 ≡ number) }
+    ensures with { IfSome result
+        (λ place. (k : client.Kept)
+        → with_client number k clients.now ≡ slice_set clients.now place (number, k)) }
 {
     for place in 0..clients.len() {
         if clients[place].0 == number {
@@ -54,7 +60,9 @@ pub(crate) fn take_out(clients: &mut Vec<Row>, number: ClientId)
 /// Each client is told that the module has just been served anew or removed; `sources` is as it is
 /// after that. It takes no memory.
 pub(crate) fn tell_changed(clients: &mut [Row], sources: &VersionMap, name: &ModName)
-    ensures stands { (s : Sources) (rows : List (ℕ × Client)) → AreClients s rows clients.old → SameBut name.now s sources.now → AreClients sources.now (each_client (without_notice name.now) rows) clients.new }
+    ensures stands { (s : Sources) (rows : List (ℕ × Client)) → AreClients s rows clients.old
+        → SameBut name.now s sources.now
+        → AreClients sources.now (each_client (without_notice name.now) rows) clients.new }
     ensures numbers { numbers_of clients.new ≡ numbers_of clients.old }
 {
     for row in clients.iter_mut() {
@@ -65,7 +73,8 @@ pub(crate) fn tell_changed(clients: &mut [Row], sources: &VersionMap, name: &Mod
 /// Makes room for a notice with each client, so that the next one isn't refused. It changes nothing else.
 pub(crate) fn make_room(clients: &mut [Row]) -> Result<(), AllocError>
     ensures room { OnOk result (All HasRoom clients.new) }
-    ensures stands { (s : Sources) (rows : List (ℕ × Client)) → AreClients s rows clients.old → AreClients s rows clients.new }
+    ensures stands { (s : Sources) (rows : List (ℕ × Client)) → AreClients s rows clients.old
+        → AreClients s rows clients.new }
     ensures numbers { numbers_of clients.new ≡ numbers_of clients.old }
 {
     for row in clients.iter_mut() {
@@ -100,7 +109,8 @@ pub(crate) fn give_notices(
     requires room { All HasRoom clients.old }
     requires copies { All (λ m. m ≡ name.now) copies.items }
     requires many { length copies.items ≡ length clients.old }
-    ensures stands { (s : Sources) (rows : List (ℕ × Client)) → AreClients s rows clients.old → AreClients s (each_client (with_notice name.now fault) rows) clients.new }
+    ensures stands { (s : Sources) (rows : List (ℕ × Client)) → AreClients s rows clients.old
+        → AreClients s (each_client (with_notice name.now fault) rows) clients.new }
     ensures numbers { numbers_of clients.new ≡ numbers_of clients.old }
 {
     for row in clients.iter_mut() {

@@ -40,7 +40,9 @@ impl Core {
 
     // Whether no further client is taken.
     fn is_full(&self) -> bool
-        ensures { result ≡ (nat_le CLIENTS (length (numbers_of self.now.clients)) || nat_le LARGEST_CLIENT self.now.given) }
+        ensures { result
+            ≡ (nat_le CLIENTS (length (numbers_of self.now.clients))
+            || nat_le LARGEST_CLIENT self.now.given) }
     {
         self.clients.len() >= CLIENTS || self.given >= LARGEST_CLIENT
     }
@@ -57,8 +59,10 @@ impl Core {
 
     // The client gets the next number, with these roots.
     fn admit(&mut self, alloc: Global, roots: Vec<ModName>) -> Result<Reply, AllocError>
-        requires { (nat_le CLIENTS (length (numbers_of self.old.clients)) || nat_le LARGEST_CLIENT self.old.given) ≡ false }
-        ensures { (names : List Name) → are_bad names ≡ false → roots.items ≡ roots_or names self.old.roots → IsStep (model.connect names) self.old self.new result }
+        requires { (nat_le CLIENTS (length (numbers_of self.old.clients))
+            || nat_le LARGEST_CLIENT self.old.given) ≡ false }
+        ensures { (names : List Name) → are_bad names ≡ false → roots.items ≡ roots_or names self.old.roots
+            → IsStep (model.connect names) self.old self.new result }
     {
         let copy = copy_of(alloc, &roots)?;
         let number = self.given + 1;

@@ -93,7 +93,8 @@ impl Exports {
         versions: &VersionMap,
         name: &ModName,
     ) -> Result<(), AllocError>
-        ensures { (done : List Name) → AreExports versions.now.served done self.old → OnOk result (AreExports versions.now.served (name.now ∷ done) self.new) }
+        ensures { (done : List Name) → AreExports versions.now.served done self.old
+            → OnOk result (AreExports versions.now.served (name.now ∷ done) self.new) }
     {
         let Some(served) = versions.served(name) else {
             return Ok(());
@@ -104,7 +105,8 @@ impl Exports {
     }
 
     fn put(&mut self, name: ModName, set: ExportSet) -> Result<(), AllocError>
-        ensures { (m : Name) → OnOk result (at self.new m ≡ (if same_name name m then Some set else at self.old m)) }
+        ensures { (m : Name) → OnOk result
+            (at self.new m ≡ (if same_name name m then Some set else at self.old m)) }
     {
         self.sets.insert(name, set)?;
         Ok(())

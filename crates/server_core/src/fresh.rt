@@ -51,7 +51,8 @@ fn served_rows(
     versions: &VersionMap,
     names: &[ModName],
 ) -> Result<Vec<(ModName, Ver)>, AllocError>
-    ensures rows { IfOk result (λ rows. rows.items ≡ collect (λ n. version_in (at versions.now.served n)) names.now) }
+    ensures rows { IfOk result
+        (λ rows. rows.items ≡ collect (λ n. version_in (at versions.now.served n)) names.now) }
     ensures versions { IfOk result (λ rows. All HasVersion rows.items) }
 {
     let mut rows = Vec::new(alloc);
@@ -67,7 +68,10 @@ fn add_row(
     versions: &VersionMap,
     name: &ModName,
 ) -> Result<(), AllocError>
-    ensures rows { OnOk result ((rest : List (Name × ℕ)) → rows.new.items ++ rest ≡ rows.old.items ++ with_entry name.now (version_in (at versions.now.served name.now)) rest) }
+    ensures rows { OnOk result
+        ((rest : List (Name × ℕ))
+        → rows.new.items ++ rest
+        ≡ rows.old.items ++ with_entry name.now (version_in (at versions.now.served name.now)) rest) }
     ensures versions { All HasVersion rows.old.items → OnOk result (All HasVersion rows.new.items) }
 {
     if let Some(served) = versions.served(name) {
@@ -84,7 +88,8 @@ fn missing_names(
     versions: &VersionMap,
     names: &[ModName],
 ) -> Result<Vec<ModName>, AllocError>
-    ensures { IfOk result (λ missing. missing.items ≡ filter (λ n. not (is_some (at versions.now.served n))) names.now) }
+    ensures { IfOk result
+        (λ missing. missing.items ≡ filter (λ n. not (is_some (at versions.now.served n))) names.now) }
 {
     let mut missing = Vec::new(alloc);
     for name in names {

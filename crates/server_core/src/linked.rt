@@ -51,7 +51,8 @@ impl Linked {
 
     // One name more, behind the others of its module.
     fn add(&mut self, alloc: Global, link: &Link) -> Result<(), AllocError>
-        ensures { (m : Name) → OnOk result (kept_or_none (at self.new m) ≡ kept_or_none (at self.old m) ++ linked_from (link.now ∷ []) m) }
+        ensures { (m : Name) → OnOk result
+            (kept_or_none (at self.new m) ≡ kept_or_none (at self.old m) ++ linked_from (link.now ∷ []) m) }
     {
         let mut names = self.take(alloc, link.dependency());
         names.push(link.name().clone()?)?;
@@ -70,7 +71,8 @@ impl Linked {
     }
 
     fn put(&mut self, name: ModName, names: Vec<Name>) -> Result<(), AllocError>
-        ensures { (m : Name) → OnOk result (at self.new m ≡ (if same_name name m then Some names.items else at self.old m)) }
+        ensures { (m : Name) → OnOk result
+            (at self.new m ≡ (if same_name name m then Some names.items else at self.old m)) }
     {
         self.names.insert(name, Sequence::from_vec(names))?;
         Ok(())

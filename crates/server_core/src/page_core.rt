@@ -1,5 +1,6 @@
 // The core and its step.
-ghost use Rattle.std.specs.Prelude.{◌≡◌, ◌↔◌, ◌<◌, ◌≤◌, [], ◌∷◌, ℕ, List, IfOk, IsErrOf, IsOk, OnErr, OnOk, Some, false, length, true};
+ghost use Rattle.std.specs.Prelude.{◌≡◌, ◌↔◌, ◌<◌, ◌≤◌, [], ◌∷◌};
+ghost use Rattle.std.specs.Prelude.{ℕ, List, IfOk, IsErrOf, IsOk, OnErr, OnOk, Some, false, length, true};
 ghost use Rattle.hmr_types.specs.declared.limits.TheConstants.{ROOTS};
 ghost use Rattle.core_model.specs.Core as model;
 ghost use Rattle.core_model.specs.FreshLoad.{fresh_load};
@@ -13,7 +14,8 @@ ghost use Rattle.core_model.specs.Sent.{IsReloadSent};
 ghost use Rattle.client_records.specs.Record as client;
 ghost use Rattle.server_core.specs.Kept.{StandsFor, is_free, leaves};
 ghost use Rattle.server_core.specs.Said.{IsWritten, event_of, reload_path, said};
-ghost use Rattle.server_core.specs.declared.event.NewFault.TheVariants.{DuplicateRoot, NoRoots, TooManyRoots};
+ghost use Rattle.server_core.specs.declared.event.NewFault.TheVariants.{DuplicateRoot, NoRoots};
+ghost use Rattle.server_core.specs.declared.event.NewFault.TheVariants.{TooManyRoots};
 
 use crate::clients::Row;
 use crate::connect::are_distinct;
@@ -57,7 +59,8 @@ impl Core {
         ensures stands { IfOk result (StandsFor []) }
         ensures none { IsErrOf result NoRoots ↔ (roots.items ≡ []) }
         ensures many { IsErrOf result TooManyRoots ↔ (ROOTS < length roots.items) }
-        ensures twice { IsErrOf result DuplicateRoot ↔ (length roots.items ≤ ROOTS) × (are_distinct roots.items ≡ false) }
+        ensures twice { IsErrOf result DuplicateRoot
+            ↔ (length roots.items ≤ ROOTS) × (are_distinct roots.items ≡ false) }
     {
         if roots.is_empty() {
             return Err(NewFault::NoRoots);
@@ -82,14 +85,28 @@ impl Core {
     /// leaves the record of every other as it was. An Ask is answered by a full reload exactly where one
     /// is to be sent, and each message that is answered can be written.
     pub fn step(&mut self, alloc: Global, event: Event) -> Result<Reply, AllocError>
-        ensures stands { (past : List model.Event) → StandsFor past self.old → OnOk result (StandsFor (event_of event ∷ past) self.new) }
-        ensures reply { (past : List model.Event) → StandsFor past self.old → IfOk result (λ reply. said (model.step self.old.roots (model.core_after self.old.roots past) (event_of event)).1 ≡ reply) }
+        ensures stands { (past : List model.Event) → StandsFor past self.old
+            → OnOk result (StandsFor (event_of event ∷ past) self.new) }
+        ensures reply { (past : List model.Event) → StandsFor past self.old
+            → IfOk result
+            (λ reply.
+            said (model.step self.old.roots (model.core_after self.old.roots past) (event_of event)).1
+            ≡ reply) }
         ensures roots { self.new.roots ≡ self.old.roots }
-        ensures kept { (past : List model.Event) → StandsFor past self.old → OnErr result (StandsFor past self.new) }
-        ensures free { (past : List model.Event) → StandsFor past self.old → is_free (model.core_after self.old.roots past) (event_of event) ≡ true → IsOk result }
+        ensures kept { (past : List model.Event) → StandsFor past self.old
+            → OnErr result (StandsFor past self.new) }
+        ensures free { (past : List model.Event) → StandsFor past self.old
+            → is_free (model.core_after self.old.roots past) (event_of event) ≡ true → IsOk result }
         ensures written { (past : List model.Event) → StandsFor past self.old → IfOk result IsWritten }
-        ensures others { (j : ℕ) (k : client.Kept) → leaves j (event_of event) ≡ true → model.client_at self.old.clients j ≡ Some k → model.client_at self.new.clients j ≡ Some k }
-        ensures reload { (past : List model.Event) (i : ℕ) (c : Client) (path : List Name) → StandsFor past self.old → event_of event ≡ model.request i ask → model.client_at (model.core_after self.old.roots past).clients i ≡ Some c → IfOk result (λ reply. (reload_path reply ≡ Some path) ↔ IsReloadSent (model.core_after self.old.roots past).sources c path) }
+        ensures others { (j : ℕ) (k : client.Kept) → leaves j (event_of event) ≡ true
+            → model.client_at self.old.clients j ≡ Some k → model.client_at self.new.clients j ≡ Some k }
+        ensures reload { (past : List model.Event)
+            (i : ℕ) (c : Client) (path : List Name) → StandsFor past self.old
+            → event_of event ≡ model.request i ask
+            → model.client_at (model.core_after self.old.roots past).clients i ≡ Some c
+            → IfOk result
+            (λ reply. (reload_path reply ≡ Some path)
+            ↔ IsReloadSent (model.core_after self.old.roots past).sources c path) }
     {
         match event {
             Event::Edit(name, text) => self.edit(name, text),
@@ -113,8 +130,12 @@ impl Core {
     /// What a page would load anew. It looks at each reached module once, and reads the text of each
     /// that is served.
     pub fn fresh(&self, alloc: Global) -> Result<Fresh, AllocError>
-        ensures load { IfOk result (λ fresh. load_of fresh ≡ fresh_load links self.now.sources.served self.now.roots) }
-        ensures stands { (past : List model.Event) → StandsFor past self.now → IfOk result (λ fresh. load_of fresh ≡ fresh_load links (model.core_after self.now.roots past).sources.served self.now.roots) }
+        ensures load { IfOk result
+            (λ fresh. load_of fresh ≡ fresh_load links self.now.sources.served self.now.roots) }
+        ensures stands { (past : List model.Event) → StandsFor past self.now
+            → IfOk result
+            (λ fresh. load_of fresh
+            ≡ fresh_load links (model.core_after self.now.roots past).sources.served self.now.roots) }
     {
         fresh_load(alloc, &self.versions, self.roots.as_slice())
     }

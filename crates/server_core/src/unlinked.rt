@@ -25,7 +25,9 @@ pub(crate) fn unlinked_names(
     names: &[ModName],
 ) -> Result<Vec<Unlinked>, AllocError>
     requires { AreClosed versions.now.served names.now }
-    ensures { IfOk result (λ found. found.items ≡ flat_map (λ n. unlinked_module links versions.now.served n (at versions.now.served n)) names.now) }
+    ensures { IfOk result
+        (λ found. found.items
+        ≡ flat_map (λ n. unlinked_module links versions.now.served n (at versions.now.served n)) names.now) }
 {
     let exports = Exports::of(alloc, versions, names)?;
     let mut found = Vec::new(alloc);
@@ -43,7 +45,10 @@ fn add_module(
     name: &ModName,
 ) -> Result<(), AllocError>
     requires { HaveExports versions.now.served (imports_in (at versions.now.served name.now)) exports.now }
-    ensures { OnOk result (found.new.items ≡ found.old.items ++ unlinked_module links versions.now.served name.now (at versions.now.served name.now)) }
+    ensures { OnOk result
+        (found.new.items
+        ≡ found.old.items
+        ++ unlinked_module links versions.now.served name.now (at versions.now.served name.now)) }
 {
     let Some(served) = versions.served(name) else {
         return Ok(());
@@ -64,7 +69,11 @@ fn add_imports(
     imports: &[ModName],
     links: &[Link],
 ) -> Result<(), AllocError>
-    ensures { (served : Served) → HaveExports served imports.now exports.now → OnOk result (found.new.items ≡ found.old.items ++ flat_map (λ m. unlinked_edge links.now (at served m) name.now m) (sorted imports.now)) }
+    ensures { (served : Served) → HaveExports served imports.now exports.now
+        → OnOk result
+        (found.new.items
+        ≡ found.old.items
+        ++ flat_map (λ m. unlinked_edge links.now (at served m) name.now m) (sorted imports.now)) }
 {
     let linked = Linked::of(alloc, links)?;
     let imports = copy_of(alloc, imports)?;
@@ -82,7 +91,9 @@ fn add_edges(
     dependencies: &[ModName],
     linked: &Linked,
 ) -> Result<(), AllocError>
-    ensures { OnOk result (found.new.items ≡ found.old.items ++ flat_map (unlinked_by exports.now linked.now name.now) dependencies.now) }
+    ensures { OnOk result
+        (found.new.items
+        ≡ found.old.items ++ flat_map (unlinked_by exports.now linked.now name.now) dependencies.now) }
 {
     for dependency in dependencies {
         add_edge(found, alloc, exports, name, dependency, linked)?;
@@ -98,7 +109,8 @@ fn add_edge(
     dependency: &ModName,
     linked: &Linked,
 ) -> Result<(), AllocError>
-    ensures { OnOk result (found.new.items ≡ found.old.items ++ unlinked_by exports.now linked.now name.now dependency.now) }
+    ensures { OnOk result
+        (found.new.items ≡ found.old.items ++ unlinked_by exports.now linked.now name.now dependency.now) }
 {
     let Some(set) = exports.get(dependency) else {
         return Ok(());
@@ -115,7 +127,8 @@ fn add_names(
     dependency: &ModName,
     names: &[Name],
 ) -> Result<(), AllocError>
-    ensures { OnOk result (found.new.items ≡ found.old.items ++ map (λ x. (name.now, dependency.now, x)) names.now) }
+    ensures { OnOk result
+        (found.new.items ≡ found.old.items ++ map (λ x. (name.now, dependency.now, x)) names.now) }
 {
     for x in names {
         found.push((name.clone()?, dependency.clone()?, x.clone()?))?;

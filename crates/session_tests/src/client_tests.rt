@@ -35,8 +35,8 @@ fn text_of(alloc: Global, lines: &[OutLine]) -> Result<String, AllocError> {
     Ok(out)
 }
 
-/// A session of so many turns that is told these messages, of a client of format 2, whose shelf is empty. None
-/// where there was no memory. Closures are of the sample's type.
+/// A session of so many turns that is told these messages, of a client of format 2, whose shelf is empty.
+/// None where there was no memory. Closures are of the sample's type.
 fn joined<R: Wait + Copy + Drop, F: FnOnce(Bag) -> Result<Ran, AllocError> + Drop>(
     alloc: Global,
     rt: R,

@@ -1,5 +1,5 @@
--- What goes on between a link and a desk: the messages that were taken, what the desk was asked and answered,
--- and what was sent.
+-- What goes on between a link and a desk: the messages that were taken, what the desk was asked and
+-- answered, and what was sent.
 use Rattle.std.specs.Prelude.{◌≡◌, ◌≢◌, ◌⊎◌, ℕ, List, [], ◌∷◌, ◌++◌, Option, Result, Ok, Err, ⊤}
 use Prim.{⊥}
 use Rattle.std.specs.List.{AllZip}
@@ -16,7 +16,8 @@ use Rattle.message_json.specs.Reading.{Fails}
 use Rattle.message_json.specs.ClientReading.{client_of}
 use Rattle.links.specs.Told.{told_and, told_front, IsNoneLeft}
 use Rattle.sessions.specs.declared.ended.Ended.{Ended}
-use Rattle.sessions.specs.declared.ended.Ended.TheVariants.{Closed, LinkFault, BadMessage, Stopped, NoMemory, Unexpected, InstancesFull}
+use Rattle.sessions.specs.declared.ended.Ended.TheVariants.{Closed, LinkFault, BadMessage, Stopped}
+use Rattle.sessions.specs.declared.ended.Ended.TheVariants.{NoMemory, Unexpected, InstancesFull}
 
 -- bytes read as this message
 pub record Reads (bytes : List ℕ) (m : ClientMsg) : Type 0 where
@@ -54,7 +55,8 @@ last_format format (deal ∷ deals) = last_format (format_after format deal.0) d
 -- the texts of the answers, each in the format of the last hello
 abbrev pub texts : ℕ → Deals → List (List ℕ)
 texts format [] = []
-texts format (deal ∷ deals) = server_text (format_after format deal.0) deal.1 ∷ texts (format_after format deal.0) deals
+texts format (deal ∷ deals) =
+    server_text (format_after format deal.0) deal.1 ∷ texts (format_after format deal.0) deals
 
 -- what was taken reads as the messages that were answered
 abbrev pub ReadAs : List (List ℕ) → Deals → Type 0
@@ -75,7 +77,8 @@ pub record AllButLastSent (format : ℕ) (taken sent : List (List ℕ)) (deals :
   pub sent_are : IsAllButLast sent (texts format deals)
 
 -- the same as all sent, but that one message more was taken, of which this holds
-pub record OneMore (Last : List ℕ → Type 0) (format : ℕ) (taken sent : List (List ℕ)) (deals : Deals) : Type 0 where
+pub record OneMore (Last : List ℕ → Type 0) (format : ℕ) (taken sent : List (List ℕ))
+    (deals : Deals) : Type 0 where
   pub front : List (List ℕ)
   pub last : List ℕ
   pub taken_are : taken ≡ front ++ last ∷ []
@@ -87,20 +90,25 @@ abbrev pub EndsInBye : Deals → Type 0
 EndsInBye deals = (front : Deals) × (answer : ServerMsg) × (deals ≡ front ++ (msg.Bye, answer) ∷ [])
 
 -- how far a session has come: it goes on in a format, or it ended
-abbrev pub Comes : Result ℕ Ended → ℕ → List (List ℕ) → List (List ℕ) → Deals → Option (List (List ℕ)) → Type 0
-Comes (Ok now) format taken sent deals left = AllSent format taken sent deals × (now ≡ last_format format deals)
-Comes (Err Closed) format taken sent deals left = AllSent format taken sent deals × (EndsInBye deals ⊎ IsNoneLeft left)
+abbrev pub Comes : Result ℕ Ended → ℕ → List (List ℕ) → List (List ℕ) → Deals → Option (List (List ℕ))
+    → Type 0
+Comes (Ok now) format taken sent deals left =
+    AllSent format taken sent deals × (now ≡ last_format format deals)
+Comes (Err Closed) format taken sent deals left =
+    AllSent format taken sent deals × (EndsInBye deals ⊎ IsNoneLeft left)
 Comes (Err LinkFault) format taken sent deals left = AllButLastSent format taken sent deals
-Comes (Err (BadMessage fault)) format taken sent deals left = OneMore (λ bytes. IsRefused bytes fault) format taken sent deals
+Comes (Err (BadMessage fault)) format taken sent deals left =
+    OneMore (λ bytes. IsRefused bytes fault) format taken sent deals
 Comes (Err Stopped) format taken sent deals left = OneMore IsMessage format taken sent deals
 Comes (Err NoMemory) format taken sent deals left =
     AllButLastSent format taken sent deals ⊎ OneMore (λ bytes. ⊤) format taken sent deals
 Comes (Err (Unexpected wanted got)) format taken sent deals left = ⊥
 Comes (Err InstancesFull) format taken sent deals left = ⊥
 
--- what was taken of a link, asked of a desk and sent to the link, where each tells it, and how far the session
--- has come by that, which began in a format
-pub record Course (format : ℕ) (left left' sent sent' : Option (List (List ℕ))) (told told' : Option Deals) (so_far : Result ℕ Ended) : Type 0 where
+-- what was taken of a link, asked of a desk and sent to the link, where each tells it, and how far the
+-- session has come by that, which began in a format
+pub record Course (format : ℕ) (left left' sent sent' : Option (List (List ℕ))) (told told' : Option Deals)
+    (so_far : Result ℕ Ended) : Type 0 where
   pub takes : List (List ℕ)
   pub sends : List (List ℕ)
   pub deals : Deals

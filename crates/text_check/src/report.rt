@@ -2,7 +2,8 @@
 ghost use Rattle.std.specs.Prelude.{◌≡◌, ◌++◌, IfOk, OnOk, map};
 ghost use Rattle.module_tree.specs.Tree.{module_of};
 ghost use Rattle.play_script.specs.Texts.{names_text};
-ghost use Rattle.text_check.specs.Checking.{analysis_lines, analysis_report, fault_line, flag_line, names_line};
+ghost use Rattle.text_check.specs.Checking.{analysis_lines, analysis_report, fault_line};
+ghost use Rattle.text_check.specs.Checking.{flag_line, names_line};
 
 use hmr_types::{Analysis, ModName, Name, TextFault};
 use hot_parser::print;
@@ -68,7 +69,8 @@ fn words_of_names(alloc: Global, names: &[Name]) -> Result<Vec<&str>, AllocError
 
 /// Puts a line of a word and what it tells, where it tells something.
 fn put_line(out: &mut Vec<u8>, word: &str, told: &[&str]) -> Result<(), AllocError>
-    ensures { OnOk result (out.new.items ≡ out.old.items ++ names_line word.now (map (λ w. w.now) told.now)) }
+    ensures { OnOk result
+        (out.new.items ≡ out.old.items ++ names_line word.now (map (λ w. w.now) told.now)) }
 {
     if told.is_empty() {
         return Ok(());

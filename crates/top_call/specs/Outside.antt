@@ -1,5 +1,6 @@
 -- What `serve` and `join` answer and write.
-use Rattle.std.specs.Prelude.{◌≡◌, ◌≤◌, ◌<◌, ◌⊎◌, ℕ, ⊤, Bool, true, false, List, [], ◌∷◌, length, Option, Some, None, Result, Ok, Err, IfSome}
+use Rattle.std.specs.Prelude.{◌≡◌, ◌≤◌, ◌<◌, ◌⊎◌, ℕ, ⊤, Bool, true, false, List, [], ◌∷◌}
+use Rattle.std.specs.Prelude.{length, Option, Some, None, Result, Ok, Err, IfSome}
 use Rattle.std.specs.Io.KnownBytes.{Appends, Keeps}
 use Prim.{⊥}
 use Rattle.hmr_base.specs.Causes.{Rose}
@@ -24,7 +25,8 @@ use Rattle.folder_server.specs.declared.stop.ServeStop.TheVariants as stops
 use Rattle.folder_server.specs.Rounds.{Files}
 use Rattle.folder_server.specs.Serving.{Served, StopsEarly, Wrote, WroteEarly}
 use Rattle.input_commands.specs.declared.stop.Stop.{Stop}
-use Rattle.input_commands.specs.declared.stop.Stop.TheVariants.{NotACommand, TooLong, TextTooLong, Faulty, Unread, Unwritten, InstancesFull, NoMemory}
+use Rattle.input_commands.specs.declared.stop.Stop.TheVariants.{NotACommand, TooLong, TextTooLong, Faulty}
+use Rattle.input_commands.specs.declared.stop.Stop.TheVariants.{Unread, Unwritten, InstancesFull, NoMemory}
 use Rattle.input_commands.specs.Outputs.{fault_line, input_limit, instances_limit}
 
 -- the status of a server's end
@@ -130,8 +132,8 @@ last_of_join (Err joins.InstancesFull) = instances_limit
 last_of_join (Err joins.BadAnswer) = []
 last_of_join (Err joins.NoMemory) = []
 
--- A client spoke with a server in the second format. Its lines are written, and behind them that of the limit
--- where its page would have had too many instances.
+-- A client spoke with a server in the second format. Its lines are written, and behind them that of the
+-- limit where its page would have had too many instances.
 pub record IsJoined (opening : Opening) (turns : ℕ) (coming : Option (List (List ℕ)))
     (old new : Option (List ℕ)) (before now : ℕ) (status : ℕ) : Type 0 where
   pub result : Result ⊤ JoinStop

@@ -22,8 +22,9 @@ pub record AnswersWords (command : Option Command) (old new : Option (List ℕ))
   pub usage : status ≡ 2 → WritesFront old new usage_line
   pub usage_whole : status ≡ 2 → ¬ Rose before now → Appends old new usage_line
 
--- What is written is a front of the output that the definitions give, where they give one. It is the whole at
--- 0, and at 3 and 8 unless the count of the output's faults rose; at 8 all lines before the last stand whole.
+-- What is written is a front of the output that the definitions give, where they give one. It is the whole
+-- at 0, and at 3 and 8 unless the count of the output's faults rose; at 8 all lines before the last stand
+-- whole.
 pub record WritesOutput (output : Option Output) (old new : Option (List ℕ)) (before now : ℕ) (status : ℕ)
     : Type 0 where
   pub front : IfSome output (λ o. WritesFront old new (whole o))

@@ -7,7 +7,8 @@ ghost use Rattle.hmr_base.specs.Causes.{Rose};
 ghost use Rattle.hmr_base.specs.Fronts.{WritesFront};
 ghost use Rattle.hmr_world.specs.Shelves.{AreHosts};
 ghost use Rattle.links.specs.declared.net.Asked.{Asked};
-ghost use Rattle.top_call.specs.Outside.{IsJoinStatus, IsJoined, first_shelf, last_of_join, opening_of, status_of_join};
+ghost use Rattle.top_call.specs.Outside.{IsJoinStatus, IsJoined, first_shelf, last_of_join};
+ghost use Rattle.top_call.specs.Outside.{opening_of, status_of_join};
 
 use const_eval::Ran;
 use handler_table::Shelf;
@@ -20,7 +21,8 @@ use retained_data::Bag;
 use std::alloc::{AllocError, Global};
 
 /// One client to a server at a port of this machine, by [`join`], with the closures of the first shelf. It
-/// answers the exit status: 0, 5, 7, 8, 9 or 10; at 8 the line of the limit stands behind the client's lines.
+/// answers the exit status: 0, 5, 7, 8, 9 or 10; at 8 the line of the limit stands behind the client's
+/// lines.
 pub(crate) fn join_server<F: FnOnce(Bag) -> Result<Ran, AllocError> + Drop, N: Net, K: Sink>(
     alloc: Global,
     port: u16,

@@ -1,5 +1,6 @@
 // The command `serve`: the edits of the input are read where they are asked for, and the folder is served.
-ghost use Rattle.std.specs.Prelude.{◌≡◌, ◌≢◌, ◌≤◌, ◌⊎◌, ◌+◌, ◌∷◌, [], All, Err, IfErr, IfOk, IsErrOf, List, None, Ok, OnOk, Option, Some, length, true, false, ℕ};
+ghost use Rattle.std.specs.Prelude.{◌≡◌, ◌≢◌, ◌≤◌, ◌⊎◌, ◌+◌, ◌∷◌, [], All, Err, IfErr, IfOk, IsErrOf};
+ghost use Rattle.std.specs.Prelude.{List, None, Ok, OnOk, Option, Some, length, true, false, ℕ};
 ghost use Rattle.std.specs.Io.KnownBytes.{IsAtEnd, Keeps};
 ghost use Rattle.hmr_base.specs.Causes.{Rose};
 ghost use Rattle.hmr_types.specs.declared.limits.TheConstants.{MESSAGE_BYTES, SCRIPT_BYTES};
@@ -10,7 +11,8 @@ ghost use Rattle.hub_editor.specs.Edits.{edits_in, length_of, text_in};
 ghost use Rattle.jobs.specs.Begun.{none_begun};
 ghost use Rattle.links.specs.declared.net.Asked.{Asked};
 ghost use Rattle.play_script.specs.Edits as scripts;
-ghost use Rattle.top_call.specs.Outside.{HasNoScript, HasScript, HasServed, IsEditStop, IsNoScriptStatus, IsScriptStop, IsServeStatus, status_of_serve};
+ghost use Rattle.top_call.specs.Outside.{HasNoScript, HasScript, HasServed, IsEditStop, IsNoScriptStatus};
+ghost use Rattle.top_call.specs.Outside.{IsScriptStop, IsServeStatus, status_of_serve};
 
 use command_words::ServePlan;
 use const_eval::Ran;
@@ -29,9 +31,9 @@ use std::alloc::{AllocError, Global};
 use std::sync::Wait;
 use std::thread::Threads;
 
-/// Serves the folder of a plan, with the edits of the input where the plan asks for them. It answers the exit
-/// status: 3, 4, 8 and 9 where the input has no edits, with the line of the fault or of the limit for 3 and
-/// 8; else 0, 5, 6, 7, 8 and 9 as [`serve`] ended.
+/// Serves the folder of a plan, with the edits of the input where the plan asks for them. It answers the
+/// exit status: 3, 4, 8 and 9 where the input has no edits, with the line of the fault or of the limit for 3
+/// and 8; else 0, 5, 6, 7, 8 and 9 as [`serve`] ended.
 pub(crate) fn serve_folder<
     F: FnOnce(Bag) -> Result<Ran, AllocError> + Drop + Send + 'static,
     S: Source,

@@ -9,7 +9,8 @@ ghost use Rattle.command_words.specs.Words.{command_of};
 ghost use Rattle.jobs.specs.Begun.{none_begun};
 ghost use Rattle.input_commands.specs.Headline.{ShowsAreFresh};
 ghost use Rattle.input_commands.specs.Outputs.{output_of, reads_input};
-ghost use Rattle.top_call.specs.Outside.{HasServed, IfJoin, IfServe, IsJoined, MayAsk, MayHaveOpened, is_join, opening_of};
+ghost use Rattle.top_call.specs.Outside.{HasServed, IfJoin, IfServe, IsJoined, MayAsk};
+ghost use Rattle.top_call.specs.Outside.{MayHaveOpened, is_join, opening_of};
 ghost use Rattle.top_call.specs.Runs.{AnswersWords, IsComplete, IsStatus, ReadsInput, WritesOutput};
 
 use crate::join::join_server;
@@ -41,9 +42,9 @@ use std::thread::Threads;
 /// no command; the usage line is written. 3: the input of `play` is no script, or that of `serve` no edits;
 /// the line of its first fault is written. 4: the input failed; nothing is written. 5: the output failed; a
 /// front of the output is written. 6: the folder failed, in `serve`. 7: the net, an end of a connection or
-/// the start of a thread failed, in `serve` and `join`. 8: a limit was passed, whose line is written last: of
-/// the input, a text, the names, the sources, the transcript or the passes, or of a client's instances. 9:
-/// memory ran out; a front of the output is written. 10: what the server sent is no answer, in `join`. A
+/// the start of a thread failed, in `serve` and `join`. 8: a limit was passed, whose line is written last:
+/// of the input, a text, the names, the sources, the transcript or the passes, or of a client's instances.
+/// 9: memory ran out; a front of the output is written. 10: what the server sent is no answer, in `join`. A
 /// cause keeps its status where its line can't be written.
 ///
 /// `fresh_load`: at each place of a script where a client is shown and is up, its lines are those of the

@@ -36,4 +36,5 @@ pub record Ruled (items : List Item) (views : List Role) : Type 0 where
   -- where a pass has ended, no job is in the queue
   pub ended : (pass : ℕ) (v : Role) → get_elem? views pass ≡ some v → v.ended ≡ true → no_jobs items ≡ true
   -- the end marks in the queue are among those that count as put
-  pub marked : (pass : ℕ) (v : Role) → get_elem? views pass ≡ some v → v.puts ≡ true → ends_in items ≤ v.marks
+  pub marked : (pass : ℕ) (v : Role) → get_elem? views pass ≡ some v → v.puts ≡ true
+      → ends_in items ≤ v.marks

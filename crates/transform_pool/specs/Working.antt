@@ -1,5 +1,6 @@
 -- What a worker takes and posts.
-use Rattle.std.specs.Prelude.{◌≡◌, ℕ, ◌-◌, ◌^◌, min, List, [], ◌∷◌, ◌++◌, length, map, All, Option, Result, Ok, Err}
+use Rattle.std.specs.Prelude.{◌≡◌, ◌-◌, ◌^◌, [], ◌∷◌, ◌++◌}
+use Rattle.std.specs.Prelude.{ℕ, min, List, length, map, All, Option, Result, Ok, Err}
 use Rattle.update_msgs.specs.declared.desk.HubStop.{HubStop}
 use Rattle.import_scan.specs.Transform.{Transform}
 use Rattle.transform_pool.specs.Boards.{told_more}

@@ -1,5 +1,6 @@
 // Where a worker takes its jobs and posts their results.
-ghost use Rattle.std.specs.Prelude.{◌≡◌, ◌+◌, ◌≤◌, ℕ, ◌∷◌, [], Bool, List, MatchOption, OnErr, OnOk, Option, false, is_none, length};
+ghost use Rattle.std.specs.Prelude.{◌≡◌, ◌+◌, ◌≤◌, ◌∷◌, []};
+ghost use Rattle.std.specs.Prelude.{ℕ, Bool, List, MatchOption, OnErr, OnOk, Option, false, is_none, length};
 ghost use Rattle.hmr_types.specs.declared.limits.TheConstants.{MESSAGE_BYTES};
 ghost use Rattle.import_scan.specs.Transform.{Transform};
 ghost use Rattle.transform_pool.specs.Boards.{full_after, told_more};

@@ -1,8 +1,11 @@
 // What is done with a queue: it is made, jobs are put into it and taken from it, and it is closed.
-ghost use Rattle.std.specs.Prelude.{◌≡◌, ◌≤◌, ◌<◌, ◌++◌, ◌∷◌, [], All, IfErr, IfNone, IfOk, IfSome, OnErr, OnOk, false, length, true};
+ghost use Rattle.std.specs.Prelude.{◌≡◌, ◌≤◌, ◌<◌, ◌++◌, ◌∷◌, []};
+ghost use Rattle.std.specs.Prelude.{All, IfErr, IfNone, IfOk, IfSome, OnErr, OnOk, false, length, true};
 ghost use Rattle.crossbeam_queue.specs.Passes.{view};
-ghost use Rattle.transform_pool.specs.Passes.{HeldLast, HeldLastPut, IsPassOf, IsSeatOf, IsTakerOf, places, role_of, takers_of};
-ghost use Rattle.transform_pool.specs.Roles.{SamePuts, at_end, back_with, most_takers, put_more, putting, taking, took_more};
+ghost use Rattle.transform_pool.specs.Passes.{HeldLast, HeldLastPut, IsPassOf, IsSeatOf};
+ghost use Rattle.transform_pool.specs.Passes.{IsTakerOf, places, role_of, takers_of};
+ghost use Rattle.transform_pool.specs.Roles.{SamePuts, at_end, back_with, most_takers};
+ghost use Rattle.transform_pool.specs.Roles.{put_more, putting, taking, took_more};
 
 use crate::TextJob;
 use crate::item::{Item, Role};
@@ -102,7 +105,8 @@ impl JobQueue {
         ensures none { IfNone result ((role_of pass.new).marks ≡ takers_of self.now) }
         ensures kept { IfNone result ((role_of pass.new).took ≡ (role_of pass.old).took) }
         ensures some { IfSome result (λ _. (role_of pass.new).marks < takers_of self.now) }
-        ensures taken { IfSome result (λ job. (role_of pass.new).took ≡ (role_of pass.old).took ++ job ∷ []) }
+        ensures taken { IfSome result
+            (λ job. (role_of pass.new).took ≡ (role_of pass.old).took ++ job ∷ []) }
         ensures full { IfSome result (λ _. HeldLast places (role_of pass.old).put) }
     {
         for _ in rt.forever() {

@@ -3,8 +3,8 @@ use Rattle.std.specs.Prelude.{◌≡◌, ◌⊎◌, ◌||◌, ◌∷◌, [], ◌
 use Rattle.turn_lock.specs.Histories.{has, calls, grown, Past}
 use Rattle.turn_lock.specs.declared.view.View.{View}
 
--- what a value replies to an entry of a pass, and whether it records it, in the state that a history makes of
--- the opening value
+-- what a value replies to an entry of a pass, and whether it records it, in the state that a history makes
+-- of the opening value
 abbrev pub Answers : Type 0 → Type 0 → Type 0 → Type 1
 Answers T E P = T → List (ℕ × E) → ℕ → E → P → Bool → Type 0
 
@@ -43,7 +43,8 @@ module _ {T E : Type 0} where
 
   -- one of two histories begins the other, with all entries under the numbers of its pass; the longer stays
   abbrev pub IsLonger : View T E → View T E → View T E → Type 0
-  IsLonger v w u = ((u.seen ≡ w.seen) × Past w.seen v.seen v.known) ⊎ ((u.seen ≡ v.seen) × Past v.seen w.seen w.known)
+  IsLonger v w u =
+      ((u.seen ≡ w.seen) × Past w.seen v.seen v.known) ⊎ ((u.seen ≡ v.seen) × Past v.seen w.seen w.known)
 
   -- The second pass was joined into the first. What is seen now is the longer history, with all entries
   -- under the numbers of both, each once.

@@ -1,6 +1,7 @@
 -- The rule of the lock, which every step keeps. Word 0 is 1 while a pass has the turn, and else 0. Word 1
 -- is how many pass numbers were given. Slot 0 has the value, and nothing while a pass has it in hand.
-use Rattle.std.specs.Prelude.{◌≡◌, ◌≢◌, ◌⊎◌, ◌∷◌, [], ◌<◌, ◌≤◌, ℕ, List, Bool, true, false, Option, Some, All}
+use Rattle.std.specs.Prelude.{◌≡◌, ◌≢◌, ◌⊎◌, ◌∷◌, [], ◌<◌, ◌≤◌}
+use Rattle.std.specs.Prelude.{ℕ, List, Bool, true, false, Option, Some, All}
 use mathlib.Core.Option.{some}
 use lib.ListN.{get_elem?}
 use Rattle.atomic_table.specs.Table.{State}

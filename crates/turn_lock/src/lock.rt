@@ -1,5 +1,6 @@
 // What is done with a lock: it is made, called in turn by passes, and passes are split and joined.
-ghost use Rattle.std.specs.Prelude.{◌≡◌, ◌<◌, ◌↔◌, ◌∷◌, [], All, IfErr, IfNone, IfOk, IfSome, IsErrOf, None, Some, false, true};
+ghost use Rattle.std.specs.Prelude.{◌≡◌, ◌<◌, ◌↔◌, ◌∷◌, []};
+ghost use Rattle.std.specs.Prelude.{All, IfErr, IfNone, IfOk, IfSome, IsErrOf, None, Some, false, true};
 ghost use Rattle.turn_lock.specs.Calls.{Called, Joined, SameKnower, SameSeen};
 ghost use Rattle.turn_lock.specs.Passes.{IsPassOf, pass_number, pass_view};
 ghost use Rattle.turn_lock.specs.Steps.{Grew, IsIdle, Settled, Took};
@@ -170,7 +171,8 @@ impl<T: Keeps> TurnLock<T> {
         ensures new { IfOk result (λ p. IsPassOf self.now p) }
         ensures number { pass_number pass.new ≡ pass_number pass.old }
         ensures same { SameSeen (pass_view pass.old) (pass_view pass.new) }
-        ensures told { IfOk result (λ p. pass_view p ≡ numbered (new_half (pass_view pass.old)) (pass_number p)) }
+        ensures told { IfOk result
+            (λ p. pass_view p ≡ numbered (new_half (pass_view pass.old)) (pass_number p)) }
         ensures range { IfOk result (λ p. (0 < pass_number p) × (pass_number p < most_numbers)) }
         ensures spent { IsErrOf result SplitFault.Spent ↔ ((pass_view pass.new).all_given ≡ true) }
         ensures again { (pass_view pass.old).all_given ≡ true → IsErrOf result SplitFault.Spent }

@@ -1,5 +1,6 @@
 -- What a tally comes to, what it replies, and how many entries a pass has seen of the numbers it knows.
-use Rattle.std.specs.Prelude.{◌≡◌, ℕ, ◌+◌, ◌%◌, ◌^◌, List, [], ◌∷◌, length, Bool, true, false, Option, Some, None}
+use Rattle.std.specs.Prelude.{◌≡◌, ◌+◌, ◌%◌, ◌^◌, [], ◌∷◌}
+use Rattle.std.specs.Prelude.{ℕ, List, length, Bool, true, false, Option, Some, None}
 use Rattle.turn_lock.specs.Histories.{calls}
 use Rattle.turn_lock.specs.declared.view.View.{View}
 use Rattle.turn_tests.specs.declared.tally.Ask.TheVariants.{the_data, Add, Total}

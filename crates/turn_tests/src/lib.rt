@@ -1,8 +1,9 @@
 //! Callers of the turn lock, and its tests, through its public calls alone.
 //!
 //! Each file is an area: a value that adds up, a value that records some entries alone, and threads whose
-//! passes meet again. Stands on the lock, and no crate stands on it. Keeps: how many entries a joined pass has
-//! seen is said by contracts, and what was answered by the tests. Knows nothing of what is private in the lock.
+//! passes meet again. Stands on the lock, and no crate stands on it. Keeps: how many entries a joined pass
+//! has seen is said by contracts, and what was answered by the tests. Knows nothing of what is private in
+//! the lock.
 #![tactic(auto)]
 
 mod evens;

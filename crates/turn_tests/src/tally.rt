@@ -46,7 +46,8 @@ impl Keeps for Tally {
 
     ghost follows = { λ opening tally. tally.start ≡ opening.start };
 
-    ghost answers = { λ opening history by entry reply recorded. IsReply (total_of opening.start history) entry reply recorded };
+    ghost answers = { λ opening history by entry reply recorded.
+        IsReply (total_of opening.start history) entry reply recorded };
 
     #[tactic(auto, using(crate::proofs::Totals::total_more))]
     fn apply(&mut self, by: u64, entry: Ask) -> (Option<u64>, bool) {

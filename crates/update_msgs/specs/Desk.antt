@@ -1,5 +1,6 @@
 -- The size of a message, and what an answer adds to what a desk tells.
-use Rattle.std.specs.Prelude.{ℕ, ◌+◌, Bool, true, false, List, [], ◌∷◌, ◌++◌, length, sum_by, Option, Some, None, Result, Ok, Err}
+use Rattle.std.specs.Prelude.{ℕ, ◌+◌, Bool, true, false, List, [], ◌∷◌, ◌++◌, length}
+use Rattle.std.specs.Prelude.{sum_by, Option, Some, None, Result, Ok, Err}
 use Rattle.update_msgs.specs.declared.message.ClientMsg.{ClientMsg}
 use Rattle.update_msgs.specs.declared.message.ClientMsg.TheVariants as msg
 use Rattle.update_msgs.specs.declared.message.ServerMsg.{ServerMsg}
@@ -27,7 +28,8 @@ is_full (Err TranscriptFull) = true
 is_full (Err NoMemory) = false
 
 -- an answer is told behind those before; without an answer nothing is
-abbrev pub told_after : Option (List (ClientMsg × ServerMsg)) → ClientMsg → Result ServerMsg HubStop → Option (List (ClientMsg × ServerMsg))
+abbrev pub told_after : Option (List (ClientMsg × ServerMsg)) → ClientMsg → Result ServerMsg HubStop
+    → Option (List (ClientMsg × ServerMsg))
 told_after None m result = None
 told_after (Some told) m (Ok answer) = Some (told ++ (m, answer) ∷ [])
 told_after (Some told) m (Err stop) = Some told

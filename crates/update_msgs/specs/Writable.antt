@@ -1,7 +1,8 @@
 -- Which messages can be written: their numbers lie in their ranges, a list that must have something has
 -- it, and what is there for some kinds alone is there for these alone. Names, tables and texts need no
 -- word here: their types keep that they are names, tables and UTF-8.
-use Rattle.std.specs.Prelude.{◌≡◌, ℕ, ◌≤◌, ◌==◌, ◌||◌, true, List, length, All, Option, Some, None, is_some, ⊤}
+use Rattle.std.specs.Prelude.{◌≡◌, ◌≤◌, ◌==◌, ◌||◌, ⊤}
+use Rattle.std.specs.Prelude.{ℕ, true, List, length, All, Option, Some, None, is_some}
 use Prim.{⊥}
 use Rattle.hmr_types.specs.declared.limits.TheConstants.{LARGEST_NUMBER, LARGEST_CLIENT}
 use Rattle.update_msgs.specs.declared.message.AbortCause.{AbortCause}
@@ -64,12 +65,14 @@ pub record IsServedText (version : ℕ) (text : List ℕ) : Type 0 where
   pub few : length text ≤ most_text_bytes
 
 -- a reload names the path on which nothing accepts the change
-pub record IsReload (format : ℕ) (path : List (List ℕ)) (batch : ℕ) (triggered : List (List ℕ)) : Type 0 where
+pub record IsReload (format : ℕ) (path : List (List ℕ)) (batch : ℕ)
+    (triggered : List (List ℕ)) : Type 0 where
   pub some : 1 ≤ length path
   pub fits : FitsBatch format batch triggered
 
 -- the versions of an update's callbacks, 0 for none
-pub record IsUpdate (format : ℕ) (updates : List JsUpdate) (batch : ℕ) (triggered : List (List ℕ)) : Type 0 where
+pub record IsUpdate (format : ℕ) (updates : List JsUpdate) (batch : ℕ)
+    (triggered : List (List ℕ)) : Type 0 where
   pub timed : All (λ u. u.timestamp ≤ LARGEST_NUMBER) updates
   pub fits : FitsBatch format batch triggered
 

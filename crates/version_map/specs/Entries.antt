@@ -9,7 +9,8 @@ use Rattle.hmr_types.specs.declared.analysis.Outcome.{Outcome}
 use Rattle.hmr_types.specs.declared.analysis.Outcome.TheVariants.{Good, Bad}
 use Rattle.hmr_types.specs.declared.analysis.TextFault.{TextFault}
 use Rattle.core_model.specs.Names.{Name, with_entry}
-use Rattle.core_model.specs.Sources.{Text, Verdict, outstanding, good, bad, Source, Serving, is_outstanding, is_awaited, ResultAnswer, serve, refuse, late, answer_of}
+use Rattle.core_model.specs.Sources.{Text, Verdict, outstanding, good, bad, Source, Serving, is_outstanding}
+use Rattle.core_model.specs.Sources.{is_awaited, ResultAnswer, serve, refuse, late, answer_of}
 use Rattle.version_map.specs.declared.entry.Served.{Served}
 use Rattle.version_map.specs.declared.entry.Unserved.{Unserved}
 use Rattle.version_map.specs.declared.entry.Entry.{Entry}

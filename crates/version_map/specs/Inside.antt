@@ -11,7 +11,13 @@ use Rattle.version_map.specs.declared.version_map.VersionMap.TheInside.{Inside}
 
 -- what the edits and results so far give, each list in the order of the names
 abbrev pub sources_of : Inside → Sources
-sources_of a = record { counted = a.counted; current = current_rows a.entries.entries; served = served_rows a.entries.entries; served_no = a.served_no }
+sources_of a =
+    record {
+      counted = a.counted;
+      current = current_rows a.entries.entries;
+      served = served_rows a.entries.entries;
+      served_no = a.served_no;
+    }
 
 -- how many results are awaited
 abbrev pub awaited : List (Name × Source) → ℕ
@@ -28,7 +34,9 @@ pub record IsCounted (a : Inside) : Type 0 where
   pub total : a.total ≡ total_of (sources_of a)
   pub total_fits : a.total ≤ SOURCE_BYTES
   pub counted_fits : a.counted ≤ LARGEST_NUMBER
-  pub sources_fit : (n : Name) → IfSome (source_in (entry_at a.entries.entries n)) (λ s. Fits s.version s.text)
-  pub servings_fit : (n : Name) → IfSome (served_in (entry_at a.entries.entries n)) (λ s. Fits s.version s.text)
+  pub sources_fit : (n : Name)
+      → IfSome (source_in (entry_at a.entries.entries n)) (λ s. Fits s.version s.text)
+  pub servings_fit : (n : Name)
+      → IfSome (served_in (entry_at a.entries.entries n)) (λ s. Fits s.version s.text)
   pub servings_read : (n : Name) → IfSome (served_in (entry_at a.entries.entries n)) (λ s. IsUtf8 s.text)
   pub enough : a.served_no + awaited (current_rows a.entries.entries) ≤ a.counted

@@ -3,7 +3,9 @@ use Rattle.std.specs.Prelude.{◌≡◌, Bool, false, ⊤, List, length, Option,
 use Prim.{⊥}
 use Rattle.core_model.specs.Names.{Name, at}
 use Rattle.hmr_types.specs.declared.analysis.TextFault.{TextFault}
-use Rattle.core_model.specs.Sources.{Change, Source, Sources, is_outstanding, sources_after, total_of, EditAnswer, job, same, removed, edit_refused, ResultAnswer, serve, refuse, late}
+use Rattle.core_model.specs.Sources.{Change, Source, Sources, is_outstanding, sources_after}
+use Rattle.core_model.specs.Sources.{total_of, EditAnswer, job, same, removed, edit_refused}
+use Rattle.core_model.specs.Sources.{ResultAnswer, serve, refuse, late}
 use Rattle.hmr_types.specs.declared.words.EditRefusal.{EditRefusal}
 use Rattle.version_map.specs.Entries.{fault_of}
 use Rattle.version_map.specs.declared.outcome.EditOutcome.{EditOutcome}

@@ -3,7 +3,8 @@
 ghost use Rattle.std.specs.Prelude.{◌≡◌, Some};
 ghost use Rattle.std.specs.Option.{option_map, option_copied};
 ghost use Rattle.core_model.specs.Sources.{is_awaited, is_outstanding};
-ghost use Rattle.version_map.specs.Entries.{answer_at, fault_of, served_of, serving_of, settled_serving, settled_source, source_of, unserved_source};
+ghost use Rattle.version_map.specs.Entries.{answer_at, fault_of, served_of, serving_of, settled_serving};
+ghost use Rattle.version_map.specs.Entries.{settled_source, source_of, unserved_source};
 ghost use Rattle.version_map.specs.Standing.{settled_as};
 
 use crate::outcome::Settled;
@@ -103,8 +104,12 @@ impl Entry {
     /// The result for a text at a version: the source's, or late.
     pub fn settle(&mut self, ver: Ver, text: Vec<u8>, outcome: Outcome) -> Settled
         ensures answer { result ≡ settled_as (answer_at (Some (source_of self.old)) text.items outcome ver) }
-        ensures source { source_of self.new ≡ settled_source (answer_at (Some (source_of self.old)) text.items outcome ver) text.items ver (source_of self.old) }
-        ensures served { served_of self.new ≡ settled_serving (answer_at (Some (source_of self.old)) text.items outcome ver) text.items ver (served_of self.old) }
+        ensures source { source_of self.new
+            ≡ settled_source (answer_at (Some (source_of self.old)) text.items outcome ver) text.items ver
+            (source_of self.old) }
+        ensures served { served_of self.new
+            ≡ settled_serving (answer_at (Some (source_of self.old)) text.items outcome ver) text.items ver
+            (served_of self.old) }
     {
         if !self.awaits(ver, &text) {
             return Settled::Late;

@@ -1,15 +1,19 @@
 // The map from names to sources and to what is served.
-ghost use Rattle.std.specs.Prelude.{◌≡◌, ◌+◌, ◌≤◌, [], ◌∷◌, List, OnErr, OnOk, IfOk, IfErr, IfSome, Some, None, length, IsUtf8};
+ghost use Rattle.std.specs.Prelude.{◌≡◌, ◌+◌, ◌≤◌, [], ◌∷◌};
+ghost use Rattle.std.specs.Prelude.{List, OnErr, OnOk, IfOk, IfErr, IfSome, Some, None, length, IsUtf8};
 ghost use Rattle.std.specs.Option.{option_map, option_copied};
 ghost use Rattle.core_model.specs.Names.{at};
 ghost use Rattle.core_model.specs.Sources as changes;
-ghost use Rattle.core_model.specs.Sources.{Change, answer_for, edit_answer, job, removed, result_answer, sources_after, text_length};
+ghost use Rattle.core_model.specs.Sources.{Change, answer_for, edit_answer, job, removed};
+ghost use Rattle.core_model.specs.Sources.{result_answer, sources_after, text_length};
 ghost use Rattle.hmr_types.specs.declared.limits.TheConstants.{LARGEST_NUMBER};
 ghost use Rattle.hmr_types.specs.declared.words.EditRefusal.TheVariants.{NumbersSpent};
 ghost use Rattle.version_map.specs.Changes.{ChangesAt};
-ghost use Rattle.version_map.specs.Entries.{IsGood, answer_at, entry_at, served_in, serving_of, settled_serving, settled_source, source_in, unserved_source};
+ghost use Rattle.version_map.specs.Entries.{IsGood, answer_at, entry_at, served_in, serving_of};
+ghost use Rattle.version_map.specs.Entries.{settled_serving, settled_source, source_in, unserved_source};
 ghost use Rattle.version_map.specs.Inside.{Fits};
-ghost use Rattle.version_map.specs.Standing.{Answered, Answers, StandsFor, answer_in, refused_in, settled_as, outstanding_in};
+ghost use Rattle.version_map.specs.Standing.{Answered, Answers, StandsFor, answer_in, refused_in};
+ghost use Rattle.version_map.specs.Standing.{settled_as, outstanding_in};
 
 use crate::entry::{Entry, Served, Unserved};
 use crate::outcome::{EditFault, EditOutcome, Settled};
@@ -65,8 +69,11 @@ impl VersionMap {
     /// It takes as many comparisons of names as the logarithm of their number; the text is moved in
     /// and not copied.
     pub fn edit(&mut self, name: ModName, text: Option<Vec<u8>>) -> Result<EditOutcome, EditFault>
-        ensures stands { (past : List Change) → StandsFor past self.old → Answered result (StandsFor (changes.edit name (option_map (λ t. t.items) text) ∷ past) self.new) }
-        ensures answer { (past : List Change) → StandsFor past self.old → Answers result (edit_answer (sources_after past) name (option_map (λ t. t.items) text)) }
+        ensures stands { (past : List Change) → StandsFor past self.old
+            → Answered result
+            (StandsFor (changes.edit name (option_map (λ t. t.items) text) ∷ past) self.new) }
+        ensures answer { (past : List Change) → StandsFor past self.old
+            → Answers result (edit_answer (sources_after past) name (option_map (λ t. t.items) text)) }
         ensures unchanged { OnErr result (self.new ≡ self.old) }
     {
         match text {
@@ -76,7 +83,8 @@ impl VersionMap {
     }
 
     fn give(&mut self, name: ModName, text: Sequence<u8>) -> Result<EditOutcome, EditFault>
-        ensures stands { (past : List Change) → StandsFor past self.old → Answered result (StandsFor (changes.edit name (Some text) ∷ past) self.new) }
+        ensures stands { (past : List Change) → StandsFor past self.old
+            → Answered result (StandsFor (changes.edit name (Some text) ∷ past) self.new) }
         ensures answer { Answers result (edit_answer self.old name (Some text)) }
         ensures unchanged { OnErr result (self.new ≡ self.old) }
     {
@@ -111,7 +119,8 @@ impl VersionMap {
 
     fn next_ver(&self) -> Result<Ver, EditRefusal>
         ensures ok { IfOk result (λ v. (v ≡ self.now.counted + 1) × (v ≤ LARGEST_NUMBER)) }
-        ensures err { IfErr result (λ refusal. (refusal ≡ NumbersSpent) × (LARGEST_NUMBER ≤ self.now.counted)) }
+        ensures err { IfErr result
+            (λ refusal. (refusal ≡ NumbersSpent) × (LARGEST_NUMBER ≤ self.now.counted)) }
     {
         if self.counted >= LARGEST_NUMBER {
             return Err(EditRefusal::NumbersSpent);
@@ -121,7 +130,8 @@ impl VersionMap {
 
     fn issue(&mut self, name: ModName, ver: Ver, text: Sequence<u8>) -> Result<(), AllocError>
         requires { edit_answer self.old name (Some text) ≡ job ver }
-        ensures stands { (past : List Change) → StandsFor past self.old → OnOk result (StandsFor (changes.edit name (Some text) ∷ past) self.new) }
+        ensures stands { (past : List Change) → StandsFor past self.old
+            → OnOk result (StandsFor (changes.edit name (Some text) ∷ past) self.new) }
         ensures unchanged { OnErr result (self.new ≡ self.old) }
     {
         let replaced = self.text_len(&name);
@@ -144,7 +154,8 @@ impl VersionMap {
 
     /// Takes the name's source away, as an `edit` without a text does. It takes no memory.
     pub fn take_away(&mut self, name: &ModName) -> Result<EditOutcome, EditFault>
-        ensures stands { (past : List Change) → StandsFor past self.old → Answered result (StandsFor (changes.edit name.now None ∷ past) self.new) }
+        ensures stands { (past : List Change) → StandsFor past self.old
+            → Answered result (StandsFor (changes.edit name.now None ∷ past) self.new) }
         ensures answer { Answers result (edit_answer self.old name.now None) }
         ensures unchanged { OnErr result (self.new ≡ self.old) }
     {
@@ -158,7 +169,8 @@ impl VersionMap {
 
     fn remove(&mut self, name: &ModName, ver: Ver)
         requires { edit_answer self.old name.now None ≡ removed ver }
-        ensures { (past : List Change) → StandsFor past self.old → StandsFor (changes.edit name.now None ∷ past) self.new }
+        ensures { (past : List Change) → StandsFor past self.old
+            → StandsFor (changes.edit name.now None ∷ past) self.new }
     {
         let replaced = self.text_len(name);
         remove(&mut self.entries, name);
@@ -174,8 +186,13 @@ impl VersionMap {
     ///
     /// It takes no memory, and as many comparisons of names as the logarithm of their number.
     pub fn settle(&mut self, transformed: Transformed, ver: Ver) -> Settled
-        ensures stands { (past : List Change) → StandsFor past self.old → StandsFor (changes.result transformed.name transformed.text transformed.outcome ver ∷ past) self.new }
-        ensures answer { (past : List Change) → StandsFor past self.old → result ≡ settled_as (result_answer (sources_after past) transformed.name transformed.text transformed.outcome ver) }
+        ensures stands { (past : List Change) → StandsFor past self.old
+            → StandsFor
+            (changes.result transformed.name transformed.text transformed.outcome ver ∷ past) self.new }
+        ensures answer { (past : List Change) → StandsFor past self.old
+            → result
+            ≡ settled_as
+            (result_answer (sources_after past) transformed.name transformed.text transformed.outcome ver) }
     {
         let (name, text, outcome) = transformed.into_parts();
         self.settle_parts(&name, ver, text, outcome)
@@ -183,7 +200,8 @@ impl VersionMap {
 
     fn settle_parts(&mut self, name: &ModName, ver: Ver, text: Vec<u8>, outcome: Outcome) -> Settled
         requires { IsGood outcome → IsUtf8 text.items }
-        ensures stands { (past : List Change) → StandsFor past self.old → StandsFor (changes.result name.now text.items outcome ver ∷ past) self.new }
+        ensures stands { (past : List Change) → StandsFor past self.old
+            → StandsFor (changes.result name.now text.items outcome ver ∷ past) self.new }
         ensures answer { result ≡ settled_as (result_answer self.old name.now text.items outcome ver) }
     {
         let settled = settle(&mut self.entries, name, ver, text, outcome);
@@ -248,7 +266,9 @@ fn put(
     name: ModName,
     source: Unserved,
 ) -> Result<(), AllocError>
-    ensures ok { OnOk result (ChangesAt name (Some (unserved_source source)) (served_in (entry_at entries.old.entries name)) entries.old.entries entries.new.entries) }
+    ensures ok { OnOk result
+        (ChangesAt name (Some (unserved_source source))
+        (served_in (entry_at entries.old.entries name)) entries.old.entries entries.new.entries) }
     ensures err { OnErr result (entries.new.entries ≡ entries.old.entries) }
 {
     match entries.get_mut(&name) {
@@ -275,8 +295,13 @@ fn settle(
     text: Vec<u8>,
     outcome: Outcome,
 ) -> Settled
-    ensures answer { result ≡ settled_as (answer_at (source_in (entry_at entries.old.entries name.now)) text.items outcome ver) }
-    ensures entries { let old = entry_at entries.old.entries name.now in let answer = answer_at (source_in old) text.items outcome ver in ChangesAt name.now (option_map (settled_source answer text.items ver) (source_in old)) (settled_serving answer text.items ver (served_in old)) entries.old.entries entries.new.entries }
+    ensures answer { result
+        ≡ settled_as (answer_at (source_in (entry_at entries.old.entries name.now)) text.items outcome ver) }
+    ensures entries { let old = entry_at entries.old.entries name.now in let answer = answer_at
+        (source_in old)
+        text.items outcome ver in ChangesAt name.now
+        (option_map (settled_source answer text.items ver) (source_in old))
+        (settled_serving answer text.items ver (served_in old)) entries.old.entries entries.new.entries }
 {
     match entries.get_mut(name) {
         Some(entry) => entry.settle(ver, text, outcome),

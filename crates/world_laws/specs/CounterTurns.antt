@@ -6,7 +6,8 @@ use Rattle.world_model.specs.UpdateScripts.{main_text, counter_text, counter_by_
 
 -- both modules are served, and a client comes
 abbrev pub loading : List Step
-loading = opens 1 [] ∷ settles c 2 ∷ settles m 1 ∷ edits c (Some counter_text) ∷ edits m (Some main_text) ∷ []
+loading =
+    opens 1 [] ∷ settles c 2 ∷ settles m 1 ∷ edits c (Some counter_text) ∷ edits m (Some main_text) ∷ []
 
 -- it loads the page, and a new counter is served
 abbrev pub updating : List Step

@@ -1,5 +1,6 @@
 -- Turns of one client, and what they leave of its plan, its cause to give one up, and its debt.
-use Rattle.std.specs.Prelude.{◌≡◌, ◌<◌, ◌≤◌, ◌==◌, ◌||◌, ℕ, zero, suc, Bool, true, false, List, [], ◌∷◌, ◌++◌}
+use Rattle.std.specs.Prelude.{◌≡◌, ◌<◌, ◌≤◌, ◌==◌, ◌||◌, [], ◌∷◌, ◌++◌}
+use Rattle.std.specs.Prelude.{ℕ, zero, suc, Bool, true, false, List}
 use Rattle.std.specs.Prelude.{length, filter, Option, Some, None, is_some, ⊤}
 use Rattle.std.specs.List.{list_all}
 use Prim.{⊥}

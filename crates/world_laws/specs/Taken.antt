@@ -29,7 +29,8 @@ message_too (Some m) past = message m ∷ past
 abbrev pub in_turn : Language → List Name → World → ℕ → Option Runtime → ℕ → Life → Life
 in_turn language roots w j None i life = life
 in_turn language roots w j (Some r) i life = if j == i then record life {
-  past = message_too (message_for r.format (step roots w.core (event_of j (request language r))).1) life.past;
+  past =
+      message_too (message_for r.format (step roots w.core (event_of j (request language r))).1) life.past;
 } else life
 
 -- a client that is opened begins, and the answer to its hello comes

@@ -54,7 +54,8 @@ pub fn hidden_count_is_stale()
 {}
 
 /// Wherever a client shows that it is up, the modules and versions that it writes are exactly those that
-/// a fresh load of its own roots would write in that place, and the fresh load would write no missing module.
+/// a fresh load of its own roots would write in that place, and the fresh load would write no missing
+/// module.
 pub fn up_is_shown_with_a_fresh_load()
     ensures { (language : Language) (roots : List Name) (shelves : List (List (Text × ℕ))) (past : List Step)
         (i j : ℕ) (lines : List OutLine) → let w = world_after language roots shelves past in

@@ -8,7 +8,8 @@ ghost use Rattle.client_model.specs.Runtime.{Opening};
 ghost use Rattle.client_model.specs.Instance.{live_at};
 ghost use Rattle.client_model.specs.Applying.{live_of};
 ghost use Rattle.client_model.specs.Past.{Past, runtime_after};
-ghost use Rattle.world_laws.specs.Instances.{AreNumbered, AreLinked, AreLinkedWhole, AreExported, AreCounted};
+ghost use Rattle.world_laws.specs.Instances.{AreNumbered, AreLinked, AreLinkedWhole};
+ghost use Rattle.world_laws.specs.Instances.{AreExported, AreCounted};
 
 /// Each instance has as its number the place at which it was made, from 1; so each number, and each
 /// number that an instance is linked to, is at most the number of instances made.

@@ -6,7 +6,8 @@ use Rattle.output_lines.specs.declared.words.SettleWord.TheVariants as settles_a
 use Rattle.output_lines.specs.declared.out_line.OutLine.{OutLine}
 use Rattle.output_lines.specs.declared.out_line.OutLine.TheVariants as line
 use Rattle.core_model.specs.Names.{Name, same_name}
-use Rattle.core_model.specs.Sources.{Text, result, EditAnswer, job, same, removed, edit_refused, ResultAnswer}
+use Rattle.core_model.specs.Sources.{Text, result, EditAnswer, job, same, removed}
+use Rattle.core_model.specs.Sources.{edit_refused, ResultAnswer}
 use Rattle.core_model.specs.Sources.{serve, refuse, late}
 use Rattle.core_model.specs.Requests.{Reply, edited, settled, to_client, gone}
 use Rattle.core_model.specs.Requests as replies

@@ -128,7 +128,8 @@ mixed_script =
 -- A dependency that is removed under an importer that accepts it, and comes again.
 
 abbrev pub needing_m : Text
-needing_m = codes "import { x } from \"./x.js\";\nimport.meta.hot.accept(\"./x.js\", (n) => { console.log(\"x is\", n?.x); });"
+needing_m =
+    codes "import { x } from \"./x.js\";\nimport.meta.hot.accept(\"./x.js\", (n) => { console.log(\"x is\", n?.x); });"
 
 abbrev pub needed_1 : Text
 needed_1 = codes "export const x = 1;"
@@ -141,7 +142,8 @@ needing = page_of ((
   needing_m,
   module_of (accepting (x ∷ []) (importing (x ∷ []))) (binding x (codes "x") (codes "x") ∷ []) (
       deps false (x ∷ [])
-      (Some (callback (codes "n" ∷ []) (log (text (codes "x is") ∷ (member 0 true (codes "x") ∷ []))))) ∷ []),
+      (Some (callback (codes "n" ∷ []) (log (text (codes "x is") ∷ (member 0 true (codes "x") ∷ [])))))
+      ∷ []),
 ) ∷ (
   needed_1,
   module_of (exporting (codes "x" ∷ []) (importing [])) [] (declare true false (codes "x") (num 1) ∷ []),

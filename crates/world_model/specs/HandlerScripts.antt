@@ -20,7 +20,8 @@ abbrev pub without_x : Text
 without_x = codes "import.meta.hot.accept();"
 
 abbrev pub seeing_x : Text
-seeing_x = codes "console.log(\"seen\", import.meta.hot.data.seen);\nimport.meta.hot.data.seen = 1;\nimport.meta.hot.dispose(() => console.log(\"dispose\"));\nimport.meta.hot.prune(() => console.log(\"prune\"));"
+seeing_x =
+    codes "console.log(\"seen\", import.meta.hot.data.seen);\nimport.meta.hot.data.seen = 1;\nimport.meta.hot.dispose(() => console.log(\"dispose\"));\nimport.meta.hot.prune(() => console.log(\"prune\"));"
 
 abbrev pub seen : List ℕ
 seen = codes "seen"
@@ -46,7 +47,8 @@ seeing_script =
 -- Two disposers, and closures of the embedding program.
 
 abbrev pub hosting_1 : Text
-hosting_1 = codes "import.meta.hot.dispose(host(\"H\"));\nimport.meta.hot.dispose(() => console.log(\"second\"));\nimport.meta.hot.prune(host(\"H\"));\nimport.meta.hot.accept();"
+hosting_1 =
+    codes "import.meta.hot.dispose(host(\"H\"));\nimport.meta.hot.dispose(() => console.log(\"second\"));\nimport.meta.hot.prune(host(\"H\"));\nimport.meta.hot.accept();"
 
 abbrev pub hosting_2 : Text
 hosting_2 = codes "import.meta.hot.accept(); import.meta.hot.dispose(host(\"H\"));"
@@ -82,7 +84,8 @@ abbrev pub invalid_m : Text
 invalid_m = codes "import { a } from \"./a.js\"; console.log(\"m\", a);\nimport.meta.hot.accept();"
 
 abbrev pub invalid_a : Text
-invalid_a = codes "export const a = 1;\nimport.meta.hot.accept((n) => { import.meta.hot.invalidate(\"changed \" + n?.a); });"
+invalid_a =
+    codes "export const a = 1;\nimport.meta.hot.accept((n) => { import.meta.hot.invalidate(\"changed \" + n?.a); });"
 
 abbrev pub valid_a : Text
 valid_a = codes "export const a = 2; import.meta.hot.accept();"

@@ -43,7 +43,8 @@ take_some language r (Some m) = take language r m
 
 -- the core's reply is taken as the message that it is in the client's format
 abbrev pub answered_by : Language → ℕ → Runtime → World → Core × Reply → Stepped
-answered_by language i r w after = turned_by i w after.0 (take_some language r (message_for r.format after.1))
+answered_by language i r w after =
+    turned_by i w after.0 (take_some language r (message_for r.format after.1))
 
 -- one request, one step of the core, one effect
 abbrev pub turn_of : Language → List Name → ℕ → World → Option Runtime → Stepped

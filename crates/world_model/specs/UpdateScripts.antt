@@ -13,10 +13,12 @@ use Rattle.world_model.specs.SmallPages.{edited}
 -- A counter: main accepts counter, which keeps its count.
 
 abbrev pub main_text : Text
-main_text = codes "import { count as c } from \"./counter.js\"\nexport let count = c\nimport.meta.hot.accept(\"./counter.js\", (newCounter) => {\n  count = newCounter?.count\n  console.log(\"count is now\", count)\n})\n"
+main_text =
+    codes "import { count as c } from \"./counter.js\"\nexport let count = c\nimport.meta.hot.accept(\"./counter.js\", (newCounter) => {\n  count = newCounter?.count\n  console.log(\"count is now\", count)\n})\n"
 
 abbrev pub counter_text : Text
-counter_text = codes "export const count = (import.meta.hot.data.count ?? 0) + 1\nconsole.log(\"counter\", count)\nimport.meta.hot.dispose((data) => {\n  data.count = count\n})\n"
+counter_text =
+    codes "export const count = (import.meta.hot.data.count ?? 0) + 1\nconsole.log(\"counter\", count)\nimport.meta.hot.dispose((data) => {\n  data.count = count\n})\n"
 
 abbrev pub counter_by_ten : Text
 counter_by_ten =
@@ -91,10 +93,12 @@ abbrev pub cycle_m : Text
 cycle_m = codes "import \"./a.js\"; import.meta.hot.accept(\"./a.js\");"
 
 abbrev pub cycle_a : Text
-cycle_a = codes "import \"./b.js\"; import \"./x.js\"; console.log(\"a\");\nimport.meta.hot.dispose(() => console.log(\"bye a\"));"
+cycle_a =
+    codes "import \"./b.js\"; import \"./x.js\"; console.log(\"a\");\nimport.meta.hot.dispose(() => console.log(\"bye a\"));"
 
 abbrev pub cycle_b : Text
-cycle_b = codes "import \"./a.js\"; import.meta.hot.accept(); console.log(\"b\");\nimport.meta.hot.dispose(() => console.log(\"bye b\"));"
+cycle_b =
+    codes "import \"./a.js\"; import.meta.hot.accept(); console.log(\"b\");\nimport.meta.hot.dispose(() => console.log(\"bye b\"));"
 
 abbrev pub cycle_x : Text
 cycle_x = codes "console.log(\"x\");"

@@ -16,7 +16,8 @@ ghost use Rattle.hmr_types.specs.declared.value.Slot.TheVariants.{Val};
 ghost use Rattle.output_lines.specs.declared.out_line.OutLine.TheVariants as line;
 ghost use Rattle.world_model.specs.Playing.{play, quiet_play};
 ghost use Rattle.world_model.specs.SmallPages.{m, a, b, x, c};
-ghost use Rattle.world_model.specs.UpdateScripts.{counter, counter_script, count, chain, chain_script, cycle};
+ghost use Rattle.world_model.specs.UpdateScripts.{counter, counter_script, count};
+ghost use Rattle.world_model.specs.UpdateScripts.{chain, chain_script, cycle};
 ghost use Rattle.world_model.specs.UpdateScripts.{cycle_script};
 
 /// A counter as users write it: its count goes from instance to instance by its bag, and the module
