@@ -9,23 +9,12 @@
 # processor time in user mode for one evaluation, so that other work on the machine counts less: the time of
 # some evaluations, less that of none. PROGRAM, where one is given, is that small program, built before.
 set -eu
-top=$(cd "$(dirname "${BASH_SOURCE[0]}")/.." && pwd)
-work=$(mktemp -d)
-trap 'rm -rf "$work"' EXIT
+source "$(dirname "${BASH_SOURCE[0]}")/small_program.sh"
 
 program=${1-}
 if [ -z "$program" ]; then
-  mkdir -p "$work/crates/eval_bench/src"
-  for name in hmr_types module_tree module_semantics byte_lanes hot_lexer hot_printer hot_grammar hot_parser retained_data const_eval; do
-    mkdir "$work/crates/$name"
-    for part in src specs proofs; do
-      if [ -d "$top/crates/$name/$part" ]; then cp -r "$top/crates/$name/$part" "$work/crates/$name/"; fi
-    done
-    grep "^$name:" "$top/crates.txt" >> "$work/crates.txt"
-  done
-  cp "$top/HANDLES" "$work/"
-  echo 'eval_bench: hmr_types module_tree module_semantics hot_parser retained_data const_eval' >> "$work/crates.txt"
-  cat > "$work/crates/eval_bench/src/main.rt" << 'END'
+  begin eval_bench hmr_types module_tree module_semantics hot_parser retained_data const_eval
+  cat > "$own/src/main.rt" << 'END'
 //! Evaluates the module of the input so many times over, or runs the body of its callback beside variables
 //! `v1`, `v2` and so on, and tells how many lines and assignments the last one made.
 #![tactic(auto)]
@@ -65,7 +54,7 @@ fn main(rt: HostRuntime) -> io::Result<()> {
     Ok(())
 }
 END
-  cat > "$work/crates/eval_bench/src/runs.rt" << 'END'
+  cat > "$own/src/runs.rt" << 'END'
 // Evaluations of one module, and runs of its callback.
 use const_eval::{eval_module, run_body};
 use hmr_types::{Name, Sequence, Slot, Value};
@@ -136,9 +125,7 @@ pub fn bodies_run(
     Ok(0)
 }
 END
-  echo 'bench: proving and building the program' >&2
-  (cd "$work/crates/eval_bench" && rt run < /dev/null) > "$work/log" 2>&1 || { tail -30 "$work/log" >&2; exit 1; }
-  program="$work/crates/eval_bench/out/eval_bench"
+  build
 fi
 
 python3 - "$work" << 'END'

@@ -9,27 +9,13 @@
 # and those of an event, without the load, for 27, 270 and 2,700 variables, and how many times those of 27 they
 # are.
 set -eu
-top=$(cd "$(dirname "${BASH_SOURCE[0]}")/.." && pwd)
-work=$(mktemp -d)
-trap 'rm -rf "$work"' EXIT
+source "$(dirname "${BASH_SOURCE[0]}")/small_program.sh"
 
 program=${1-}
 if [ -z "$program" ]; then
-  mkdir -p "$work/crates/fire_bench/src" "$work/crates/fire_bench/proofs/fires/fire_all"
-  for name in hmr_types module_tree output_lines update_msgs module_semantics core_model client_model \
-    module_language byte_lanes hot_lexer hot_grammar hot_printer hot_parser import_scan retained_data \
-    const_eval handler_table module_graph page_instances page_plan page_deeds plan_under_way hot_runtime play_script \
-    play_text json_readings message_text message_json; do
-    mkdir "$work/crates/$name"
-    for part in src specs proofs; do
-      if [ -d "$top/crates/$name/$part" ]; then cp -r "$top/crates/$name/$part" "$work/crates/$name/"; fi
-    done
-    grep "^$name:" "$top/crates.txt" >> "$work/crates.txt"
-  done
-  cp "$top/HANDLES" "$work/"
-  echo 'fire_bench: hmr_types update_msgs retained_data const_eval handler_table hot_runtime message_json' \
-    >> "$work/crates.txt"
-  cat > "$work/crates/fire_bench/src/main.rt" << 'END'
+  begin fire_bench hmr_types update_msgs retained_data const_eval handler_table hot_runtime message_json
+  mkdir -p "$own/proofs/fires/fire_all"
+  cat > "$own/src/main.rt" << 'END'
 //! Loads a page of one module with so many variables, and fires so many events at it, each of which one callback
 //! hears that sets a variable and logs it: `fire_bench VARIABLES EVENTS`. Tells how many lines that gave.
 #![tactic(auto)]
@@ -74,7 +60,7 @@ fn main(rt: HostRuntime) -> ExitCode {
     }
 }
 END
-  cat > "$work/crates/fire_bench/src/page.rt" << 'END'
+  cat > "$own/src/page.rt" << 'END'
 // The module of the page, as its server sends it.
 use std::alloc::{AllocError, Global};
 
@@ -91,7 +77,7 @@ pub fn text_message(alloc: Global, variables: u32) -> Result<String, AllocError>
     Ok(text)
 }
 END
-  cat > "$work/crates/fire_bench/src/fires.rt" << 'END'
+  cat > "$own/src/fires.rt" << 'END'
 // A client takes the messages of its load, and hears events.
 ghost use Rattle.std.specs.Prelude.{◌≡◌, ℕ, IfOk, codes};
 ghost use Rattle.handler_table.specs.Held.{IsHost};
@@ -219,7 +205,7 @@ pub fn fired<F: FnOnce(Bag) -> Result<Ran, AllocError> + Drop, M: Fn(u32) -> F +
     told
 }
 END
-  cat > "$work/crates/fire_bench/proofs/fires/fire_all/Invariants.antt" << 'END'
+  cat > "$own/proofs/fires/fire_all/Invariants.antt" << 'END'
 use Rattle.hot_runtime.specs.Standing.{KeepsWords}
 use Rattle.fire_bench.proofs.fires.fire_all.Given as goal
 
@@ -227,14 +213,12 @@ use Rattle.fire_bench.proofs.fires.fire_all.Given as goal
 abbrev pub invariant-loop : goal.invariant-loop
 invariant-loop g l = KeepsWords (goal.F-post g) l.runtime
 END
-  echo 'bench: proving and building the program' >&2
-  (cd "$work/crates/fire_bench" && rt run -- 1 1) > "$work/log" 2>&1 || { tail -30 "$work/log" >&2; exit 1; }
-  program="$work/crates/fire_bench/out/fire_bench"
+  build 1 1
 fi
 [ -x "$program" ] || { echo "no program at $program" >&2; exit 1; }
 command -v valgrind > /dev/null || { echo 'bench: valgrind is not installed' >&2; exit 1; }
 
-exec python3 - "$program" "$work" << 'END'
+python3 - "$program" "$work" << 'END'
 import re, subprocess, sys
 
 program, work = sys.argv[1:]

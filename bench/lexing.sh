@@ -11,23 +11,12 @@
 # processor time in user mode, so that other work on the machine counts less. PROGRAM, where one is given, is
 # that small program, built before.
 set -eu
-top=$(cd "$(dirname "${BASH_SOURCE[0]}")/.." && pwd)
-work=$(mktemp -d)
-trap 'rm -rf "$work"' EXIT
+source "$(dirname "${BASH_SOURCE[0]}")/small_program.sh"
 
 program=${1-}
 if [ -z "$program" ]; then
-  mkdir -p "$work/crates/lex_bench/src"
-  for name in hmr_types module_tree module_semantics byte_lanes hot_lexer hot_printer hot_grammar hot_parser; do
-    mkdir "$work/crates/$name"
-    for part in src specs proofs; do
-      if [ -d "$top/crates/$name/$part" ]; then cp -r "$top/crates/$name/$part" "$work/crates/$name/"; fi
-    done
-    grep "^$name:" "$top/crates.txt" >> "$work/crates.txt"
-  done
-  cp "$top/HANDLES" "$work/"
-  echo 'lex_bench: hmr_types hot_lexer hot_parser' >> "$work/crates.txt"
-  cat > "$work/crates/lex_bench/src/main.rt" << 'END'
+  begin lex_bench hmr_types hot_lexer hot_parser
+  cat > "$own/src/main.rt" << 'END'
 //! Lexes or parses the text of the input so many times over, and tells how much the last run gave.
 #![tactic(auto)]
 
@@ -64,7 +53,7 @@ fn main(rt: HostRuntime) -> io::Result<()> {
     Ok(())
 }
 END
-  cat > "$work/crates/lex_bench/src/runs.rt" << 'END'
+  cat > "$own/src/runs.rt" << 'END'
 // Runs of the lexer and of the parser over one text.
 ghost use Rattle.std.specs.Prelude.{◌≤◌, length};
 
@@ -98,9 +87,7 @@ pub fn parsed(alloc: Global, text: &[u8], runs: u32) -> usize
     count
 }
 END
-  echo 'bench: proving and building the program' >&2
-  (cd "$work/crates/lex_bench" && rt run < /dev/null) > "$work/log" 2>&1 || { tail -30 "$work/log" >&2; exit 1; }
-  program="$work/crates/lex_bench/out/lex_bench"
+  build
 fi
 
 mkdir "$work/texts"

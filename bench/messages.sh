@@ -9,23 +9,11 @@
 # differ. Then one `invalidate` of 1 MiB and one of 16 MiB is read and written again: the second may take
 # at most 20 times what the first does. The program is proved before it is built, in a copy of the crates.
 set -eu
-top=$(cd "$(dirname "${BASH_SOURCE[0]}")/.." && pwd)
+source "$(dirname "${BASH_SOURCE[0]}")/small_program.sh"
 count=${1:-10000}
-work=$(mktemp -d)
-trap 'rm -rf "$work"' EXIT
 
-mkdir -p "$work/crates/message_bench/src"
-for name in hmr_base hmr_types module_tree output_lines update_msgs core_model play_script play_text \
-  json_readings message_text message_json; do
-  mkdir "$work/crates/$name"
-  for part in src specs proofs; do
-    if [ -d "$top/crates/$name/$part" ]; then cp -r "$top/crates/$name/$part" "$work/crates/$name/"; fi
-  done
-  grep "^$name:" "$top/crates.txt" >> "$work/crates.txt"
-done
-cp "$top/HANDLES" "$work/"
-echo 'message_bench: hmr_base hmr_types update_msgs message_json' >> "$work/crates.txt"
-cat > "$work/crates/message_bench/src/main.rt" << 'END'
+begin message_bench hmr_base hmr_types update_msgs message_json
+cat > "$own/src/main.rt" << 'END'
 //! Reads a client's message from each line of its input, and writes each again, or why it is none.
 #![tactic(auto)]
 
@@ -51,7 +39,7 @@ fn main(rt: HostRuntime) -> ExitCode {
     }
 }
 END
-cat > "$work/crates/message_bench/src/again.rt" << 'END'
+cat > "$own/src/again.rt" << 'END'
 // What each line is written as again.
 ghost use Rattle.update_msgs.specs.Writable.{IsSayable};
 
@@ -99,9 +87,7 @@ pub fn all_again(alloc: Global, bytes: &[u8]) -> Result<Vec<u8>, AllocError> {
     Ok(out)
 }
 END
-echo 'bench: proving and building the program' >&2
-(cd "$work/crates/message_bench" && rt run < /dev/null) > "$work/log" 2>&1 || { tail -30 "$work/log" >&2; exit 1; }
-program="$work/crates/message_bench/out/message_bench"
+build
 
 cat > "$work/messages.py" << 'END'
 """Random messages of a client, and what is to be told of each line."""

@@ -11,24 +11,12 @@
 # machine that is busy or has fewer than four processors; the instructions may rise by 5 % at most from 1 worker to
 # 4, else the script fails: an allocation takes more of them in a program that has made a thread.
 set -eu
-top=$(cd "$(dirname "${BASH_SOURCE[0]}")/.." && pwd)
-work=$(mktemp -d)
-trap 'rm -rf "$work"' EXIT
+source "$(dirname "${BASH_SOURCE[0]}")/small_program.sh"
 
 program=${1-}
 if [ -z "$program" ]; then
-  mkdir -p "$work/crates/pool_bench/src"
-  for name in hmr_base hmr_types module_tree update_msgs module_semantics byte_lanes hot_lexer hot_printer hot_grammar \
-    hot_parser import_scan jobs transform_pool; do
-    mkdir "$work/crates/$name"
-    for part in src specs proofs; do
-      if [ -d "$top/crates/$name/$part" ]; then cp -r "$top/crates/$name/$part" "$work/crates/$name/"; fi
-    done
-    grep "^$name:" "$top/crates.txt" >> "$work/crates.txt"
-  done
-  cp "$top/HANDLES" "$work/"
-  echo 'pool_bench: hmr_types import_scan transform_pool' >> "$work/crates.txt"
-  cat > "$work/crates/pool_bench/src/main.rt" << 'END'
+  begin pool_bench hmr_types import_scan transform_pool
+  cat > "$own/src/main.rt" << 'END'
 //! Transforms so many texts by so many workers, so many times over: `pool_bench WORKERS TEXTS TIMES`. With 0
 //! workers it makes the texts alone. Tells how many of the results of the last time are modules.
 #![tactic(auto)]
@@ -91,7 +79,7 @@ fn main(rt: HostRuntime) -> ExitCode {
     }
 }
 END
-  cat > "$work/crates/pool_bench/src/texts.rt" << 'END'
+  cat > "$own/src/texts.rt" << 'END'
 // Texts of modules, each of some 4 kB: declarations, and imports of the modules before.
 use hmr_types::ModName;
 use std::alloc::{AllocError, Global};
@@ -132,13 +120,11 @@ pub fn jobs(alloc: Global, texts: u32) -> Result<Vec<TextJob>, AllocError> {
     Ok(jobs)
 }
 END
-  echo 'bench: proving and building the program' >&2
-  (cd "$work/crates/pool_bench" && rt run -- 1 1 1) > "$work/log" 2>&1 || { tail -30 "$work/log" >&2; exit 1; }
-  program="$work/crates/pool_bench/out/pool_bench"
+  build 1 1 1
 fi
 [ -x "$program" ] || { echo "no program at $program" >&2; exit 1; }
 
-exec python3 - "$program" "$work" << 'END'
+python3 - "$program" "$work" << 'END'
 import re, shutil, subprocess, sys, time
 
 program, work = sys.argv[1:]

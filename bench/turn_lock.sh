@@ -8,16 +8,11 @@
 # memory: no call is recorded. The Rattle program is proved before it is built, in a copy of the lock's crate,
 # and measured by the clock of this script, start of the program included.
 set -eu
-top=$(cd "$(dirname "${BASH_SOURCE[0]}")/.." && pwd)
+source "$(dirname "${BASH_SOURCE[0]}")/small_program.sh"
 calls=${1:-1000000}
-work=$(mktemp -d)
-trap 'rm -rf "$work"' EXIT
 
-mkdir -p "$work/crates/turn_bench/src"
-cp -r "$top/crates/turn_lock" "$work/crates/"
-cp "$top/HANDLES" "$work/"
-printf 'turn_lock: atomic_table\nturn_bench: turn_lock\n' > "$work/crates.txt"
-cat > "$work/crates/turn_bench/src/main.rt" << 'END'
+begin turn_bench turn_lock
+cat > "$own/src/main.rt" << 'END'
 //! Makes calls under a turn lock: `turn_bench THREADS CALLS`, with one thread or four.
 #![tactic(auto)]
 
@@ -47,7 +42,7 @@ fn main(rt: HostRuntime) -> ExitCode {
     ExitCode::from(if done { 0 } else { 1 })
 }
 END
-cat > "$work/crates/turn_bench/src/sums.rt" << 'END'
+cat > "$own/src/sums.rt" << 'END'
 // A sum under a turn lock, and threads that add to it.
 ghost use Rattle.std.specs.Prelude.{◌≡◌, ⊤, [], false, true};
 ghost use Rattle.turn_lock.specs.Passes.{IsPassOf};
@@ -139,16 +134,15 @@ pub fn four<R: Threads + Wait + Sync>(rt: &R, alloc: Global, calls: u64) -> bool
     true
 }
 END
-mkdir -p "$work/crates/turn_bench/proofs/sums/add"
-cat > "$work/crates/turn_bench/proofs/sums/add/Invariants.antt" << 'END'
+mkdir -p "$own/proofs/sums/add"
+cat > "$own/proofs/sums/add/Invariants.antt" << 'END'
 use Rattle.turn_lock.specs.Passes.{IsPassOf}
 use Rattle.turn_bench.proofs.sums.add.Given as goal
 
 abbrev pub invariant-loop-amount : goal.invariant-loop-amount
 invariant-loop-amount g l = IsPassOf l.lock l.pass
 END
-echo 'bench: proving and building the program' >&2
-(cd "$work/crates/turn_bench" && rt run -- 1 0) > "$work/log" 2>&1 || { tail -30 "$work/log" >&2; exit 1; }
+build 1 0
 
 cat > "$work/mutex.rs" << 'END'
 use std::sync::{Arc, Mutex};
@@ -188,7 +182,7 @@ rate() {
   printf '%s' "$best"
 }
 
-lock="$work/crates/turn_bench/out/turn_bench"
+lock="$program"
 one=$(rate "$lock" 1 "$calls")
 four=$(rate "$lock" 4 "$calls")
 printf 'turn lock  one thread %12s calls/s   four threads %12s calls/s\n' "$one" "$four"

@@ -20,23 +20,13 @@
 # A look-up takes the time of a logarithm, so what is linear may cost 1.3 times as much for each module or import
 # on 8,192 modules as on 1,024, where the logarithm is 1.3 times as large. The script fails where a bound isn't kept.
 set -eu
-top=$(cd "$(dirname "${BASH_SOURCE[0]}")/.." && pwd)
-work=$(mktemp -d)
-trap 'rm -rf "$work"' EXIT
+source "$(dirname "${BASH_SOURCE[0]}")/small_program.sh"
 
 program=${1-}
 if [ -z "$program" ]; then
-  mkdir -p "$work/crates/view_bench/src" "$work/crates/view_bench/proofs/runs/are_among"
-  for name in hmr_types update_msgs core_model module_graph propagate prune_list; do
-    mkdir "$work/crates/$name"
-    for part in src specs proofs; do
-      if [ -d "$top/crates/$name/$part" ]; then cp -r "$top/crates/$name/$part" "$work/crates/$name/"; fi
-    done
-    grep "^$name:" "$top/crates.txt" >> "$work/crates.txt"
-  done
-  cp "$top/HANDLES" "$work/"
-  echo 'view_bench: hmr_types core_model module_graph propagate prune_list' >> "$work/crates.txt"
-  cat > "$work/crates/view_bench/src/main.rt" << 'END'
+  begin view_bench hmr_types core_model module_graph propagate prune_list
+  mkdir -p "$own/proofs/runs/are_among"
+  cat > "$own/src/main.rt" << 'END'
 //! Does one thing to a view of so many modules, so many times over: `view_bench WHAT MODULES TIMES`, where WHAT is
 //! a word of `runs`. Tells a number that shows what was done.
 #![tactic(auto)]
@@ -73,7 +63,7 @@ fn main(rt: HostRuntime) -> ExitCode {
     }
 }
 END
-  cat > "$work/crates/view_bench/src/pages.rt" << 'END'
+  cat > "$own/src/pages.rt" << 'END'
 // Pages of modules `/m0.js`, `/m1.js` and so on, of which the first is the root.
 use hmr_types::{Analysis, ModName, Sequence};
 use module_graph::View;
@@ -134,7 +124,7 @@ pub fn page(alloc: Global, shape: Shape, modules: u32) -> Result<View, AllocErro
     Ok(view)
 }
 END
-  cat > "$work/crates/view_bench/src/runs.rt" << 'END'
+  cat > "$own/src/runs.rt" << 'END'
 // What is done: each word with what it stands for.
 ghost use Rattle.std.specs.Prelude.{◌≡◌, Contains, IsTrue, true};
 ghost use Rattle.core_model.specs.Names.{Name, has};
@@ -236,10 +226,10 @@ fn pruned(alloc: Global, modules: u32, times: u32) -> Result<usize, AllocError> 
     Ok(left)
 }
 END
-  cat > "$work/crates/view_bench/proofs/Lib.antt" << 'END'
+  cat > "$own/proofs/Lib.antt" << 'END'
 mod Listing
 END
-  cat > "$work/crates/view_bench/proofs/Listing.antt" << 'END'
+  cat > "$own/proofs/Listing.antt" << 'END'
 -- Names that are met one by one and are all listed.
 use Rattle.std.proofs.Common.{◌≡◌, ◌⊎◌, inl, inr, ℕ, ◌+◌, ◌<◌, true, List, length, take, get_or, ◌∙◌, Contains}
 use Rattle.std.proofs.Math.Path.{subst}
@@ -255,7 +245,7 @@ among_more listed names i x h is f t n c = either (Contains-push_cases (take i n
     either (inl k) = f n k
     either (inr e) = subst (λ m. has listed m ≡ true) (is ∙ e) t
 END
-  cat > "$work/crates/view_bench/proofs/runs/are_among/Invariants.antt" << 'END'
+  cat > "$own/proofs/runs/are_among/Invariants.antt" << 'END'
 use Rattle.std.proofs.Common.{◌≡◌, true, take, Contains}
 use Rattle.core_model.specs.Names.{Name, has}
 use Rattle.view_bench.proofs.runs.are_among.Given as goal
@@ -264,7 +254,7 @@ use Rattle.view_bench.proofs.runs.are_among.Given as goal
 abbrev pub invariant-loop-name : goal.invariant-loop-name
 invariant-loop-name l = (n : Name) → Contains (take l.name-index l.names) n → has l.listed n ≡ true
 END
-  cat > "$work/crates/view_bench/proofs/runs/are_among/Answers.antt" << 'END'
+  cat > "$own/proofs/runs/are_among/Answers.antt" << 'END'
 use Rattle.std.proofs.Common.{sym, ◌∙◌}
 use Rattle.view_bench.proofs.Listing.{among_more}
 use Rattle.view_bench.proofs.runs.are_among.Goals as goal
@@ -272,14 +262,12 @@ use Rattle.view_bench.proofs.runs.are_among.Goals as goal
 pub loop-name-preserved : goal.loop-name-preserved
 loop-name-preserved c = among_more c.args.listed.now c.args.names.now c.loop-name.name-index c.name-item.result c.loop-name-test.true c.name-item.is c.loop-name.invariant (sym c.has_name.ensures ∙ c.if-not-has_name.false)
 END
-  echo 'bench: proving and building the program' >&2
-  (cd "$work/crates/view_bench" && rt run -- build 1 1) > "$work/log" 2>&1 || { tail -30 "$work/log" >&2; exit 1; }
-  program="$work/crates/view_bench/out/view_bench"
+  build build 1 1
 fi
 [ -x "$program" ] || { echo "no program at $program" >&2; exit 1; }
 command -v valgrind > /dev/null || { echo 'bench: valgrind is not installed' >&2; exit 1; }
 
-exec python3 - "$program" "$work" << 'END'
+python3 - "$program" "$work" << 'END'
 import functools, os, re, subprocess, sys
 
 program, work = sys.argv[1:]
