@@ -3,7 +3,7 @@
 #
 #     bench/play.sh [PROGRAM]
 #
-# PROGRAM is the built program (crates/dev_program/out/dev_program where none is given; ./hmr builds it).
+# PROGRAM is the built program (crates/dev_program/out/dev_program where none is given; ./hmr --prove builds it).
 # Each script is played three times and the median of the processor time is told, start of the program included:
 #
 # - settle: n modules are edited, and the results of their n jobs come;
@@ -16,7 +16,7 @@
 set -eu
 top=$(cd "$(dirname "${BASH_SOURCE[0]}")/.." && pwd)
 program=${1:-$top/crates/dev_program/out/dev_program}
-[ -x "$program" ] || { echo "no program at $program: ./hmr play < /dev/null builds it" >&2; exit 1; }
+[ -x "$program" ] || { echo "no program at $program: ./hmr --prove builds it" >&2; exit 1; }
 exec python3 - "$program" << 'END'
 import os, statistics, subprocess, sys, tempfile
 

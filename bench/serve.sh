@@ -3,7 +3,7 @@
 #
 #     bench/serve.sh [PROGRAM]
 #
-# PROGRAM is the built program (crates/dev_program/out/dev_program where none is given; ./hmr builds it).
+# PROGRAM is the built program (crates/dev_program/out/dev_program where none is given; ./hmr --prove builds it).
 #
 # - start: from the start of `hmr serve` on a folder of n modules to its line `listening`, by the clock;
 # - save: from the save of a module that accepts itself, among 400, to the line `1 updated` of `hmr join`, by the
@@ -15,7 +15,7 @@
 set -eu
 top=$(cd "$(dirname "${BASH_SOURCE[0]}")/.." && pwd)
 program=${1:-$top/crates/dev_program/out/dev_program}
-[ -x "$program" ] || { echo "no program at $program: ./hmr play < /dev/null builds it" >&2; exit 1; }
+[ -x "$program" ] || { echo "no program at $program: ./hmr --prove builds it" >&2; exit 1; }
 exec python3 - "$program" << 'END'
 import os, pathlib, statistics, subprocess, sys, tempfile, time
 
