@@ -60,8 +60,8 @@ class Run:
         self.log.append(" ".join(words[1:2] + words[3:]))
         edits = self.spare / "edits"
         edits.write_bytes("".join(map(edit_lines, self.edits)).encode())
-        with edits.open("rb") as input:
-            self.server = subprocess.Popen(words, stdin=input, stdout=subprocess.PIPE)
+        with edits.open("rb") as source:
+            self.server = subprocess.Popen(words, stdin=source, stdout=subprocess.PIPE)
         line = self.server.stdout.readline().decode()
         if not line.startswith("listening "):
             raise AssertionError(f"the server wrote {line!r}")

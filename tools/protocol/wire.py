@@ -104,7 +104,6 @@ class Connection:
 
     def has_ended(self):
         """Whether the server sends no message more and ends the connection; what comes in place of the end else."""
-        self.pings = [*self.pings]
         try:
             return self.receive()
         except Ended:
