@@ -225,7 +225,14 @@ def limits():
     yield check("let a = " + "(" * 63 + "1" + ")" * 63, "let a = 1;\n")
     yield check("let a = " + "(" * 64 + "1", "fault 1:73 too-deep\n")
     yield check("let a = " + "(" * 32_000, "fault 1:73 too-deep\n")
+    # The expression in 63 pairs of parentheses is at depth 64; in one pair more it is its first token that is too deep.
+    yield check("export const a = " + "(" * 63 + "1" + ")" * 63 + ";", "export const a = 1;\nexports a\n")
+    yield check("export const a = " + "(" * 64 + "1" + ")" * 64 + ";", "fault 1:82 too-deep\n")
+    yield check("(" * 65_536, "fault 1:1 unexpected\n")
     yield check("(" * 131_072, "fault 1:65537 too-many-tokens\n")
+    # The last token begins before the end, and one more doesn't.
+    yield check(";" * 65_536, "fault 1:1 unexpected\n")
+    yield check(";" * 65_537, "fault 1:65537 too-many-tokens\n")
     for front, operator in [("let a = 1", " - 1"), ("throw new Error(1", " + 1")]:
         text = front + operator * 16_000 + (");\n" if "(" in front else ";\n")
         yield check(text, text)
