@@ -4,3 +4,4 @@ pub mod Said
 pub mod Told
 pub mod Back
 pub mod Ranged
+pub mod Causes

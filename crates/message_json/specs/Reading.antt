@@ -9,6 +9,7 @@ use Rattle.json_readings.specs.Object.{one_of, further_member}
 use Rattle.std.specs.Global.{Vec}
 use Rattle.hmr_types.specs.ModName.{is_name}
 use Rattle.hmr_types.specs.Table.{is_table}
+use Rattle.message_text.specs.Values.{HasReading}
 use Rattle.update_msgs.specs.Names.{rise}
 use Rattle.message_json.specs.declared.fault.MsgFault.{MsgFault}
 use Rattle.message_json.specs.declared.fault.MsgFault.TheVariants as errors
@@ -36,6 +37,19 @@ Fails errors.NoMemory r = ⊤
 abbrev pub Gives : {Y : Type 0} → Result Y MsgFault → Result Y Fault → Type 0
 Gives (Ok y) r = r ≡ Ok y
 Gives (Err e) r = Fails e r
+
+-- bytes stand for a value in which f finds this fault first
+abbrev pub ReadsWith : {Y : Type 0} → List ℕ → (Data → Result Y Fault) → Fault → Type 0
+ReadsWith bytes f fault = (d : Data) × HasReading bytes d × (f d ≡ Err fault)
+
+-- why bytes were refused, which f reads: they stand for no value, or for one with this fault; of want of
+-- memory nothing is said
+abbrev pub HasCause : {Y : Type 0} → List ℕ → (Data → Result Y Fault) → MsgFault → Type 0
+HasCause bytes f errors.NotJson = (d : Data) → ¬ (HasReading bytes d)
+HasCause bytes f errors.NoType = ReadsWith bytes f no_type
+HasCause bytes f (errors.BadField k) = ReadsWith bytes f (bad_field k)
+HasCause bytes f (errors.ExtraField k) = ReadsWith bytes f (extra_field k)
+HasCause bytes f errors.NoMemory = ⊤
 
 -- the same of a list that stands in a vector
 abbrev pub GivesList : {Y : Type 0} → Result (Vec Y) MsgFault → Result (List Y) Fault → Type 0

@@ -1,12 +1,12 @@
 // The messages of a client, as they are read.
-ghost use Rattle.std.specs.Prelude.{◌≡◌, ◌≤◌, IfOk, IsErrOf, Ok, length};
+ghost use Rattle.std.specs.Prelude.{◌≡◌, ◌≤◌, IfErr, IfOk, IsErrOf, Ok, length};
 ghost use Rattle.serde_json.specs.Data.{Data};
 ghost use Rattle.serde_json.specs.View.{view};
 ghost use Rattle.update_msgs.specs.Desk.{bytes_of};
 ghost use Rattle.update_msgs.specs.Writable.{IsSayable};
 ghost use Rattle.update_msgs.specs.declared.message.ClientMsg as told;
 ghost use Rattle.message_text.specs.Values.{HasReading};
-ghost use Rattle.message_json.specs.Reading.{Gives, field};
+ghost use Rattle.message_json.specs.Reading.{Gives, HasCause, field};
 ghost use Rattle.message_text.specs.Words.{abort_word};
 ghost use Rattle.message_json.specs.Words.{abort_causes, word_in};
 ghost use Rattle.message_text.specs.ClientText.{say};
@@ -36,6 +36,7 @@ pub fn decode_client(alloc: Global, bytes: &[u8]) -> Result<ClientMsg, MsgFault>
     ensures ranged { IfOk result IsSayable }
     ensures size { IfOk result (λ m. bytes_of m ≤ length bytes.now) }
     ensures not_json { IsErrOf result MsgFault.NotJson → (d : Data) → ¬ (HasReading bytes.now d) }
+    ensures cause { IfErr result (HasCause bytes.now client_of) }
     ensures read { (d : Data) → HasReading bytes.now d → Gives result (client_of d) }
     ensures written { (m : told.ClientMsg) → IsTyped m → IsSayable m → HasReading bytes.now (say m)
         → Gives result (Ok m) }

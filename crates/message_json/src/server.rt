@@ -1,5 +1,5 @@
 // The messages of a server, as they are read in a format.
-ghost use Rattle.std.specs.Prelude.{◌≡◌, IfOk, IsErrOf, Ok};
+ghost use Rattle.std.specs.Prelude.{◌≡◌, IfErr, IfOk, IsErrOf, Ok};
 ghost use Rattle.serde_json.specs.Data.{Data};
 ghost use Rattle.serde_json.specs.View.{view};
 ghost use Rattle.core_model.specs.Exchange.{read_in};
@@ -8,7 +8,7 @@ ghost use Rattle.update_msgs.specs.Writable.{IsFormat, IsWritable};
 ghost use Rattle.update_msgs.specs.declared.message.ServerMsg as told;
 ghost use Rattle.update_msgs.specs.declared.message.ServerMsg.TheVariants as msg;
 ghost use Rattle.message_text.specs.Values.{HasReading};
-ghost use Rattle.message_json.specs.Reading.{Gives, field};
+ghost use Rattle.message_json.specs.Reading.{Gives, HasCause, field};
 ghost use Rattle.message_json.specs.Words.{fault_kinds, reload_causes, word_in};
 ghost use Rattle.message_text.specs.ServerText.{tell};
 ghost use Rattle.message_json.specs.ServerReading.{IsTyped, connected_of, fault_of, kind_by, path_of};
@@ -38,6 +38,7 @@ pub fn decode(alloc: Global, bytes: &[u8], format: u8) -> Result<ServerMsg, MsgF
     ensures exact { IfOk result (λ m. HasReading bytes.now (tell format m)) }
     ensures ranged { IfOk result (IsWritable format) }
     ensures not_json { IsErrOf result MsgFault.NotJson → (d : Data) → ¬ (HasReading bytes.now d) }
+    ensures cause { IfErr result (HasCause bytes.now (server_of format)) }
     ensures read { (d : Data) → HasReading bytes.now d → Gives result (server_of format d) }
     ensures written { (m : told.ServerMsg) → IsTyped m → IsWritable format m
         → HasReading bytes.now (tell format m)

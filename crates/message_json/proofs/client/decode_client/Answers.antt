@@ -1,4 +1,6 @@
 use Rattle.serde_json.specs.View.{view}
+use Rattle.message_json.specs.ClientReading.{client_of}
+use Rattle.message_json.proofs.Causes.{given_cause}
 use Rattle.message_json.proofs.Said.{exact_result, size_result}
 use Rattle.message_json.proofs.Ranged.{client_ranged_result}
 use Rattle.message_json.proofs.client.decode_client.Goals as goal
@@ -13,3 +15,7 @@ returns-in-Ok-clause-size c =
 
 pub returns-in-Ok-clause-ranged : goal.returns-in-Ok-clause-ranged
 returns-in-Ok-clause-ranged c = client_ranged_result (view c.in-Ok.value) c.message_of.result c.message_of.ensures
+
+pub returns-in-Ok-clause-cause : goal.returns-in-Ok-clause-cause
+returns-in-Ok-clause-cause c =
+    given_cause c.args.bytes.now client_of (view c.in-Ok.value) c.message_of.result (record { utf8 = c.in-Ok.ensures.ok.0; value = c.in-Ok.ensures.ok.1 }) c.message_of.ensures
