@@ -3,6 +3,7 @@ use Rattle.std.proofs.Common.{◌≡◌, ◌≢◌, ◌⊎◌, ◌↔◌, Bool, 
 use Rattle.std.specs.Prelude.{Result, Ok, Err, IsErrAnd}
 use Rattle.serde_json.specs.Data.{Data}
 use Rattle.std.specs.List.{AllZip}
+use Rattle.std.proofs.lemmas.List.Elements.{All-append, All-cons, All-nil}
 use Rattle.links.specs.Told.{told_and, told_front, IsNoneLeft}
 use Rattle.outside_calls.specs.declared.out_fault.OutFault.{OutFault}
 use Rattle.outside_calls.specs.declared.out_fault.OutFault.TheVariants.{Failed, NoMemory as OutOfMemory}
@@ -21,12 +22,26 @@ use Rattle.message_json.specs.Reading.{Gives, Fails}
 use Rattle.message_json.specs.ClientReading.{client_of}
 use Rattle.sessions.specs.declared.ended.Ended.{Ended}
 use Rattle.sessions.specs.declared.ended.Ended.TheVariants.{Closed, LinkFault, BadMessage, Stopped, NoMemory, Unexpected, InstancesFull}
-use Rattle.sessions.specs.Course.{Course, Comes, Deals, AllSent, AllButLastSent, IsAllButLast, OneMore, EndsInBye, IsMessage, IsRefused, ReadAs, Reads, format_after, last_format, texts}
+use Rattle.sessions.specs.Course.{Course, Comes, Deals, AllSent, AllButLastSent, HasNoBye, LastUnsent, OneMore, EndsInBye, IsMessage, IsRefused, ReadAs, Reads, format_after, last_format, texts}
 use Rattle.sessions.specs.Endings.{ended_at, ended_by, ended_for}
 use Rattle.sessions.proofs.Told.{front_none, and_none, front_more, and_more, after_answer, after_stop}
 
 abbrev Words : Type 0
 Words = Option (List (List ℕ))
+
+-- Byes.
+
+abbrev IsNoBye : ClientMsg × ServerMsg → Type 0
+IsNoBye deal = deal.0 ≢ Bye
+
+none_bye : HasNoBye []
+none_bye = All-nil IsNoBye
+
+one_no_bye : (msg : ClientMsg) (answer : ServerMsg) → msg ≢ Bye → HasNoBye ((msg, answer) ∷ [])
+one_no_bye msg answer h = All-cons IsNoBye (msg, answer) [] h (All-nil IsNoBye)
+
+no_bye_both : (ds es : Deals) → HasNoBye ds → HasNoBye es → HasNoBye (ds ++ es)
+no_bye_both ds es h k = All-append IsNoBye ds es h k
 
 -- Nothing was taken.
 
@@ -46,11 +61,11 @@ nothing format l l' s s' t r hl hs comes = record {
 
 -- a session that has done nothing yet
 pub begins : (format : ℕ) (l s : Words) (t : Option Deals) → Course format l l s s t t (Ok format)
-begins format l s t = nothing format l l s s t (Ok format) refl refl (none_sent format, refl)
+begins format l s t = nothing format l l s s t (Ok format) refl refl (none_sent format, refl, none_bye)
 
 -- the peer closed
 pub closed : (format : ℕ) (l l' s s' : Words) (t : Option Deals) → IsNoneLeft l × (l' ≡ l) → s' ≡ s → Course format l l' s s' t t (Err Closed)
-closed format l l' s s' t (none, hl) hs = nothing format l l' s s' t (Err Closed) hl hs (none_sent format, inr (subst IsNoneLeft (sym hl) none))
+closed format l l' s s' t (none, hl) hs = nothing format l l' s s' t (Err Closed) hl hs (none_sent format, inr (none_bye, subst IsNoneLeft (sym hl) none))
 
 comes_to_fault : (fault : OutFault) (e : Ended) (format : ℕ) (takes sends : List (List ℕ)) (deals : Deals) (left : Words) → e ≡ ended_at fault → AllButLastSent format takes sends deals → Comes (Err e) format takes sends deals left
 comes_to_fault Failed e format takes sends deals left he h = subst (λ x. Comes (Err x) format takes sends deals left) (sym he) h
@@ -58,7 +73,7 @@ comes_to_fault OutOfMemory e format takes sends deals left he h = subst (λ x. C
 
 -- the link failed before a message came
 pub unopened : (fault : OutFault) (e : Ended) (format : ℕ) (l l' s s' : Words) (t : Option Deals) → e ≡ ended_at fault → l' ≡ l → s' ≡ s → Course format l l' s s' t t (Err e)
-unopened fault e format l l' s s' t he hl hs = nothing format l l' s s' t (Err e) hl hs (comes_to_fault fault e format [] [] [] l' he (record { reads = tt; sent_are = inl refl }))
+unopened fault e format l l' s s' t he hl hs = nothing format l l' s s' t (Err e) hl hs (comes_to_fault fault e format [] [] [] l' he (record { reads = tt; sent_are = inl (refl, none_bye) }))
 
 pub unreceived : (fault : OutFault) (r : Result ℕ Ended) (format : ℕ) (l l' s s' : Words) (t : Option Deals) → IsErrAnd r (λ e. e ≡ ended_at fault) → l' ≡ l → s' ≡ s → Course format l l' s s' t t r
 unreceived fault (Ok now) format l l' s s' t he hl hs = absurd he
@@ -71,7 +86,7 @@ reads_of b m msg e h k = subst (λ x. Reads x msg) e (record { reading = h; mess
 -- One message was taken, and not answered.
 
 first_more : (Last : List ℕ → Type 0) (format : ℕ) (m : List ℕ) → Last m → OneMore Last format (m ∷ []) [] []
-first_more Last format m h = record { front = []; last = m; taken_are = refl; last_is = h; before = none_sent format }
+first_more Last format m h = record { front = []; last = m; taken_are = refl; last_is = h; before = none_sent format; no_bye = none_bye }
 
 taken : (format : ℕ) (l l' s s' : Words) (t t' : Option Deals) (e : Ended) (m : List ℕ) → l ≡ told_front (m ∷ []) l' → s' ≡ s → t' ≡ t → Comes (Err e) format (m ∷ []) [] [] l' → Course format l l' s s' t t' (Err e)
 taken format l l' s s' t t' e m hl hs ht comes = record {
@@ -122,7 +137,7 @@ unsent_so fault e format l l' s s' t t' m msg answer he hl hs ht h = record {
   left_is = hl;
   sent_is = hs ∙ and_none s;
   told_is = ht ∙ after_answer t msg answer;
-  comes = comes_to_fault fault e format (m ∷ []) [] ((msg, answer) ∷ []) l' he (record { reads = (h, tt); sent_are = inr (server_text (format_after format msg) answer, refl) });
+  comes = comes_to_fault fault e format (m ∷ []) [] ((msg, answer) ∷ []) l' he (record { reads = (h, tt); sent_are = inr (record { front = []; last = (msg, answer); deals_are = refl; sent_are = refl; no_bye = none_bye }) });
 }
 
 -- the answer wasn't sent
@@ -134,15 +149,15 @@ sent_one : (format : ℕ) (m : List ℕ) (msg : ClientMsg) (answer : ServerMsg) 
 sent_one format m msg answer text ht h = record { reads = (h, tt); sent_is = ap (λ x. x ∷ []) ht }
 
 -- the session goes on
-pub answered : (format now : ℕ) (l l' s s' : Words) (t t' : Option Deals) (m : List ℕ) (msg : ClientMsg) (answer : ServerMsg) (text : List ℕ) → now ≡ format_after format msg → l ≡ told_front (m ∷ []) l' → text ≡ server_text now answer → s' ≡ told_and s (text ∷ []) → t' ≡ told_after t msg (Ok answer) → Reads m msg → Course format l l' s s' t t' (Ok now)
-answered format now l l' s s' t t' m msg answer text hn hl hx hs ht h = record {
+pub answered : (format now : ℕ) (l l' s s' : Words) (t t' : Option Deals) (m : List ℕ) (msg : ClientMsg) (answer : ServerMsg) (text : List ℕ) → msg ≢ Bye → now ≡ format_after format msg → l ≡ told_front (m ∷ []) l' → text ≡ server_text now answer → s' ≡ told_and s (text ∷ []) → t' ≡ told_after t msg (Ok answer) → Reads m msg → Course format l l' s s' t t' (Ok now)
+answered format now l l' s s' t t' m msg answer text other hn hl hx hs ht h = record {
   takes = m ∷ [];
   sends = text ∷ [];
   deals = (msg, answer) ∷ [];
   left_is = hl;
   sent_is = hs;
   told_is = ht ∙ after_answer t msg answer;
-  comes = (sent_one format m msg answer text (hx ∙ ap (λ x. server_text x answer) hn) h, hn);
+  comes = (sent_one format m msg answer text (hx ∙ ap (λ x. server_text x answer) hn) h, hn, one_no_bye msg answer other);
 }
 
 -- it was the last
@@ -154,7 +169,7 @@ answered_bye format now l l' s s' t t' m msg answer text bye hn hl hx hs ht h = 
   left_is = hl;
   sent_is = hs;
   told_is = ht ∙ after_answer t msg answer;
-  comes = (sent_one format m msg answer text (hx ∙ ap (λ x. server_text x answer) hn) h, inl ([], answer, ap (λ x. (x, answer) ∷ []) bye));
+  comes = (sent_one format m msg answer text (hx ∙ ap (λ x. server_text x answer) hn) h, inl (record { front = []; answer = answer; deals_are = ap (λ x. (x, answer) ∷ []) bye; no_bye = none_bye }));
 }
 
 -- One part after another.
@@ -173,46 +188,64 @@ reads_more [] us (d ∷ ds) es h k = absurd h
 reads_more (t ∷ ts) us [] es h k = absurd h
 reads_more (t ∷ ts) us (d ∷ ds) es (h, hs) k = (h, reads_more ts us ds es hs k)
 
+sent_more : (format : ℕ) (ss vs : List (List ℕ)) (ds es : Deals) → ss ≡ texts format ds → vs ≡ texts (last_format format ds) es → ss ++ vs ≡ texts format (ds ++ es)
+sent_more format ss vs ds es h k = ap (λ x. x ++ vs) h ∙ (ap (λ x. texts format ds ++ x) k ∙ sym (texts_more format ds es))
+
 all_more : (format : ℕ) (ts us ss vs : List (List ℕ)) (ds es : Deals) → AllSent format ts ss ds → AllSent (last_format format ds) us vs es → AllSent format (ts ++ us) (ss ++ vs) (ds ++ es)
 all_more format ts us ss vs ds es h k = record {
   reads = reads_more ts us ds es h.reads k.reads;
-  sent_is = ap (λ x. x ++ vs) h.sent_is ∙ (ap (λ x. texts format ds ++ x) k.sent_is ∙ sym (texts_more format ds es));
+  sent_is = sent_more format ss vs ds es h.sent_is k.sent_is;
 }
 
-sent_more : (format : ℕ) (ss vs : List (List ℕ)) (ds es : Deals) → ss ≡ texts format ds → IsAllButLast vs (texts (last_format format ds) es) → IsAllButLast (ss ++ vs) (texts format (ds ++ es))
-sent_more format ss vs ds es h (inl e) = inl (ap (λ x. x ++ vs) h ∙ (ap (λ x. texts format ds ++ x) e ∙ sym (texts_more format ds es)))
-sent_more format ss vs ds es h (inr (text, e)) =
-    inr (text, append_assoc ss vs (text ∷ []) ∙ (ap (λ x. x ++ (vs ++ text ∷ [])) h ∙ (ap (λ x. texts format ds ++ x) e ∙ sym (texts_more format ds es))))
+unsent_more : (format : ℕ) (ss vs : List (List ℕ)) (ds es : Deals) → ss ≡ texts format ds → HasNoBye ds → LastUnsent (last_format format ds) vs es → LastUnsent format (ss ++ vs) (ds ++ es)
+unsent_more format ss vs ds es h n k = record {
+  front = ds ++ k.front;
+  last = k.last;
+  deals_are = ap (λ x. ds ++ x) k.deals_are ∙ sym (append_assoc ds k.front (k.last ∷ []));
+  sent_are = sent_more format ss vs ds k.front h k.sent_are;
+  no_bye = no_bye_both ds k.front n k.no_bye;
+}
 
-but_last_more : (format : ℕ) (ts us ss vs : List (List ℕ)) (ds es : Deals) → AllSent format ts ss ds → AllButLastSent (last_format format ds) us vs es → AllButLastSent format (ts ++ us) (ss ++ vs) (ds ++ es)
-but_last_more format ts us ss vs ds es h k = record {
+but_last_sent_more : (format : ℕ) (ss vs : List (List ℕ)) (ds es : Deals) → ss ≡ texts format ds → HasNoBye ds → ((vs ≡ texts (last_format format ds) es) × HasNoBye es) ⊎ LastUnsent (last_format format ds) vs es
+    → ((ss ++ vs ≡ texts format (ds ++ es)) × HasNoBye (ds ++ es)) ⊎ LastUnsent format (ss ++ vs) (ds ++ es)
+but_last_sent_more format ss vs ds es h n (inl (k, none)) = inl (sent_more format ss vs ds es h k, no_bye_both ds es n none)
+but_last_sent_more format ss vs ds es h n (inr k) = inr (unsent_more format ss vs ds es h n k)
+
+but_last_more : (format : ℕ) (ts us ss vs : List (List ℕ)) (ds es : Deals) → AllSent format ts ss ds → HasNoBye ds → AllButLastSent (last_format format ds) us vs es → AllButLastSent format (ts ++ us) (ss ++ vs) (ds ++ es)
+but_last_more format ts us ss vs ds es h n k = record {
   reads = reads_more ts us ds es h.reads k.reads;
-  sent_are = sent_more format ss vs ds es h.sent_is k.sent_are;
+  sent_are = but_last_sent_more format ss vs ds es h.sent_is n k.sent_are;
 }
 
-one_more_more : (Last : List ℕ → Type 0) (format : ℕ) (ts us ss vs : List (List ℕ)) (ds es : Deals) → AllSent format ts ss ds → OneMore Last (last_format format ds) us vs es → OneMore Last format (ts ++ us) (ss ++ vs) (ds ++ es)
-one_more_more Last format ts us ss vs ds es h k = record {
+one_more_more : (Last : List ℕ → Type 0) (format : ℕ) (ts us ss vs : List (List ℕ)) (ds es : Deals) → AllSent format ts ss ds → HasNoBye ds → OneMore Last (last_format format ds) us vs es → OneMore Last format (ts ++ us) (ss ++ vs) (ds ++ es)
+one_more_more Last format ts us ss vs ds es h n k = record {
   front = ts ++ k.front;
   last = k.last;
   taken_are = ap (λ x. ts ++ x) k.taken_are ∙ sym (append_assoc ts k.front (k.last ∷ []));
   last_is = k.last_is;
   before = all_more format ts k.front ss vs ds es h k.before;
+  no_bye = no_bye_both ds es n k.no_bye;
 }
 
-bye_more : (ds es : Deals) → EndsInBye es → EndsInBye (ds ++ es)
-bye_more ds es (front, answer, e) = (ds ++ front, answer, ap (λ x. ds ++ x) e ∙ sym (append_assoc ds front ((Bye, answer) ∷ [])))
+bye_more : (ds es : Deals) → HasNoBye ds → EndsInBye es → EndsInBye (ds ++ es)
+bye_more ds es n k = record {
+  front = ds ++ k.front;
+  answer = k.answer;
+  deals_are = ap (λ x. ds ++ x) k.deals_are ∙ sym (append_assoc ds k.front ((Bye, k.answer) ∷ []));
+  no_bye = no_bye_both ds k.front n k.no_bye;
+}
 
-comes_more : (r : Result ℕ Ended) (format : ℕ) (ts us ss vs : List (List ℕ)) (ds es : Deals) (left : Words) → AllSent format ts ss ds → Comes r (last_format format ds) us vs es left → Comes r format (ts ++ us) (ss ++ vs) (ds ++ es) left
-comes_more (Ok now) format ts us ss vs ds es left h (k, e) = (all_more format ts us ss vs ds es h k, e ∙ sym (last_more format ds es))
-comes_more (Err Closed) format ts us ss vs ds es left h (k, inl bye) = (all_more format ts us ss vs ds es h k, inl (bye_more ds es bye))
-comes_more (Err Closed) format ts us ss vs ds es left h (k, inr none) = (all_more format ts us ss vs ds es h k, inr none)
-comes_more (Err LinkFault) format ts us ss vs ds es left h k = but_last_more format ts us ss vs ds es h k
-comes_more (Err (BadMessage fault)) format ts us ss vs ds es left h k = one_more_more _ format ts us ss vs ds es h k
-comes_more (Err Stopped) format ts us ss vs ds es left h k = one_more_more _ format ts us ss vs ds es h k
-comes_more (Err NoMemory) format ts us ss vs ds es left h (inl k) = inl (but_last_more format ts us ss vs ds es h k)
-comes_more (Err NoMemory) format ts us ss vs ds es left h (inr k) = inr (one_more_more _ format ts us ss vs ds es h k)
-comes_more (Err (Unexpected wanted got)) format ts us ss vs ds es left h k = k
-comes_more (Err InstancesFull) format ts us ss vs ds es left h k = k
+comes_more : (r : Result ℕ Ended) (format : ℕ) (ts us ss vs : List (List ℕ)) (ds es : Deals) (left : Words) → AllSent format ts ss ds → HasNoBye ds → Comes r (last_format format ds) us vs es left → Comes r format (ts ++ us) (ss ++ vs) (ds ++ es) left
+comes_more (Ok now) format ts us ss vs ds es left h n (k, e, none) = (all_more format ts us ss vs ds es h k, e ∙ sym (last_more format ds es), no_bye_both ds es n none)
+comes_more (Err Closed) format ts us ss vs ds es left h n (k, inl bye) = (all_more format ts us ss vs ds es h k, inl (bye_more ds es n bye))
+comes_more (Err Closed) format ts us ss vs ds es left h n (k, inr (none, gone)) = (all_more format ts us ss vs ds es h k, inr (no_bye_both ds es n none, gone))
+comes_more (Err LinkFault) format ts us ss vs ds es left h n k = but_last_more format ts us ss vs ds es h n k
+comes_more (Err (BadMessage fault)) format ts us ss vs ds es left h n k = one_more_more _ format ts us ss vs ds es h n k
+comes_more (Err Stopped) format ts us ss vs ds es left h n k = one_more_more _ format ts us ss vs ds es h n k
+comes_more (Err NoMemory) format ts us ss vs ds es left h n (inl k) = inl (but_last_more format ts us ss vs ds es h n k)
+comes_more (Err NoMemory) format ts us ss vs ds es left h n (inr k) = inr (one_more_more _ format ts us ss vs ds es h n k)
+comes_more (Err (Unexpected wanted got)) format ts us ss vs ds es left h n k = k
+comes_more (Err InstancesFull) format ts us ss vs ds es left h n k = k
 
 -- a course from where another came to
 pub after : (format now : ℕ) (l m n s t u : Words) (d b c : Option Deals) (r : Result ℕ Ended) → Course format l m s t d b (Ok now) → Course now m n t u b c r → Course format l n s u d c r
@@ -223,7 +256,7 @@ after format now l m n s t u d b c r h k = record {
   left_is = h.left_is ∙ (ap (λ x. told_front h.takes x) k.left_is ∙ front_more h.takes k.takes n);
   sent_is = k.sent_is ∙ (ap (λ x. told_and x k.sends) h.sent_is ∙ and_more s h.sends k.sends);
   told_is = k.told_is ∙ (ap (λ x. told_and x k.deals) h.told_is ∙ and_more d h.deals k.deals);
-  comes = comes_more r format h.takes k.takes h.sends k.sends h.deals k.deals n h.comes.0 (subst (λ x. Comes r x k.takes k.sends k.deals n) h.comes.1 k.comes);
+  comes = comes_more r format h.takes k.takes h.sends k.sends h.deals k.deals n h.comes.0 h.comes.2 (subst (λ x. Comes r x k.takes k.sends k.deals n) h.comes.1 k.comes);
 }
 
 -- the same course, where the link was only opened before and closed after

@@ -2,7 +2,7 @@
 -- answered, and what was sent.
 use Rattle.std.specs.Prelude.{◌≡◌, ◌≢◌, ◌⊎◌, ℕ, List, [], ◌∷◌, ◌++◌, Option, Result, Ok, Err, ⊤}
 use Prim.{⊥}
-use Rattle.std.specs.List.{AllZip}
+use Rattle.std.specs.List.{All, AllZip}
 use Rattle.serde_json.specs.Data.{Data}
 use Rattle.update_msgs.specs.declared.message.ClientMsg.{ClientMsg}
 use Rattle.update_msgs.specs.declared.message.ClientMsg.TheVariants as msg
@@ -71,12 +71,31 @@ pub record AllSent (format : ℕ) (taken sent : List (List ℕ)) (deals : Deals)
 abbrev pub IsAllButLast : List (List ℕ) → List (List ℕ) → Type 0
 IsAllButLast sent all = (sent ≡ all) ⊎ ((last : List ℕ) × (sent ++ last ∷ [] ≡ all))
 
+-- no bye was answered
+abbrev pub HasNoBye : Deals → Type 0
+HasNoBye deals = All (λ deal. deal.0 ≢ msg.Bye) deals
+
+-- a bye was answered, as the last
+pub record EndsInBye (deals : Deals) : Type 0 where
+  pub front : Deals
+  pub answer : ServerMsg
+  pub deals_are : deals ≡ front ++ (msg.Bye, answer) ∷ []
+  pub no_bye : HasNoBye front
+
+-- each answer was sent but for the last, which may be that to a bye
+pub record LastUnsent (format : ℕ) (sent : List (List ℕ)) (deals : Deals) : Type 0 where
+  pub front : Deals
+  pub last : ClientMsg × ServerMsg
+  pub deals_are : deals ≡ front ++ last ∷ []
+  pub sent_are : sent ≡ texts format front
+  pub no_bye : HasNoBye front
+
 -- all that was taken was answered, and each answer sent, but perhaps for the last
 pub record AllButLastSent (format : ℕ) (taken sent : List (List ℕ)) (deals : Deals) : Type 0 where
   pub reads : ReadAs taken deals
-  pub sent_are : IsAllButLast sent (texts format deals)
+  pub sent_are : ((sent ≡ texts format deals) × HasNoBye deals) ⊎ LastUnsent format sent deals
 
--- the same as all sent, but that one message more was taken, of which this holds
+-- the same as all sent with no bye, but that one message more was taken, of which this holds
 pub record OneMore (Last : List ℕ → Type 0) (format : ℕ) (taken sent : List (List ℕ))
     (deals : Deals) : Type 0 where
   pub front : List (List ℕ)
@@ -84,18 +103,15 @@ pub record OneMore (Last : List ℕ → Type 0) (format : ℕ) (taken sent : Lis
   pub taken_are : taken ≡ front ++ last ∷ []
   pub last_is : Last last
   pub before : AllSent format front sent deals
+  pub no_bye : HasNoBye deals
 
--- the last message that was answered is a bye
-abbrev pub EndsInBye : Deals → Type 0
-EndsInBye deals = (front : Deals) × (answer : ServerMsg) × (deals ≡ front ++ (msg.Bye, answer) ∷ [])
-
--- how far a session has come: it goes on in a format, or it ended
+-- how far a session has come: it goes on in a format, or it ended. It ends with the first bye that it answers.
 abbrev pub Comes : Result ℕ Ended → ℕ → List (List ℕ) → List (List ℕ) → Deals → Option (List (List ℕ))
     → Type 0
 Comes (Ok now) format taken sent deals left =
-    AllSent format taken sent deals × (now ≡ last_format format deals)
+    AllSent format taken sent deals × (now ≡ last_format format deals) × HasNoBye deals
 Comes (Err Closed) format taken sent deals left =
-    AllSent format taken sent deals × (EndsInBye deals ⊎ IsNoneLeft left)
+    AllSent format taken sent deals × (EndsInBye deals ⊎ (HasNoBye deals × IsNoneLeft left))
 Comes (Err LinkFault) format taken sent deals left = AllButLastSent format taken sent deals
 Comes (Err (BadMessage fault)) format taken sent deals left =
     OneMore (λ bytes. IsRefused bytes fault) format taken sent deals

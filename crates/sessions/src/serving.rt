@@ -17,12 +17,13 @@ use update_msgs::{ClientMsg, Desk};
 /// Opens a fresh link, answers each message of it by the desk until the session ends, and closes it.
 ///
 /// Each message that is received is read and handed to the desk, in order, and the desk's answer is sent, in
-/// the format of the last hello that came, and in format 1 before any. [`Ended::Closed`] comes exactly where
-/// a bye was answered or the peer closed, [`Ended::LinkFault`] only where the link's count rose in this
-/// call, [`Ended::BadMessage`] exactly where what was received reads as no message, [`Ended::Stopped`]
-/// exactly where the desk answered that its transcript is full, and [`Ended::NoMemory`] for want of memory.
-/// At a fault of the link and for want of memory the last answer may be unsent; at all other endings each
-/// answer was sent. It waits, and has no bound on messages.
+/// the format of the last hello that came, and in format 1 before any. The first bye is the last message
+/// that is taken. [`Ended::Closed`] comes exactly where a bye was answered or the peer closed,
+/// [`Ended::LinkFault`] only where the link's count rose in this call, [`Ended::BadMessage`] exactly where
+/// what was received reads as no message, [`Ended::Stopped`] exactly where the desk answered that its
+/// transcript is full, and [`Ended::NoMemory`] for want of memory. At a fault of the link and for want of
+/// memory the last answer may be unsent; at all other endings each answer was sent. It waits, and has no
+/// bound on messages.
 pub fn serve_session<R: Wait, L: Link, D: Desk>(
     rt: &R,
     alloc: Global,
@@ -117,7 +118,7 @@ fn format_after(format: u8, msg: &ClientMsg) -> u8
 
 // Whether this is the last message.
 fn is_bye(msg: &ClientMsg) -> bool
-    ensures { result ≡ true → msg.now ≡ Bye }
+    ensures { result ≡ true ↔ msg.now ≡ Bye }
 {
     matches!(msg, ClientMsg::Bye)
 }

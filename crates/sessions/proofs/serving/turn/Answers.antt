@@ -1,4 +1,5 @@
 use Rattle.std.proofs.Common.{rules, ◌≡◌, ℕ, List, [], ◌∷◌, refl, sym, ap, ◌∙◌, subst}
+use Rattle.std.proofs.lemmas.Bool.{false≢true}
 use Rattle.links.specs.Told.{told_and, told_front}
 use Rattle.outside_calls.specs.declared.out_fault.OutFault.TheVariants.{NoMemory}
 use Rattle.message_text.specs.Values.{HasReading}
@@ -41,7 +42,7 @@ returns-in_err-send-clause-course g c =
 pub returns-then-is_last-clause-course : goal.returns-then-is_last-clause-course
 returns-then-is_last-clause-course g c =
     answered_bye _ c.format_after-format.result _ _ _ _ _ _ c.in-Some.bytes.items c.in_ok-msg.msg c.in_ok-answer.answer c.in_ok-text.text.items
-    (c.is_bye-is_last.ensures c.if-is_last.true) c.format_after-format.ensures.after
+    (c.is_bye-is_last.ensures.0 c.if-is_last.true) c.format_after-format.ensures.after
     ((rw c.in-Some.is at c.in_ok-bytes.ensures.some) ∙ ap (λ x. told_front (c.in-Some.bytes.items ∷ []) x) (sym c.send.ensures.left))
     c.in_ok-text.ensures.text
     (c.in_ok-send.ensures.sent ∙ (ap (λ x. told_and x (c.deref-2.result.now ∷ [])) c.recv.ensures.sent ∙ ap (λ x. told_and (g.L.Link.sent c.args.link.now) (x ∷ [])) c.deref-2.ensures.value))
@@ -50,7 +51,7 @@ returns-then-is_last-clause-course g c =
 pub returns-clause-course : goal.returns-clause-course
 returns-clause-course g c =
     answered _ c.format_after-format.result _ _ _ _ _ _ c.in-Some.bytes.items c.in_ok-msg.msg c.in_ok-answer.answer c.in_ok-text.text.items
-    c.format_after-format.ensures.after
+    (λ bye. false≢true (sym c.if-is_last.false ∙ c.is_bye-is_last.ensures.1 bye)) c.format_after-format.ensures.after
     ((rw c.in-Some.is at c.in_ok-bytes.ensures.some) ∙ ap (λ x. told_front (c.in-Some.bytes.items ∷ []) x) (sym c.send.ensures.left))
     c.in_ok-text.ensures.text
     (c.in_ok-send.ensures.sent ∙ (ap (λ x. told_and x (c.deref-2.result.now ∷ [])) c.recv.ensures.sent ∙ ap (λ x. told_and (g.L.Link.sent c.args.link.now) (x ∷ [])) c.deref-2.ensures.value))
