@@ -1,3 +1,4 @@
+pub mod Ends
 pub mod Halves
 pub mod Lefts
 pub mod Moves

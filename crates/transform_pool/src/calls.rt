@@ -2,7 +2,7 @@
 ghost use Rattle.std.specs.Prelude.{◌≡◌, ◌≤◌, ◌<◌, ◌++◌, ◌∷◌, []};
 ghost use Rattle.std.specs.Prelude.{All, IfErr, IfNone, IfOk, IfSome, OnErr, OnOk, false, length, true};
 ghost use Rattle.crossbeam_queue.specs.Passes.{view};
-ghost use Rattle.transform_pool.specs.Passes.{HeldLast, HeldLastPut, IsPassOf, IsSeatOf};
+ghost use Rattle.transform_pool.specs.Passes.{HeldLast, HeldLastPut, IsAtEnd, IsPassOf, IsSeatOf};
 ghost use Rattle.transform_pool.specs.Passes.{IsTakerOf, places, role_of, takers_of};
 ghost use Rattle.transform_pool.specs.Roles.{SamePuts, at_end, back_with, most_takers};
 ghost use Rattle.transform_pool.specs.Roles.{put_more, putting, taking, took_more};
@@ -165,7 +165,9 @@ impl JobQueue {
     }
 
     /// Waits for an item, by a pass that takes and has not ended: Some of a job, None exactly where the item
-    /// is an end mark, and then the pass has ended. It takes no memory.
+    /// is an end mark, and then the pass has ended: the pass that puts is closed, and from then on the queue
+    /// holds no job. It takes no memory.
+    #[tactic(auto, using(crate::proofs::Ends::ends))]
     pub fn take<R: Wait>(&self, rt: &R, pass: &mut JobPass) -> Option<TextJob>
         requires of { IsPassOf self.now pass.old }
         requires takes { (role_of pass.old).puts ≡ false }
@@ -173,6 +175,7 @@ impl JobQueue {
         ensures of { IsPassOf self.now pass.new }
         ensures some { IfSome result (λ job. role_of pass.new ≡ took_more (role_of pass.old) job) }
         ensures none { IfNone result (role_of pass.new ≡ at_end (role_of pass.old)) }
+        ensures closed { IfNone result (IsAtEnd pass.new) }
     {
         for _ in rt.forever() {
             match self.ring.pop_as::<Takes, R>(rt, &mut pass.seat) {
