@@ -7,6 +7,7 @@ trap 'rm -rf "$work"' EXIT
 # crates_below USES..: the crates USES and all below them, a line each, in the order of crates.txt.
 crates_below() {
   awk -v wanted="$*" '
+    /^#/ { next }
     { name = $1; sub(/:$/, "", name); names[++count] = name; uses[name] = substr($0, length($1) + 1) }
     END {
       for (left = split(wanted, todo, " "); left > 0;) {
