@@ -1,0 +1,4 @@
+pub mod Bodies
+pub mod FirstEdits
+pub mod Stopping
+pub mod Writing

@@ -1,0 +1,4 @@
+pub mod Folder
+pub mod Opening
+pub mod Pages
+pub mod Stops
