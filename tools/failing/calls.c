@@ -4,12 +4,14 @@
 #define _GNU_SOURCE
 #include <dlfcn.h>
 #include <errno.h>
+#include <stdatomic.h>
 #include <stdio.h>
 #include <stdlib.h>
 #include <string.h>
 #include <unistd.h>
 
-static unsigned long made, fail_at;
+static _Atomic unsigned long made;  /* over all threads */
+static unsigned long fail_at;
 static char kind;
 static void *(*next_malloc)(size_t);
 static void *(*next_realloc)(void *, size_t);
@@ -39,7 +41,7 @@ __attribute__((destructor)) static void end(void) {
 }
 
 static int fails(char of, int error) {
-  if (kind != of || ++made != fail_at) return 0;
+  if (kind != of || atomic_fetch_add(&made, 1) + 1 != fail_at) return 0;
   errno = error;
   return 1;
 }

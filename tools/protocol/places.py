@@ -46,7 +46,7 @@ def places_are_free(program):
     """What is wrong, or None."""
     with tempfile.TemporaryDirectory() as folder:
         pathlib.Path(folder, "m.js").write_text("export const v = 1;\n")
-        words = [program, "serve", folder, "/m.js", "--clients", "1", "--turns", "100000", "--outside", str(MOST_CLIENTS)]
+        words = [program, "serve", folder, "/m.js", "--clients", "1", "--turns", "300", "--outside", str(MOST_CLIENTS)]
         server = subprocess.Popen(words, stdin=subprocess.DEVNULL, stdout=subprocess.PIPE)
         try:
             wrong = speak(int(server.stdout.readline().split()[1]))

@@ -21,7 +21,8 @@ use Rattle.sessions.specs.declared.ended.Ended.TheVariants.{Closed, LinkFault, B
 use Rattle.sessions.proofs.Told.{front_none, and_none, front_more, and_more}
 use Rattle.outside_calls.specs.declared.out_fault.OutFault.{OutFault}
 use Rattle.sessions.specs.Endings.{ended_at}
-use Rattle.client_sessions.specs.Asking.{asked_after, taken_after, past_after, requests, lines_by, lines_of, next_asked}
+use Rattle.client_model.specs.Taking.{Taken, took}
+use Rattle.client_sessions.specs.Asking.{AllTaken, IsTook, asked_after, taken_after, past_after, requests, lines_by, lines_of, next_asked}
 use Rattle.client_sessions.specs.Course.{TurnTaken, TurnEnded, Talked, asks, OneMoreRead, ComesTo, ClientCourse}
 use Rattle.client_sessions.specs.Exchange.{Ends, EndsBy, TookOne, ReadsIn, takes_by, takes_bye, takes_none}
 use Rattle.client_sessions.proofs.Exchanges.{unsent}
@@ -51,6 +52,13 @@ reads_more format [] (x ∷ ms) b m h k = absurd h
 reads_more format (t ∷ ts) [] b m h k = absurd h
 reads_more format (t ∷ ts) (x ∷ ms) b m (h, hs) k = (h, reads_more format ts ms b m hs k)
 
+taken_more : (opening : Opening) (past : Past) (ms : List ServerMsg) (m : ServerMsg) → AllTaken opening past ms → IsTook (taken_after opening (past_after past ms) m) → AllTaken opening past (ms ++ m ∷ [])
+taken_more opening past [] m h k = (k, tt)
+taken_more opening past (x ∷ ms) m (h, hs) k = (h, taken_more opening (message x ∷ past) ms m hs k)
+
+is_took : (taken : Taken) (lines : List OutLine) → taken ≡ took lines → IsTook taken
+is_took taken lines e = subst IsTook (sym e) tt
+
 -- nothing was asked yet
 pub talked_none : {F : Type 0} (opening : Opening) (format : ℕ) (l s : Words) (h : HotRuntime F) (lines : List OutLine) → lines ≡ [] → StandsFor opening [] h → Talked opening 0 format l l s s h lines
 talked_none opening format l s h lines e stands = record {
@@ -60,6 +68,7 @@ talked_none opening format l s h lines e stands = record {
   sent_is = and_none s;
   reads = tt;
   counted = refl;
+  taken = tt;
   lines_are = e;
   stands = stands;
 }
@@ -76,6 +85,7 @@ talked_more opening count format f l m n s t u h h' lines lines' k same j = reco
       ∙ ap (λ x. told_and s x) (sym (ap (map client_text) (requests_more opening [] k.answers j.answer) ∙ map-append client_text (requests opening [] k.answers) (asked_after opening (past_after [] k.answers) ∷ [])))));
   reads = reads_more format k.takes k.answers j.exchanged.bytes j.answer k.reads (subst (λ x. ReadsIn x j.exchanged.bytes j.answer) same j.exchanged.reads);
   counted = length-append k.answers (j.answer ∷ []) ∙ ap (λ x. x + 1) k.counted;
+  taken = taken_more opening [] k.answers j.answer k.taken (is_took _ j.more j.taken);
   lines_are = j.lines_are ∙ (ap (λ x. x ++ j.more) k.lines_are ∙ (ap (λ x. lines_of opening [] k.answers ++ lines_by x) (sym j.taken) ∙ sym (lines_more opening [] k.answers j.answer)));
   stands = subst (λ x. StandsFor opening x h') (sym (past_more [] k.answers j.answer)) j.stands;
 }
@@ -129,6 +139,7 @@ ended_at_request e Takes opening turns count format f l m n s t u h lines lines'
   left_is = k.left_is ∙ (ap (λ x. told_front k.takes x) j.left_is ∙ front_more k.takes j.takes n);
   sent_is = j.sent_is ∙ (ap (λ x. told_and x j.sends) k.sent_is ∙ and_more s (map client_text (requests opening [] k.answers)) j.sends);
   few = subst (λ x. x ≤ turns + 1) (sym k.counted) few;
+  taken = k.taken;
   lines_are = same ∙ k.lines_are;
   comes = comes_to e Takes opening turns format k.answers k.takes j.takes j.sends asked n fits (ap (λ x. map client_text (requests opening [] k.answers) ++ client_text x ∷ []) (sym next)) k.reads (subst (λ x. EndsBy Takes x (client_text asked ∷ []) e j.takes j.sends n) spoken j.ends);
 }

@@ -1,5 +1,6 @@
 -- What a client of the module language asks, one answer after another, and what it takes of them.
-use Rattle.std.specs.Prelude.{List, [], ◌∷◌, ◌++◌, Bool, true, false}
+use Rattle.std.specs.Prelude.{List, [], ◌∷◌, ◌++◌, Bool, true, false, ⊤}
+use Prim.{⊥}
 use Rattle.output_lines.specs.declared.out_line.OutLine.{OutLine}
 use Rattle.update_msgs.specs.declared.message.ClientMsg.{ClientMsg}
 use Rattle.update_msgs.specs.declared.message.ClientMsg.TheVariants.{Bye}
@@ -28,10 +29,23 @@ asked_after opening past = request module_language (runtime_after module_languag
 abbrev pub taken_after : Opening → Past → ServerMsg → Taken
 taken_after opening past m = (take module_language (runtime_after module_language opening past) m).answer
 
+-- the message was taken
+abbrev pub IsTook : Taken → Type 0
+IsTook (took lines) = ⊤
+IsTook (unexpected wanted got) = ⊥
+IsTook instances_full = ⊥
+IsTook is_stopped = ⊥
+
 -- what came, once these answers did too
 abbrev pub past_after : Past → List ServerMsg → Past
 past_after past [] = past
 past_after past (m ∷ ms) = past_after (message m ∷ past) ms
+
+-- each of these answers was taken, after what came before it
+abbrev pub AllTaken : Opening → Past → List ServerMsg → Type 0
+AllTaken opening past [] = ⊤
+AllTaken opening past (m ∷ ms) =
+    IsTook (taken_after opening past m) × AllTaken opening (message m ∷ past) ms
 
 -- the requests that were answered so
 abbrev pub requests : Opening → Past → List ServerMsg → List ClientMsg

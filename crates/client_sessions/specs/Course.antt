@@ -16,7 +16,7 @@ use Rattle.sessions.specs.Course.{IsAllButLast}
 use Rattle.sessions.specs.declared.ended.Ended.{Ended}
 use Rattle.sessions.specs.declared.ended.Ended.TheVariants.{Closed, LinkFault, BadMessage, Stopped}
 use Rattle.sessions.specs.declared.ended.Ended.TheVariants.{NoMemory, Unexpected, InstancesFull}
-use Rattle.client_sessions.specs.Asking.{asked_after, taken_after, past_after}
+use Rattle.client_sessions.specs.Asking.{AllTaken, asked_after, taken_after, past_after}
 use Rattle.client_sessions.specs.Asking.{requests, lines_of, next_asked}
 use Rattle.client_sessions.specs.Exchange.{Exchanged, Ends, ReadsIn, IsRefusedIn, takes_by}
 
@@ -47,16 +47,21 @@ Turns opening past format left left' sent sent' h' lines lines' (Ok done) =
 Turns opening past format left left' sent sent' h' lines lines' (Err ended) =
     TurnEnded opening past format left left' sent sent' lines lines' ended
 
--- so many requests of a new runtime were answered, and it stands for their answers
+-- the texts of the requests that were answered so
+abbrev pub said : Opening → List ServerMsg → List (List ℕ)
+said opening answers = map client_text (requests opening [] answers)
+
+-- so many requests of a new runtime were answered and each answer taken, and it stands for these
 pub record Talked {F : Type 0} (opening : Opening) (count format : ℕ)
     (left left' sent sent' : Option (List (List ℕ)))
     (h' : HotRuntime F) (lines' : List OutLine) : Type 0 where
   pub takes : List (List ℕ)
   pub answers : List ServerMsg
   pub left_is : left ≡ told_front takes left'
-  pub sent_is : sent' ≡ told_and sent (map client_text (requests opening [] answers))
+  pub sent_is : sent' ≡ told_and sent (said opening answers)
   pub reads : AllZip (ReadsIn format) takes answers
   pub counted : length answers ≡ count
+  pub taken : AllTaken opening [] answers
   pub lines_are : lines' ≡ lines_of opening [] answers
   pub stands : StandsFor opening (past_after [] answers) h'
 
@@ -64,7 +69,7 @@ pub record Talked {F : Type 0} (opening : Opening) (count format : ℕ)
 -- came
 abbrev pub asks : Opening → ℕ → List ServerMsg → List (List ℕ)
 asks opening turns answers =
-    map client_text (requests opening [] answers)
+    said opening answers
     ++ client_text (next_asked (length answers == turns + 1) opening (past_after [] answers)) ∷ []
 
 -- the answers were read, and one message more, of which this holds
@@ -76,7 +81,8 @@ pub record OneMoreRead (Last : List ℕ → Type 0) (format : ℕ) (taken : List
   pub last_is : Last last
   pub reads : AllZip (ReadsIn format) front answers
 
--- how far a session had come when it ended; these answers were taken by the runtime
+-- how far a session had come when it ended, with these answers taken by the runtime: the first that it
+-- doesn't take ends it
 abbrev pub ComesTo : Ended → Opening → ℕ → ℕ → List ServerMsg → List (List ℕ) → List (List ℕ)
     → Option (List (List ℕ)) → Type 0
 ComesTo Closed opening turns format answers taken sent left = (sent ≡ asks opening turns answers)
@@ -102,8 +108,8 @@ ComesTo InstancesFull opening turns format answers taken sent left = (sent ≡ a
     (λ bytes. (m : ServerMsg) × ReadsIn format bytes m
     × takes_by opening (past_after [] answers) m InstancesFull) format taken answers
 
--- what a client's session took of its link and sent to it, where the link tells it, the lines of what the
--- runtime took, and how far the session came by that
+-- what a client's session took of its link and sent to it, where the link tells it, the answers that its
+-- runtime took, with their lines, and how far the session came by that
 pub record ClientCourse (opening : Opening) (turns format : ℕ)
     (left left' sent sent' : Option (List (List ℕ))) (lines : List OutLine) (ended : Ended) : Type 0 where
   pub takes : List (List ℕ)
@@ -112,5 +118,6 @@ pub record ClientCourse (opening : Opening) (turns format : ℕ)
   pub left_is : left ≡ told_front takes left'
   pub sent_is : sent' ≡ told_and sent sends
   pub few : length answers ≤ turns + 1
+  pub taken : AllTaken opening [] answers
   pub lines_are : lines ≡ lines_of opening [] answers
   pub comes : ComesTo ended opening turns format answers takes sends left'

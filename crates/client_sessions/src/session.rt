@@ -21,17 +21,17 @@ use output_lines::OutLine;
 use retained_data::Bag;
 use sessions::Ended;
 use std::alloc::{AllocError, Global};
-use update_msgs::ClientMsg;
+use update_msgs::{ClientMsg, ServerMsg};
 
 /// Opens a fresh link, sends hello, so many requests of a runtime that took no message yet, and bye, and
 /// closes the link. It answers how the session ended, and the lines of what the runtime took, in order.
 ///
-/// Each request is that of the runtime after the answers before it, and answers are read in the runtime's
-/// format. [`Ended::Closed`] comes exactly where the bye was answered or the peer closed,
-/// [`Ended::LinkFault`] only where the link's count rose in this call, [`Ended::BadMessage`] exactly where
-/// what was received reads as no message, [`Ended::Unexpected`] and [`Ended::InstancesFull`] exactly where
-/// the runtime answered so, and [`Ended::NoMemory`] for want of memory; then the lines of the last answer
-/// may be missing, and the runtime takes nothing more. It waits.
+/// Each request is that of the runtime after the answers before it, each of which it took, and answers are
+/// read in the runtime's format. After an idle the link pauses. [`Ended::Closed`] comes exactly where the
+/// bye was answered or the peer closed, [`Ended::LinkFault`] only where the link's count rose in this call,
+/// [`Ended::BadMessage`] exactly where what was received reads as no message, [`Ended::Unexpected`] and
+/// [`Ended::InstancesFull`] exactly where the runtime answered so, and [`Ended::NoMemory`] for want of
+/// memory; then the lines of the last answer may be missing, and the runtime takes nothing more. It waits.
 pub fn client_session<L: Link, F: FnOnce(Bag) -> Result<Ran, AllocError> + Drop>(
     alloc: Global,
     link: &mut L,
@@ -90,7 +90,7 @@ fn talk<L: Link, F: FnOnce(Bag) -> Result<Ran, AllocError> + Drop>(
 }
 
 /// One request of a runtime over an open link, and what the runtime does at its answer. The lines of that
-/// are put behind those before.
+/// are put behind those before, and after an idle the link pauses.
 ///
 /// Where it can't be had the session has ended, in one of the ways of [`client_session`] other than by an
 /// answered bye; then no line came of it. It waits.
@@ -118,12 +118,21 @@ pub fn turn<L: Link, F: FnOnce(Bag) -> Result<Ran, AllocError> + Drop>(
 {
     let asked = runtime.request()?;
     let answer = exchange(alloc, link, &asked, runtime.format())?;
+    let is_idle = matches!(answer, ServerMsg::Idle);
     let mut more = match runtime.take(answer) {
         Ok(more) => more,
         Err(fault) => return Err(ended_by(fault)),
     };
     lines.append(&mut more)?;
+    rest(link, is_idle);
     Ok(())
+}
+
+// A client that was told there is nothing new doesn't ask again at once.
+fn rest<L: Link>(link: &L, is_idle: bool) {
+    if is_idle {
+        link.pause();
+    }
 }
 
 /// The bye over an open link, which any answer ends. The answer is read in this format, 1 or 2. It waits.

@@ -1,21 +1,17 @@
 -- Why a server stops, and that what it has seen then stays there.
 use Rattle.std.proofs.Common.{◌≡◌, ◌≢◌, ◌≤◌, ◌+◌, ℕ, zero, suc, add-one, true, List, [], refl, ap, sym, ◌∙◌, subst, inl, inr, ◌⊎◌, arith}
-use Rattle.std.specs.Prelude.{Option, Some, None, Result, Ok, Err, IfErr, IfSome}
+use Rattle.std.specs.Prelude.{Option, Some, None, Result, Ok, Err, IfErr}
 use Rattle.std.specs.Option.{option_map}
 use Rattle.hmr_base.specs.Causes.{Rose}
-use Rattle.folders.specs.Files.{files_after, next_files}
-use Rattle.folder_watch.specs.Scans.{StopsFor}
+use Rattle.folders.specs.Files.{files_after}
 use Rattle.folder_watch.specs.declared.scan_stop.ScanStop.{ScanStop}
 use Rattle.folder_watch.specs.declared.scan_stop.ScanStop.TheVariants as scans
-use Rattle.hmr_types.specs.declared.words.EditRefusal.{EditRefusal}
 use Rattle.core_model.specs.Transcript.{Recorded}
 use Rattle.hmr_hub.specs.declared.pass.Pass.{Pass}
-use Rattle.hmr_hub.specs.Passes.{all_given}
+use Rattle.hmr_hub.specs.Passes.{all_given, seen_of}
 use Rattle.hub_moves.specs.Moves.{Moved}
-use Rattle.hub_moves.proofs.Answers.{answered_moved}
 use Rattle.hub_moves.proofs.Fullness.{nearly_full_moved}
 use Rattle.hub_editor.specs.Causes as editing
-use Rattle.hub_editor.specs.Edits.{edit_event}
 use Rattle.hub_editor.specs.declared.stop.EditStop.{EditStop}
 use Rattle.hub_editor.specs.declared.stop.EditStop.TheVariants as edits
 use Rattle.serve_crew.specs.declared.cause.Cause.{Cause}
@@ -25,11 +21,10 @@ use Rattle.folder_server.specs.declared.stop.Limit.TheVariants as limits
 use Rattle.folder_server.specs.declared.stop.ServeStop.{ServeStop}
 use Rattle.folder_server.specs.declared.stop.ServeStop.TheVariants.{Unwritten, Tree, Fault, NoMemory}
 use Rattle.folder_server.specs.declared.stop.ServeStop.TheVariants.{Limit as AtLimit}
-use Rattle.folder_server.specs.Causes.{HasStopped, IsCause, IsEditCause, IsLimitCause, IsSettleCause, IsWorkCause, after_scans}
-use Rattle.folder_server.specs.Rounds.{Files}
-use Rattle.outside_calls.specs.declared.out_fault.OutFault.{OutFault}
-use Rattle.outside_calls.specs.declared.out_fault.OutFault.TheVariants as outside
-use Rattle.folder_server.specs.Stops.{stop_by, stop_of_edit, stop_of_scan, stop_outside}
+use Rattle.folder_server.specs.Causes.{IsCause, IsEditCause, IsFirstCause, IsLimitCause, IsSettleCause, IsWorkCause}
+use Rattle.folder_server.specs.Openings.{BeginsFirst}
+use Rattle.folder_server.specs.Rounds.{Files, ScanStops, after_scans}
+use Rattle.folder_server.specs.Stops.{stop_by, stop_of_edit, stop_of_scan}
 
 -- the files to come after one scan more
 scans_suc : (n : ℕ) (coming : List Files) → files_after (after_scans n coming) ≡ after_scans (suc n) coming
@@ -47,30 +42,54 @@ pub came_none : (coming : Option (List Files)) → coming ≡ option_map (after_
 came_none None = refl
 came_none (Some coming) = refl
 
--- a scan among others stops
-pub stopped_then : (n : ℕ) (coming now : Option (List Files)) (stop : ScanStop) → now ≡ option_map (after_scans n) coming → IfSome now (λ files. StopsFor (next_files files) stop) → HasStopped coming stop
-stopped_then n None now stop e h = tt
-stopped_then n (Some coming) now stop e h = (n, subst (λ c. IfSome c (λ files. StopsFor (next_files files) stop)) e h)
+-- the first scan stopped
+pub first_scan : (coming : Option (List Files)) (p : Pass) (stop : ScanStop) → seen_of p ≡ [] → ScanStops coming 0 stop → IsFirstCause coming p (stop_of_scan stop)
+first_scan coming p scans.TreeFault fresh h = fresh
+first_scan coming p scans.TooManyNames fresh h = inl (fresh, h)
+first_scan coming p (scans.TextTooLong path) fresh h = inl (fresh, (path, h))
+first_scan coming p scans.NoMemory fresh h = tt
 
-pub scan_cause : (coming : Option (List Files)) (p : Pass) (stop : ScanStop) → HasStopped coming stop → IsEditCause coming p (stop_of_scan stop)
-scan_cause coming p scans.TreeFault h = tt
-scan_cause coming p scans.TooManyNames h = inl h
-scan_cause coming p (scans.TextTooLong path) h = inl (path, h)
-scan_cause coming p scans.NoMemory h = tt
+-- or one of its edits
+pub first_edit : (coming : Option (List Files)) (p : Pass) (stop : EditStop) → BeginsFirst coming p stop → editing.IsCause p stop → IsFirstCause coming p (stop_of_edit stop)
+first_edit coming p edits.Text b h = inr (b, h)
+first_edit coming p edits.Names b h = inr (b, h)
+first_edit coming p edits.Sources b h = (b, h)
+first_edit coming p edits.Full b h = (b, h)
+first_edit coming p edits.NoMemory b h = tt
 
-pub edit_cause : (coming : Option (List Files)) (p : Pass) (stop : EditStop) → editing.IsCause p stop → IsEditCause coming p (stop_of_edit stop)
-edit_cause coming p edits.Text h = inr h
-edit_cause coming p edits.Names h = inr h
-edit_cause coming p edits.Sources h = h
-edit_cause coming p edits.Full h = h
-edit_cause coming p edits.NoMemory h = tt
+pub first_written : (coming : Option (List Files)) (p : Pass) (stop : ServeStop) → IsFirstCause coming p stop → stop ≢ Unwritten
+first_written coming p Unwritten h = λ e. h
+first_written coming p Tree h = λ e. cc
+first_written coming p Fault h = λ e. cc
+first_written coming p (AtLimit limit) h = λ e. cc
+first_written coming p NoMemory h = λ e. cc
 
-pub settle_cause : (p : Pass) (stop : EditStop) → editing.IsCause p stop → IsSettleCause p (stop_of_edit stop)
-settle_cause p edits.Text h = h
-settle_cause p edits.Names h = h
-settle_cause p edits.Sources h = h
-settle_cause p edits.Full h = h
-settle_cause p edits.NoMemory h = tt
+pub first_faultless : (coming : Option (List Files)) (p : Pass) (stop : ServeStop) → IsFirstCause coming p stop → stop ≢ Fault
+first_faultless coming p Unwritten h = λ e. cc
+first_faultless coming p Tree h = λ e. cc
+first_faultless coming p Fault h = λ e. h
+first_faultless coming p (AtLimit limit) h = λ e. cc
+first_faultless coming p NoMemory h = λ e. cc
+
+pub scan_cause : (p : Pass) (stop : ScanStop) → IsEditCause p (stop_of_scan stop)
+scan_cause p scans.TreeFault = tt
+scan_cause p scans.TooManyNames = tt
+scan_cause p (scans.TextTooLong path) = tt
+scan_cause p scans.NoMemory = tt
+
+pub edit_cause : (p : Pass) (stop : EditStop) → editing.IsCause p stop → IsEditCause p (stop_of_edit stop)
+edit_cause p edits.Text h = tt
+edit_cause p edits.Names h = tt
+edit_cause p edits.Sources h = tt
+edit_cause p edits.Full h = h
+edit_cause p edits.NoMemory h = tt
+
+pub settle_cause : (p : Pass) (stop : EditStop) → editing.IsRoomStop stop → editing.IsCause p stop → IsSettleCause p (stop_of_edit stop)
+settle_cause p edits.Text r h = absurd r
+settle_cause p edits.Names r h = absurd r
+settle_cause p edits.Sources r h = absurd r
+settle_cause p edits.Full r h = h
+settle_cause p edits.NoMemory r h = tt
 
 -- only a scan stops by the tree
 pub scan_rose : (stop : ScanStop) (n m k : ℕ) → n ≤ m → (stop ≡ scans.TreeFault → Rose m k) → stop_of_scan stop ≡ Tree → Rose n k
@@ -94,28 +113,32 @@ edit_no_fault edits.Full = λ e. cc
 edit_no_fault edits.NoMemory = λ e. cc
 
 -- what stops the editing stops the work
-pub edit_work : (coming : Option (List Files)) (p : Pass) (stop : ServeStop) → IsEditCause coming p stop → IsWorkCause coming p stop
-edit_work coming p Unwritten h = h
-edit_work coming p Tree h = tt
-edit_work coming p Fault h = tt
-edit_work coming p (AtLimit limit) h = h
-edit_work coming p NoMemory h = tt
+pub edit_work : (p : Pass) (stop : ServeStop) → IsEditCause p stop → IsWorkCause p stop
+edit_work p Unwritten h = h
+edit_work p Tree h = tt
+edit_work p Fault h = tt
+edit_work p (AtLimit limits.Text) h = tt
+edit_work p (AtLimit limits.Names) h = tt
+edit_work p (AtLimit limits.Sources) h = tt
+edit_work p (AtLimit limits.Transcript) h = h
+edit_work p (AtLimit limits.Passes) h = absurd h
+edit_work p NoMemory h = tt
 
-pub settle_work : (coming : Option (List Files)) (p : Pass) (stop : ServeStop) → IsSettleCause p stop → IsWorkCause coming p stop
-settle_work coming p Unwritten h = h
-settle_work coming p Tree h = tt
-settle_work coming p Fault h = tt
-settle_work coming p (AtLimit limits.Text) h = inr h
-settle_work coming p (AtLimit limits.Names) h = inr h
-settle_work coming p (AtLimit limits.Sources) h = h
-settle_work coming p (AtLimit limits.Transcript) h = h
-settle_work coming p (AtLimit limits.Passes) h = absurd h
-settle_work coming p NoMemory h = tt
+pub settle_work : (p : Pass) (stop : ServeStop) → IsSettleCause p stop → IsWorkCause p stop
+settle_work p Unwritten h = h
+settle_work p Tree h = tt
+settle_work p Fault h = tt
+settle_work p (AtLimit limits.Text) h = tt
+settle_work p (AtLimit limits.Names) h = tt
+settle_work p (AtLimit limits.Sources) h = tt
+settle_work p (AtLimit limits.Transcript) h = h
+settle_work p (AtLimit limits.Passes) h = absurd h
+settle_work p NoMemory h = tt
 
-pub begun_work : (coming : Option (List Files)) (p : Pass) (cause : Cause) → (cause ≡ causes.Spent → all_given p ≡ true) → IsWorkCause coming p (stop_by cause)
-begun_work coming p causes.Fault h = tt
-begun_work coming p causes.Spent h = h refl
-begun_work coming p causes.NoMemory h = tt
+pub begun_work : (p : Pass) (cause : Cause) → (cause ≡ causes.Spent → all_given p ≡ true) → IsWorkCause p (stop_by cause)
+begun_work p causes.Fault h = tt
+begun_work p causes.Spent h = h refl
+begun_work p causes.NoMemory h = tt
 
 pub begun_fault : (cause : Cause) → stop_by cause ≡ Fault → cause ≡ causes.Fault
 begun_fault causes.Fault e = refl
@@ -128,81 +151,34 @@ begun_no_tree causes.Spent = λ e. cc
 begun_no_tree causes.NoMemory = λ e. cc
 
 -- what was seen stays
-refused_moved : (p q : Pass) (mine : List Recorded) (refusal : EditRefusal) → Moved p q mine → editing.HasRefused p refusal → editing.HasRefused q refusal
-refused_moved p q mine refusal m h = record {
-  edit = h.edit;
-  answered = answered_moved p q mine 0 (edit_event h.edit) _ m h.answered;
-}
+limit_moved : (p q : Pass) (mine : List Recorded) (limit : Limit) → Moved p q mine → (all_given p ≡ true → all_given q ≡ true) → IsLimitCause p limit → IsLimitCause q limit
+limit_moved p q mine limits.Text m given h = tt
+limit_moved p q mine limits.Names m given h = tt
+limit_moved p q mine limits.Sources m given h = tt
+limit_moved p q mine limits.Transcript m given h = nearly_full_moved p q mine m h
+limit_moved p q mine limits.Passes m given h = given h
 
-stopped_before : (coming : Option (List Files)) (stop : ScanStop) → HasStopped (option_map files_after coming) stop → HasStopped coming stop
-stopped_before None stop h = tt
-stopped_before (Some coming) stop h = (suc h.0, h.1)
+-- at the end of the work
+pub work_cause : (p q : Pass) (stop : ServeStop) → Moved p q [] → (all_given p ≡ true → all_given q ≡ true) → IsWorkCause p stop → IsCause q stop
+work_cause p q Unwritten m given h = tt
+work_cause p q Tree m given h = tt
+work_cause p q Fault m given h = tt
+work_cause p q (AtLimit limit) m given h = limit_moved p q [] limit m given h
+work_cause p q NoMemory m given h = tt
 
-pub limit_moved : (coming : Option (List Files)) (p q : Pass) (mine : List Recorded) (limit : Limit) → Moved p q mine → (all_given p ≡ true → all_given q ≡ true)
-    → IsLimitCause coming p limit → IsLimitCause coming q limit
-limit_moved coming p q mine limits.Text m given (inl h) = inl h
-limit_moved coming p q mine limits.Text m given (inr h) = inr (refused_moved p q mine _ m h)
-limit_moved coming p q mine limits.Names m given (inl h) = inl h
-limit_moved coming p q mine limits.Names m given (inr h) = inr (refused_moved p q mine _ m h)
-limit_moved coming p q mine limits.Sources m given h = refused_moved p q mine _ m h
-limit_moved coming p q mine limits.Transcript m given h = nearly_full_moved p q mine m h
-limit_moved coming p q mine limits.Passes m given h = given h
+pub edit_faultless : (p : Pass) (stop : ServeStop) → IsEditCause p stop → stop ≢ Fault
+edit_faultless p Unwritten h = λ e. cc
+edit_faultless p Tree h = λ e. cc
+edit_faultless p Fault h = λ e. h
+edit_faultless p (AtLimit limit) h = λ e. cc
+edit_faultless p NoMemory h = λ e. cc
 
-limit_before : (coming : Option (List Files)) (p : Pass) (limit : Limit) → IsLimitCause (option_map files_after coming) p limit → IsLimitCause coming p limit
-limit_before coming p limits.Text (inl h) = inl (h.0, stopped_before coming _ h.1)
-limit_before coming p limits.Text (inr h) = inr h
-limit_before coming p limits.Names (inl h) = inl (stopped_before coming _ h)
-limit_before coming p limits.Names (inr h) = inr h
-limit_before coming p limits.Sources h = h
-limit_before coming p limits.Transcript h = h
-limit_before coming p limits.Passes h = h
-
--- of the work that went on from p to q
-pub work_moved : (coming : Option (List Files)) (p q : Pass) (mine : List Recorded) (stop : ServeStop) → Moved p q mine → (all_given p ≡ true → all_given q ≡ true)
-    → IsWorkCause coming p stop → IsWorkCause coming q stop
-work_moved coming p q mine Unwritten m given h = h
-work_moved coming p q mine Tree m given h = tt
-work_moved coming p q mine Fault m given h = tt
-work_moved coming p q mine (AtLimit limit) m given h = limit_moved coming p q mine limit m given h
-work_moved coming p q mine NoMemory m given h = tt
-
--- at the end of the work, which began after the first scan
-pub work_cause : (coming : Option (List Files)) (p q : Pass) (stop : ServeStop) → Moved p q [] → (all_given p ≡ true → all_given q ≡ true)
-    → IsWorkCause (option_map files_after coming) p stop → IsCause coming q stop
-work_cause coming p q Unwritten m given h = tt
-work_cause coming p q Tree m given h = tt
-work_cause coming p q Fault m given h = tt
-work_cause coming p q (AtLimit limit) m given h = limit_before coming q limit (limit_moved (option_map files_after coming) p q [] limit m given h)
-work_cause coming p q NoMemory m given h = tt
-
--- before the work
-pub first_cause : (coming : Option (List Files)) (p : Pass) (stop : ServeStop) → IsEditCause coming p stop → IsCause coming p stop
-first_cause coming p Unwritten h = tt
-first_cause coming p Tree h = tt
-first_cause coming p Fault h = tt
-first_cause coming p (AtLimit limit) h = h
-first_cause coming p NoMemory h = tt
-
-pub edit_written : (coming : Option (List Files)) (p : Pass) (stop : ServeStop) → IsEditCause coming p stop → stop ≢ Unwritten
-edit_written coming p Unwritten h = λ e. h
-edit_written coming p Tree h = λ e. cc
-edit_written coming p Fault h = λ e. cc
-edit_written coming p (AtLimit limit) h = λ e. cc
-edit_written coming p NoMemory h = λ e. cc
-
-pub edit_faultless : (coming : Option (List Files)) (p : Pass) (stop : ServeStop) → IsEditCause coming p stop → stop ≢ Fault
-edit_faultless coming p Unwritten h = λ e. cc
-edit_faultless coming p Tree h = λ e. cc
-edit_faultless coming p Fault h = λ e. h
-edit_faultless coming p (AtLimit limit) h = λ e. cc
-edit_faultless coming p NoMemory h = λ e. cc
-
-pub work_written : (coming : Option (List Files)) (p : Pass) (stop : ServeStop) → IsWorkCause coming p stop → stop ≢ Unwritten
-work_written coming p Unwritten h = λ e. h
-work_written coming p Tree h = λ e. cc
-work_written coming p Fault h = λ e. cc
-work_written coming p (AtLimit limit) h = λ e. cc
-work_written coming p NoMemory h = λ e. cc
+pub work_written : (p : Pass) (stop : ServeStop) → IsWorkCause p stop → stop ≢ Unwritten
+work_written p Unwritten h = λ e. h
+work_written p Tree h = λ e. cc
+work_written p Fault h = λ e. cc
+work_written p (AtLimit limit) h = λ e. cc
+work_written p NoMemory h = λ e. cc
 
 -- counts
 pub rose_later : (n m k l : ℕ) → n ≤ m → k ≤ l → Rose m k → Rose n l
@@ -242,19 +218,10 @@ pub fault_of_begun : {T : Type 0} (r : Result T ServeStop) (cause : Cause) → P
 fault_of_begun r cause told e = begun_fault cause (passed_as r (stop_by cause) Fault told e)
 
 -- none of the causes of the editing is a fault of the net
-pub no_fault : (coming : Option (List Files)) (p : Pass) (r : Result (Unit {0}) ServeStop) → IfErr r (IsEditCause coming p) → r ≢ Err Fault
-no_fault coming p (Ok x) h = λ e. cc
-no_fault coming p (Err stop) h = λ e. edit_faultless coming p stop h (err_is (Err stop) stop Fault refl e)
+pub no_fault : (p : Pass) (r : Result (Unit {0}) ServeStop) → IfErr r (IsEditCause p) → r ≢ Err Fault
+no_fault p (Ok x) h = λ e. cc
+no_fault p (Err stop) h = λ e. edit_faultless p stop h (err_is (Err stop) stop Fault refl e)
 
-pub edits_work : (coming : Option (List Files)) (p : Pass) (r : Result (Unit {0}) ServeStop) → IfErr r (IsEditCause coming p) → IfErr r (IsWorkCause coming p)
-edits_work coming p (Ok x) h = tt
-edits_work coming p (Err stop) h = edit_work coming p stop h
-
--- before it listened, the net failed
-pub outside_cause : (coming : Option (List Files)) (p : Pass) (fault : OutFault) → IsCause coming p (stop_outside fault)
-outside_cause coming p outside.Failed = tt
-outside_cause coming p outside.NoMemory = tt
-
-pub outside_written : (fault : OutFault) → stop_outside fault ≢ Unwritten
-outside_written outside.Failed = λ e. cc
-outside_written outside.NoMemory = λ e. cc
+pub edits_work : (p : Pass) (r : Result (Unit {0}) ServeStop) → IfErr r (IsEditCause p) → IfErr r (IsWorkCause p)
+edits_work p (Ok x) h = tt
+edits_work p (Err stop) h = edit_work p stop h

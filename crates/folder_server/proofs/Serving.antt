@@ -19,15 +19,14 @@ use Rattle.hmr_hub.specs.declared.pass.Pass.{Pass}
 use Rattle.hmr_hub.specs.Calls.{IsFirst, SameKnower}
 use Rattle.hmr_hub.specs.Passes.{HasTranscript, all_given, known_of, number_of, roots_of, seen_of}
 use Rattle.hub_moves.specs.Fullness.{IsNearlyFull}
-use Rattle.hub_moves.specs.Moves.{KnowsOwn, Moved}
-use Rattle.hub_moves.proofs.Answers.{answered_moved}
+use Rattle.hub_moves.specs.Moves.{KnowsOwn, Moved, own_of}
 use Rattle.hub_moves.proofs.Fullness.{nearly_full_longer}
 use Rattle.hub_moves.proofs.Moves.{knows_first, moved_no_more, moved_none}
-use Rattle.hub_editor.specs.Edits.{Edit, Made, edit_entry, edit_event, edit_of, reply_of}
-use Rattle.hub_editor.specs.Editing.{HaveLastResults, IsAnswered, entries_of}
+use Rattle.hub_editor.specs.Edits.{Edit, Made, edit_entry}
+use Rattle.hub_editor.specs.Editing.{AreAnswered, HaveLastResults, entries_of}
 use Rattle.hub_editor.specs.Openings.{jobs_after, opening}
 use Rattle.hub_editor.specs.Results.{HasOwnResults, result_entry}
-use Rattle.hub_editor.proofs.Steps.{edited_none, own_moved, result_moved}
+use Rattle.hub_editor.proofs.Steps.{answers_moved, edited_none, own_moved, result_moved}
 use Rattle.serve_crew.specs.declared.gathered.Gathered.{Gathered}
 use Rattle.serve_crew.specs.Gathers.{SomeFull}
 use Rattle.serve_reports.specs.Within.{IsWithin}
@@ -42,13 +41,16 @@ use Rattle.folder_server.specs.declared.stop.ServeStop.{ServeStop}
 use Rattle.folder_server.specs.declared.stop.ServeStop.TheVariants.{Unwritten, Tree, Fault, NoMemory}
 use Rattle.folder_server.specs.declared.stop.ServeStop.TheVariants.{Limit as AtLimit}
 use Rattle.outside_calls.specs.declared.out_fault.OutFault.{OutFault}
-use Rattle.folder_server.specs.Causes.{IsCause, IsEditCause, IsWorkCause}
+use Rattle.outside_calls.specs.declared.out_fault.OutFault.TheVariants as outside
+use Rattle.serve_crew.specs.declared.cause.Cause.TheVariants as causes
+use Rattle.folder_server.specs.Causes.{IsCause, IsEarlyEnd, IsFirstCause, IsWorkCause}
 use Rattle.folder_server.specs.Openings.{Opens}
-use Rattle.folder_server.specs.Rounds.{Files, MakesEdits}
+use Rattle.folder_server.specs.Rounds.{Files}
 use Rattle.folder_server.specs.Running.{Finds, Later}
-use Rattle.folder_server.specs.Serving.{End, HasCause, IsReported, Reported, Served, StopsEarly, WroteEarly, WroteReport, Wrote, header, report_with, status_after}
+use Rattle.folder_server.specs.Serving.{End, EndsBy, HasCause, IsReported, JobEnds, Reported, Served, StopsEarly, WroteEarly, WroteReport, Wrote, header, job_ends, report_with, status_after}
 use Rattle.folder_server.specs.Stops.{last_text, stop_outside}
-use Rattle.folder_server.proofs.Causes.{Passes, edit_written, err_is, first_cause, outside_cause, outside_written, rose_later, work_cause, work_written}
+use Rattle.folder_server.proofs.Causes.{Passes, err_is, first_written, rose_later, work_cause, work_written}
+use Rattle.folder_server.proofs.Makings.{makes_nothing}
 
 -- the first edits are all under the editor's number
 edits_mine : (edits : List Edit) → calls (0 ∷ []) (map edit_entry edits) ≡ map edit_entry edits
@@ -65,68 +67,65 @@ opening_mine edits =
     ∙ (ap (λ es. es ++ calls (0 ∷ []) (map result_entry (jobs_after [] edits))) (edits_mine edits)
     ∙ ap (λ es. map edit_entry edits ++ es) (results_mine (jobs_after [] edits)))
 
--- what was made, told of another end
-makes_ended : (coming : Option (List Files)) (listing : Files) (script : List Edit) (many : ℕ) (made : List Made) (ended result : End)
-    → MakesEdits coming listing script many [] made ended → OnOk result (IsOk ended) → MakesEdits coming listing script many [] made result
-makes_ended coming listing script many made (Ok x) (Ok y) h ok = record { rounds = h.rounds; are = h.are; rest = h.rest; front = h.front; all = h.all; many_are = h.many_are }
-makes_ended coming listing script many made (Err x) (Ok y) h ok = absurd (let z : false ≡ true = ok in cc)
-makes_ended coming listing script many made ended (Err y) h ok = record { rounds = h.rounds; are = h.are; rest = h.rest; front = h.front; all = tt; many_are = tt }
+results_moved : (p q : Pass) (made : List Made) (ended : End) → Moved p q [] → OnOk ended (HaveLastResults p made) → OnOk ended (HaveLastResults q made)
+results_moved p q made (Ok x) m h = λ work last. result_moved p q [] work m (h work last)
+results_moved p q made (Err x) m h = tt
 
-results_ended : (p q : Pass) (made : List Made) (ended result : End) → Moved p q [] → OnOk ended (HaveLastResults p made) → OnOk result (IsOk ended) → OnOk result (HaveLastResults q made)
-results_ended p q made (Ok x) (Ok y) m h ok = λ work last. result_moved p q [] work m (h work last)
-results_ended p q made (Err x) (Ok y) m h ok = absurd (let z : false ≡ true = ok in cc)
-results_ended p q made ended (Err y) m h ok = tt
+start_status : (stop : ServeStop) → (stop ≡ Unwritten) ⊎ (stop ≡ NoMemory) → (◌≡◌ {A = End} (Err stop) (Err Unwritten)) ⊎ (◌≡◌ {A = End} (Err stop) (Err NoMemory))
+start_status stop (inl e) = inl (ap Err e)
+start_status stop (inr e) = inr (ap Err e)
+
+start_cause : (p : Pass) (stop : ServeStop) → (stop ≡ Unwritten) ⊎ (stop ≡ NoMemory) → HasCause p (Err stop)
+start_cause p stop (inl e) = subst (IsCause p) (sym e) tt
+start_cause p stop (inr e) = subst (IsCause p) (sym e) tt
 
 -- all that a server did, by its passes: the first, that after the opening, that after the work, and the last
-pub served_end : (roots : List Name) (coming : Option (List Files)) (listing : Files) (script : List Edit) (many : ℕ) (made : List Made) (ended result : End) (p o w q : Pass)
+pub served_end : (roots : List Name) (coming : Option (List Files)) (listing : Files) (script : List Edit) (many : ℕ) (made : List Made) (jobs : JobEnds) (ended result : End) (p o w q : Pass)
     → IsFirst roots p → SameKnower p o → Opens coming listing (seen_of o) → Later (option_map files_after coming) listing script many o w made ended
-    → OnOk result (IsOk ended) → Moved w q [] → HasTranscript q → HasCause coming q result → Served roots coming script many result q
-served_end roots coming listing script many made ended result p o w q first same opens later ok m transcript cause =
+    → EndsBy jobs ended result → Moved w q [] → HasTranscript q → HasCause q result → Served roots coming script many result q
+served_end roots coming listing script many made jobs ended result p o w q first same opens later status m transcript cause =
     let all = moved_no_more o w q _ later.edited.moved m in
     let zero : number_of o ≡ 0 = same.number ∙ first.number in
+    let opening_own : own_of o ≡ opening opens.first = ap (λ n. calls (n ∷ []) (seen_of o)) zero ∙ (ap (calls (0 ∷ [])) opens.opening_is ∙ opening_mine opens.first) in
     record {
       transcript = transcript;
       roots_are = all.roots ∙ (same.roots ∙ first.roots_are);
       listing = listing;
       first = opens.first;
       scanned = opens.round;
+      accepted = opens.accepted;
       later = all.more;
       begins = all.longer ∙ ap (λ es. es ++ all.more) opens.opening_is;
       made = made;
-      makes = makes_ended (option_map files_after coming) listing script many made ended result later.makes ok;
+      edited = ended;
+      makes = later.makes;
       settled = later.edited.settled;
       mine =
           ap (λ n. calls (n ∷ []) (seen_of q)) (sym (all.number ∙ zero))
-          ∙ (all.own ∙ ap (λ es. es ++ (flat_map entries_of made ++ map result_entry later.edited.settled))
-          (ap (λ n. calls (n ∷ []) (seen_of o)) zero ∙ (ap (calls (0 ∷ [])) opens.opening_is ∙ opening_mine opens.first)));
+          ∙ (all.own ∙ ap (λ es. es ++ (flat_map entries_of made ++ map result_entry later.edited.settled)) opening_own);
       each = later.edited.each;
-      answered = All-weaker (IsAnswered w) (IsAnswered q) (λ x h. answered_moved w q [] 0 (edit_event (edit_of x)) (reply_of x.answer) m h) made later.edited.answered;
+      number = all.number ∙ zero;
+      answered = subst (λ es. AreAnswered q es made) opening_own (answers_moved w q [] (own_of o) made m later.edited.answered);
       results = All-weaker (HasOwnResults (seen_of w)) (HasOwnResults (seen_of q)) (λ x h. own_moved w q [] x m h) made later.edited.results;
-      last_results = results_ended w q made ended result m later.results ok;
+      last_results = results_moved w q made ended m later.results;
+      jobs = jobs;
+      status = status;
       cause = cause;
     }
 
 -- it was stopped before the work
 pub served_start : (roots : List Name) (coming : Option (List Files)) (listing : Files) (script : List Edit) (many : ℕ) (stop : ServeStop) (p o : Pass)
-    → IsFirst roots p → SameKnower p o → Opens coming listing (seen_of o) → HasTranscript o → IsCause coming o stop → Served roots coming script many (Err stop) o
-served_start roots coming listing script many stop p o first same opens transcript cause =
-    served_end roots coming listing script many [] (Err stop) (Err stop) p o o o first same opens
-    (record { edited = edited_none o; makes = record { rounds = []; are = tt; rest = script; front = refl; all = tt; many_are = tt }; results = tt })
-    tt (moved_none o) transcript cause
+    → IsFirst roots p → SameKnower p o → Opens coming listing (seen_of o) → HasTranscript o → (stop ≡ Unwritten) ⊎ (stop ≡ NoMemory) → Served roots coming script many (Err stop) o
+served_start roots coming listing script many stop p o first same opens transcript which =
+    served_end roots coming listing script many [] (record { memory = false; full = false; fault = false }) (Err NoMemory) (Err stop) p o o o first same opens
+    (record { edited = edited_none o; makes = makes_nothing (option_map files_after coming) listing script many [] causes.NoMemory; results = tt })
+    (inr (start_status stop which)) (moved_none o) transcript (start_cause o stop which)
 
 -- the editor's pass knows its own number, from the first on
 pub knows_opened : (roots : List Name) (p o : Pass) → IsFirst roots p → SameKnower p o → KnowsOwn o
 knows_opened roots p o first same =
     subst (λ ks. has (number_of o) ks ≡ true) (sym same.known)
     (subst (λ n. has n (known_of p) ≡ true) (sym same.number) (knows_first roots p first))
-
--- how it ended, where nothing failed at the end
-pub status_ok : (gathered : Gathered) (ended result : End) → (result ≡ status_after gathered ended) ⊎ ((result ≡ Err Unwritten) ⊎ (result ≡ Err NoMemory)) → OnOk result (IsOk ended)
-status_ok gathered (Ok x) (Ok y) h = refl
-status_ok gathered (Err x) (Ok y) (inl h) = absurd (cc)
-status_ok gathered (Err x) (Ok y) (inr (inl h)) = absurd (cc)
-status_ok gathered (Err x) (Ok y) (inr (inr h)) = absurd (cc)
-status_ok gathered ended (Err y) h = tt
 
 -- how it ends by what the jobs left
 abbrev left_by : Bool → Bool → Bool → End
@@ -187,29 +186,28 @@ choose_written false false true = λ h. cc
 choose_written false false false = λ h. cc
 
 -- the work doesn't end by the output
-pub status_written : (coming : Option (List Files)) (p : Pass) (gathered : Gathered) (ended : End) → IfErr ended (IsWorkCause coming p) → status_after gathered ended ≢ Err Unwritten
-status_written coming p gathered (Ok x) h = choose_written gathered.memory gathered.full gathered.fault
-status_written coming p gathered (Err stop) h = λ e. work_written coming p stop h (err_is (Err stop) stop Unwritten refl e)
+pub status_written : (p : Pass) (gathered : Gathered) (ended : End) → IfErr ended (IsWorkCause p) → status_after gathered ended ≢ Err Unwritten
+status_written p gathered (Ok x) h = choose_written gathered.memory gathered.full gathered.fault
+status_written p gathered (Err stop) h = λ e. work_written p stop h (err_is (Err stop) stop Unwritten refl e)
 
 -- the cause of an end that the jobs left
-choose_cause : (coming : Option (List Files)) (q : Pass) (memory full fault : Bool) (result : End) → result ≡ left_by memory full fault
-    → (result ≡ Err (AtLimit Transcript) → full ≡ true → IsNearlyFull (seen_of q)) → HasCause coming q result
-choose_cause coming q true full fault result h nearly = subst (HasCause coming q) (sym h) tt
-choose_cause coming q false true fault result h nearly = subst (HasCause coming q) (sym h) (nearly h refl)
-choose_cause coming q false false true result h nearly = subst (HasCause coming q) (sym h) tt
-choose_cause coming q false false false result h nearly = subst (HasCause coming q) (sym h) tt
+choose_cause : (q : Pass) (memory full fault : Bool) (result : End) → result ≡ left_by memory full fault
+    → (result ≡ Err (AtLimit Transcript) → full ≡ true → IsNearlyFull (seen_of q)) → HasCause q result
+choose_cause q true full fault result h nearly = subst (HasCause q) (sym h) tt
+choose_cause q false true fault result h nearly = subst (HasCause q) (sym h) (nearly h refl)
+choose_cause q false false true result h nearly = subst (HasCause q) (sym h) tt
+choose_cause q false false false result h nearly = subst (HasCause q) (sym h) tt
 
-cause_after : (coming : Option (List Files)) (w q : Pass) (gathered : Gathered) (ended result : End) → result ≡ status_after gathered ended → IfErr ended (IsWorkCause (option_map files_after coming) w)
-    → Moved w q [] → (all_given w ≡ true → all_given q ≡ true) → (result ≡ Err (AtLimit Transcript) → gathered.full ≡ true → IsNearlyFull (seen_of q)) → HasCause coming q result
-cause_after coming w q gathered (Ok x) result h cause m given nearly = choose_cause coming q gathered.memory gathered.full gathered.fault result h nearly
-cause_after coming w q gathered (Err stop) result h cause m given nearly = subst (HasCause coming q) (sym h) (work_cause coming w q stop m given cause)
+cause_after : (w q : Pass) (gathered : Gathered) (ended result : End) → result ≡ status_after gathered ended → IfErr ended (IsWorkCause w)
+    → Moved w q [] → (all_given w ≡ true → all_given q ≡ true) → (result ≡ Err (AtLimit Transcript) → gathered.full ≡ true → IsNearlyFull (seen_of q)) → HasCause q result
+cause_after w q gathered (Ok x) result h cause m given nearly = choose_cause q gathered.memory gathered.full gathered.fault result h nearly
+cause_after w q gathered (Err stop) result h cause m given nearly = subst (HasCause q) (sym h) (work_cause w q stop m given cause)
 
-pub status_cause : (coming : Option (List Files)) (w q : Pass) (gathered : Gathered) (ended result : End)
-    → (result ≡ status_after gathered ended) ⊎ ((result ≡ Err Unwritten) ⊎ (result ≡ Err NoMemory)) → IfErr ended (IsWorkCause (option_map files_after coming) w)
-    → Moved w q [] → (all_given w ≡ true → all_given q ≡ true) → (result ≡ Err (AtLimit Transcript) → gathered.full ≡ true → IsNearlyFull (seen_of q)) → HasCause coming q result
-status_cause coming w q gathered ended result (inl h) cause m given nearly = cause_after coming w q gathered ended result h cause m given nearly
-status_cause coming w q gathered ended result (inr (inl h)) cause m given nearly = subst (HasCause coming q) (sym h) tt
-status_cause coming w q gathered ended result (inr (inr h)) cause m given nearly = subst (HasCause coming q) (sym h) tt
+pub status_cause : (w q : Pass) (gathered : Gathered) (ended result : End) → EndsBy (job_ends gathered) ended result → IfErr ended (IsWorkCause w)
+    → Moved w q [] → (all_given w ≡ true → all_given q ≡ true) → (result ≡ Err (AtLimit Transcript) → gathered.full ≡ true → IsNearlyFull (seen_of q)) → HasCause q result
+status_cause w q gathered ended result (inl h) cause m given nearly = cause_after w q gathered ended result h cause m given nearly
+status_cause w q gathered ended result (inr (inl h)) cause m given nearly = subst (HasCause q) (sym h) tt
+status_cause w q gathered ended result (inr (inr h)) cause m given nearly = subst (HasCause q) (sym h) tt
 
 -- a pass of the jobs that is nearly full lies within the last
 all_middle : {X : Type 0} (P : X → Type 0) (front back : List X) (x : X) → All P (front ++ x ∷ back) → P x
@@ -349,32 +347,40 @@ wrote_line result r old new text k k' is w done failed = record {
 
 -- all that the call says it wrote
 pub serve_wrote : (roots : List Name) (coming : Option (List Files)) (script : List Edit) (many : ℕ) (result : End) (heard : Option ℕ) (a b c : Option (List ℕ)) (before mid now : ℕ)
-    → ((port : ℕ) × (p : Pass) × (heard ≡ Some port) × Served roots coming script many result p × WroteReport port p result a b) ⊎ (StopsEarly coming result × (b ≡ a))
+    → ((port : ℕ) × (p : Pass) × (heard ≡ Some port) × Served roots coming script many result p × WroteReport port p result a b) ⊎ (StopsEarly roots coming result × (b ≡ a))
     → WroteEarly result b c mid now → before ≤ mid → mid ≤ now
-    → ((port : ℕ) × (p : Pass) × (heard ≡ Some port) × Served roots coming script many result p × Wrote port p result a c before now) ⊎ (StopsEarly coming result × WroteEarly result a c before now)
+    → ((port : ℕ) × (p : Pass) × (heard ≡ Some port) × Served roots coming script many result p × Wrote port p result a c before now) ⊎ (StopsEarly roots coming result × WroteEarly result a c before now)
 serve_wrote roots coming script many result heard a b c before mid now (inl (port, p, h, s, w)) l x y = inl (port, p, h, s, wrote_last port p result a b c before mid now w l x y)
 serve_wrote roots coming script many result heard a b c before mid now (inr (s, e)) l x y = inr (s, early_last result a b c before mid now e x l)
 
 -- it stopped before it listened
-pub stops_memory : (coming : Option (List Files)) (r : End) → r ≡ Err NoMemory → StopsEarly coming r
-stops_memory coming r e = record {
+pub stops_memory : (roots : List Name) (coming : Option (List Files)) (r : End) → r ≡ Err NoMemory → StopsEarly roots coming r
+stops_memory roots coming r e = record {
   cause = inl e;
   stopped = subst (λ x. OnOk x ⊥) (sym e) tt;
   written = λ u. let z : ◌≡◌ {A = End} (Err NoMemory) (Err Unwritten) = sym e ∙ u in cc;
 }
 
-pub stops_at : (coming : Option (List Files)) (p : Pass) (r : End) (stop : ServeStop) → r ≡ Err stop → IsCause coming p stop → stop ≢ Unwritten → StopsEarly coming r
-stops_at coming p r stop e cause never = record {
-  cause = inr (p, subst (HasCause coming p) (sym e) cause);
+stops_at : (roots : List Name) (coming : Option (List Files)) (p o : Pass) (r : End) (stop : ServeStop) → r ≡ Err stop → IsFirst roots p → SameKnower p o → HasTranscript o
+    → IsEarlyEnd coming o (Err stop) → stop ≢ Unwritten → StopsEarly roots coming r
+stops_at roots coming p o r stop e first same transcript cause never = record {
+  cause = inr (o, record { transcript = transcript; roots_are = same.roots ∙ first.roots_are; end = subst (IsEarlyEnd coming o) (sym e) cause });
   stopped = subst (λ x. OnOk x ⊥) (sym e) tt;
   written = λ u. never (err_is r stop Unwritten e u);
 }
 
-pub stops_edit : (coming : Option (List Files)) (p : Pass) (r : End) (stop : ServeStop) → Passes r stop → IsEditCause coming p stop → StopsEarly coming r
-stops_edit coming p r stop told h = stops_at coming p r stop (told.1 ∙ ap Err told.2) (first_cause coming p stop h) (edit_written coming p stop h)
+-- by the first scan or an edit
+pub stops_first : (roots : List Name) (coming : Option (List Files)) (p o : Pass) (r : End) (stop : ServeStop) → Passes r stop → IsFirst roots p → SameKnower p o → HasTranscript o
+    → IsFirstCause coming o stop → StopsEarly roots coming r
+stops_first roots coming p o r stop told first same transcript h =
+    stops_at roots coming p o r stop (told.1 ∙ ap Err told.2) first same transcript (inl h) (first_written coming o stop h)
 
-pub stops_outside : (coming : Option (List Files)) (p : Pass) (r : End) (fault : OutFault) → Passes r (stop_outside fault) → StopsEarly coming r
-stops_outside coming p r fault told = stops_at coming p r (stop_outside fault) (told.1 ∙ ap Err told.2) (outside_cause coming p fault) (outside_written fault)
+-- by the net
+pub stops_outside : (roots : List Name) (coming : Option (List Files)) (listing : Files) (p o : Pass) (r : End) (fault : OutFault) → Passes r (stop_outside fault) → IsFirst roots p → SameKnower p o → HasTranscript o
+    → Opens coming listing (seen_of o) → StopsEarly roots coming r
+stops_outside roots coming listing p o r outside.Failed told first same transcript opens =
+    stops_at roots coming p o r Fault (told.1 ∙ ap Err told.2) first same transcript (inr (refl, (listing, opens))) (λ e. cc)
+stops_outside roots coming listing p o r outside.NoMemory told first same transcript opens = stops_memory roots coming r (told.1 ∙ ap Err told.2)
 
 -- an end, by what it was made of
 pub end_as : {X : Type 0} (result ended other : End) → (result ≡ ended) ⊎ X → ended ≡ other → (result ≡ other) ⊎ X
@@ -383,9 +389,9 @@ end_as result ended other (inr x) f = inr x
 
 -- it stopped when it had listened, and before the work
 pub served_early : (roots : List Name) (coming : Option (List Files)) (listing : Files) (script : List Edit) (many port : ℕ) (stop : ServeStop) (r : End) (p o : Pass) (old new : Option (List ℕ))
-    → r ≡ Err stop → IsFirst roots p → SameKnower p o → Opens coming listing (seen_of o) → HasTranscript o → IsCause coming o stop → ¬ IsReported (Err stop) → WritesFront old new (header port)
+    → r ≡ Err stop → IsFirst roots p → SameKnower p o → Opens coming listing (seen_of o) → HasTranscript o → (stop ≡ Unwritten) ⊎ (stop ≡ NoMemory) → ¬ IsReported (Err stop) → WritesFront old new (header port)
     → Served roots coming script many r o × WroteReport port o r old new
-served_early roots coming listing script many port stop r p o old new e first same opens transcript cause never w = (
-  subst (λ x. Served roots coming script many x o) (sym e) (served_start roots coming listing script many stop p o first same opens transcript cause),
+served_early roots coming listing script many port stop r p o old new e first same opens transcript which never w = (
+  subst (λ x. Served roots coming script many x o) (sym e) (served_start roots coming listing script many stop p o first same opens transcript which),
   subst (λ x. WroteReport port o x old new) (sym e) (wrote_header port o stop old new w never),
 )

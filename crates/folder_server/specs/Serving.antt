@@ -1,5 +1,5 @@
 -- What a server writes, and of which transcript.
-use Rattle.std.specs.Prelude.{◌≡◌, ◌≢◌, ◌⊎◌, ℕ, ⊤, List, [], ◌∷◌, ◌++◌, map, flat_map, codes, decimal}
+use Rattle.std.specs.Prelude.{◌≡◌, ◌≢◌, ◌⊎◌, ℕ, ⊤, Bool, List, [], ◌∷◌, ◌++◌, map, flat_map, codes, decimal}
 use Rattle.std.specs.Prelude.{All, Option, Result, Ok, Err, OnOk, if◌then◌else◌}
 use Rattle.std.specs.Option.{option_map}
 use Rattle.std.specs.Io.KnownBytes.{Appends}
@@ -14,11 +14,11 @@ use Rattle.turn_lock.specs.Histories.{calls}
 use Rattle.transform_pool.specs.Tasks.{Task}
 use Rattle.hmr_hub.specs.declared.pass.Pass.{Pass}
 use Rattle.hmr_hub.specs.declared.report_line.ReportLine.TheVariants.{Line}
-use Rattle.hmr_hub.specs.Passes.{HasTranscript, roots_of, seen_of}
+use Rattle.hmr_hub.specs.Passes.{HasTranscript, number_of, roots_of, seen_of}
 use Rattle.hmr_hub.specs.Reports.{report_of}
 use Rattle.hub_editor.specs.Edits.{Edit, Made, jobs_at_end}
-use Rattle.hub_editor.specs.Editing.{HaveLastResults, IsAnswered, entries_of}
-use Rattle.hub_editor.specs.Openings.{opening}
+use Rattle.hub_editor.specs.Editing.{AreAnswered, HaveLastResults, entries_of}
+use Rattle.hub_editor.specs.Openings.{AreAccepted, opening}
 use Rattle.hub_editor.specs.Results.{HasOwnResults, result_entry}
 use Rattle.serve_crew.specs.declared.gathered.Gathered.{Gathered}
 use Rattle.serve_reports.specs.declared.log.Log.{Log}
@@ -28,7 +28,7 @@ use Rattle.folder_server.specs.declared.stop.Limit.TheVariants.{Transcript}
 use Rattle.folder_server.specs.declared.stop.ServeStop.{ServeStop}
 use Rattle.folder_server.specs.declared.stop.ServeStop.TheVariants.{Unwritten, Tree, Fault, NoMemory}
 use Rattle.folder_server.specs.declared.stop.ServeStop.TheVariants.{Limit as AtLimit}
-use Rattle.folder_server.specs.Causes.{IsCause}
+use Rattle.folder_server.specs.Causes.{EndsEarly, IsCause}
 use Rattle.folder_server.specs.Rounds.{Files, IsRound, MakesEdits}
 use Rattle.folder_server.specs.Stops.{last_text}
 
@@ -36,14 +36,27 @@ use Rattle.folder_server.specs.Stops.{last_text}
 abbrev pub End : Type 0
 End = Result (Unit {0}) ServeStop
 
--- by the work's own stop, and else by what the jobs have left
-abbrev pub status_after : Gathered → End → End
-status_after gathered (Err stop) = Err stop
-status_after gathered (Ok done) =
-    if gathered.memory then Err NoMemory
-    else if gathered.full then Err (AtLimit Transcript)
-    else if gathered.fault then Err Fault
+-- how the jobs of a server ended: one lacked memory, one found the transcript full, the link of one failed or
+-- one was given up
+pub record JobEnds : Type 0 where
+  pub memory : Bool
+  pub full : Bool
+  pub fault : Bool
+
+-- by the editor's own stop, and else by the jobs: memory before a full transcript, and that before a fault
+abbrev pub status_by : JobEnds → End → End
+status_by jobs (Err stop) = Err stop
+status_by jobs (Ok done) =
+    if jobs.memory then Err NoMemory
+    else if jobs.full then Err (AtLimit Transcript)
+    else if jobs.fault then Err Fault
     else Ok done
+
+abbrev pub job_ends : Gathered → JobEnds
+job_ends gathered = record { memory = gathered.memory; full = gathered.full; fault = gathered.fault }
+
+abbrev pub status_after : Gathered → End → End
+status_after gathered ended = status_by (job_ends gathered) ended
 
 -- the line that is written as soon as the server listens
 abbrev pub header : ℕ → List ℕ
@@ -69,13 +82,20 @@ pub record Reported (p : Pass) (ended : End) (old new : Option (List ℕ)) : Typ
   pub whole : IsReported ended → Appends old new (report_with p logs)
 
 -- the cause of an end
-abbrev pub HasCause : Option (List Files) → Pass → End → Type 0
-HasCause coming p (Ok done) = ⊤
-HasCause coming p (Err stop) = IsCause coming p stop
+abbrev pub HasCause : Pass → End → Type 0
+HasCause p (Ok done) = ⊤
+HasCause p (Err stop) = IsCause p stop
+
+-- the server ended as its editor and its jobs did, or else by the output or for want of memory at the end
+abbrev pub EndsBy : JobEnds → End → End → Type 0
+EndsBy jobs edited ended =
+    (ended ≡ status_by jobs edited) ⊎ ((ended ≡ Err Unwritten) ⊎ (ended ≡ Err NoMemory))
 
 -- What a server of a folder did, as the editor's pass has seen it at the end. There is one transcript. It
--- begins with the first scan's edits and their results. Under the editor's number it has besides these just
--- the later edits, each once and in order, and of some of their jobs the result, each once.
+-- begins with the first scan's edits, none of which was refused, and their results. Under the editor's number
+-- it has besides these just the later edits, each once and in order, and of some of their jobs the result,
+-- each once. Each later edit was answered at its own place. The editor's stop is the server's, unless the
+-- output failed or memory ran out at the end; else the end is by what the jobs left.
 pub record Served (roots : List Name) (coming : Option (List Files)) (script : List Edit) (many : ℕ)
     (ended : End)
     (p : Pass) : Type 0 where
@@ -84,18 +104,23 @@ pub record Served (roots : List Name) (coming : Option (List Files)) (script : L
   pub listing : Files
   pub first : List Edit
   pub scanned : IsRound coming [] listing first
+  pub accepted : AreAccepted [] first
   pub later : List Recorded
   pub begins : seen_of p ≡ opening first ++ later
   pub made : List Made
-  pub makes : MakesEdits (option_map files_after coming) listing script many [] made ended
+  pub edited : End
+  pub makes : MakesEdits (option_map files_after coming) listing script many [] made edited
   pub settled : List Task
   pub mine : calls (0 ∷ []) (seen_of p)
       ≡ opening first ++ (flat_map entries_of made ++ map result_entry settled)
   pub each : IsPermutation (flat_map jobs_at_end made) settled
-  pub answered : All (IsAnswered p) made
+  pub number : number_of p ≡ 0
+  pub answered : AreAnswered p (opening first) made
   pub results : All (HasOwnResults (seen_of p)) made
-  pub last_results : OnOk ended (HaveLastResults p made)
-  pub cause : HasCause coming p ended
+  pub last_results : OnOk edited (HaveLastResults p made)
+  pub jobs : JobEnds
+  pub status : EndsBy jobs edited ended
+  pub cause : HasCause p ended
 
 -- The port that it listens at was written, and the report of that transcript; at a limit its line stands
 -- last. Where the output failed or memory ran out, a front of that was written. The counts are those of the
@@ -113,10 +138,10 @@ pub record WroteReport (port : ℕ) (p : Pass) (ended : End) (old new : Option (
   pub front : WritesFront old new (header port ++ report_with p logs)
   pub whole : IsReported ended → Appends old new (header port ++ report_with p logs)
 
--- The server ended before it listened, and not by its output. Where it wasn't for want of memory, a pass has
--- seen the cause.
-pub record StopsEarly (coming : Option (List Files)) (ended : End) : Type 0 where
-  pub cause : (ended ≡ Err NoMemory) ⊎ ((p : Pass) × HasCause coming p ended)
+-- The server ended before it listened, and not by its output. Where it wasn't for want of memory, a pass of
+-- a hub with these roots has seen just what the first scan and its edits had come to, and the cause.
+pub record StopsEarly (roots : List Name) (coming : Option (List Files)) (ended : End) : Type 0 where
+  pub cause : (ended ≡ Err NoMemory) ⊎ ((p : Pass) × EndsEarly roots coming p ended)
   pub stopped : OnOk ended ⊥
   pub written : ended ≢ Err Unwritten
 

@@ -6,7 +6,7 @@ ghost use Rattle.std.specs.Option.{option_map};
 ghost use Rattle.hmr_hub.specs.Calls.{IsFirst, SameKnower};
 ghost use Rattle.hmr_hub.specs.Passes.{HasTranscript, IsPassOf, is_alone, number_of, seen_of};
 ghost use Rattle.core_model.specs.Roots.{AreRoots};
-ghost use Rattle.folder_server.specs.Causes.{IsEditCause};
+ghost use Rattle.folder_server.specs.Causes.{IsFirstCause};
 ghost use Rattle.folder_server.specs.Openings.{Opens};
 
 use crate::changes::changes_between;
@@ -61,7 +61,7 @@ pub(crate) fn open_folder<T: Tree, R: Threads + Wait + Sync>(
     ensures coming { OnOk result (T.coming tree.new ≡ option_map files_after (T.coming tree.old)) }
     ensures later { T.faults tree.old ≤ T.faults tree.new }
     ensures tree_fault { IsErrOf result ServeStop.Tree → Rose (T.faults tree.old) (T.faults tree.new) }
-    ensures cause { IfErr result (IsEditCause (T.coming tree.old) pass.new) }
+    ensures cause { IfErr result (IsFirstCause (T.coming tree.old) pass.new) }
 {
     let listing = scan(alloc, tree, folder)?;
     let none = Listing::new(alloc);

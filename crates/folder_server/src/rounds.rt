@@ -61,7 +61,7 @@ pub(crate) fn make_edits<T: Tree, R: Wait>(
     ensures no_other { MayOpen (T.asked tree.new) folder.now }
     ensures later { T.faults tree.old ≤ T.faults tree.new }
     ensures tree_fault { result ≡ Err ServeStop.Tree → Rose (T.faults tree.old) (T.faults tree.new) }
-    ensures cause { IfErr result (IsEditCause (T.coming tree.old) pass.new) }
+    ensures cause { IfErr result (IsEditCause pass.new) }
 {
     edit_rounds(
         rt, alloc, hub, pass, queue, jobs, editor, tree, folder, rounds, listing,
@@ -105,7 +105,7 @@ fn edit_rounds<T: Tree, R: Wait>(
     ensures no_other { MayOpen (T.asked tree.new) folder.now }
     ensures later { T.faults tree.old ≤ T.faults tree.new }
     ensures tree_fault { result ≡ Err ServeStop.Tree → Rose (T.faults tree.old) (T.faults tree.new) }
-    ensures cause { IfErr result (IsEditCause (T.coming tree.old) pass.new) }
+    ensures cause { IfErr result (IsEditCause pass.new) }
 {
     for _ in 0..rounds {
         let next = scan(alloc, tree, folder)?;

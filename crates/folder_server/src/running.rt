@@ -49,7 +49,8 @@ pub(crate) struct RunEnd {
 
 /// Begins the workers, the clients of the program's own and the sessions, makes the later edits, and
 /// finishes all jobs. After the first stop no further edit is made; the jobs that were begun are finished
-/// all the same. Where all went well, each name's last job has its result at the end. No run comes only for
+/// all the same. Where all went well, each name's last job has its result at the end. Each end that the net
+/// gave is given back to it, and after a refused `accept` or `connect` it gave none. No run comes only for
 /// want of memory, before anything was begun.
 pub(crate) fn run<
     F: FnOnce(Bag) -> Result<Ran, AllocError> + Drop + Send + 'static,
@@ -106,7 +107,7 @@ where
     ensures begun { IfOk result (λ r. OnOk r.ended (r.gathered.fault ≡ false → P.begun spawner.new
         ≡ plan.now.workers ∷ (plan.now.clients + plan.now.outside) ∷ plan.now.clients ∷ [])) }
     ensures memory { IfErr result (λ stop. stop ≡ ServeStop.NoMemory) }
-    ensures cause { IfOk result (λ r. IfErr r.ended (IsWorkCause (T.coming tree.old) pass.new)) }
+    ensures cause { IfOk result (λ r. IfErr r.ended (IsWorkCause pass.new)) }
     ensures finds { IfOk result (λ r. Finds r.gathered r.ended
         (N.faults net.old) (N.faults net.new) (P.faults spawner.old) (P.faults spawner.new)) }
     ensures tree_fault { IfOk result (λ r. r.ended ≡ Err ServeStop.Tree
@@ -115,6 +116,9 @@ where
         × (P.faults spawner.old ≤ P.faults spawner.new)
         × (T.faults tree.old ≤ T.faults tree.new) }
     ensures same_asked { (N.asked net.new ≡ N.asked net.old) × (N.heard net.new ≡ N.heard net.old) }
+    ensures ends { N.lent net.new ≡ N.lent net.old }
+    ensures stops { N.refused net.old ≡ false → N.late net.new ≡ N.late net.old }
+    ensures goes { IfOk result (λ r. OnOk r.ended (N.refused net.new ≡ N.refused net.old)) }
     ensures no_other { MayOpen (T.asked tree.new) folder.now }
     ensures hosts { All (All (IsHost F.post)) shelves.new }
 {
@@ -189,7 +193,7 @@ fn edit_to_the_end<T: Tree, R: Wait>(
     ensures later { T.faults tree.old ≤ T.faults tree.new }
     ensures tree_fault { result ≡ Err ServeStop.Tree → Rose (T.faults tree.old) (T.faults tree.new) }
     ensures fault { result ≡ Err ServeStop.Fault → begun ≡ Err Cause.Fault }
-    ensures cause { IfErr result (IsWorkCause (T.coming tree.old) pass.new) }
+    ensures cause { IfErr result (IsWorkCause pass.new) }
 {
     let edited = edit_all(
         rt, alloc, hub, pass, queue, jobs, editor, tree, folder, rounds, listing, script, begun,
@@ -243,7 +247,7 @@ fn edit_all<T: Tree, R: Wait>(
     ensures later { T.faults tree.old ≤ T.faults tree.new }
     ensures tree_fault { result ≡ Err ServeStop.Tree → Rose (T.faults tree.old) (T.faults tree.new) }
     ensures fault { result ≡ Err ServeStop.Fault → begun ≡ Err Cause.Fault }
-    ensures cause { IfErr result (IsWorkCause (T.coming tree.old) pass.new) }
+    ensures cause { IfErr result (IsWorkCause pass.new) }
 {
     begun?;
     make_edits(
@@ -287,7 +291,8 @@ fn settle_after<R: Wait>(
         → HaveLastResults pass.new (made_by editor.new)) }
     ensures well { OnOk result (IsOk ended) }
     ensures cause { IfErr result
-        (λ stop. ((ended ≡ Err stop) × (pass.new ≡ pass.old)) ⊎ IsSettleCause pass.new stop) }
+        (λ stop. ((ended ≡ Err stop) × (pass.new ≡ pass.old))
+        ⊎ (IsOk ended × IsSettleCause pass.new stop)) }
 {
     ended?;
     editor.settle_rest(rt, alloc, hub, pass)?;

@@ -1,5 +1,5 @@
 // The whole of a server: its folder is opened, it listens, runs, and writes its report.
-ghost use Rattle.std.specs.Prelude.{◌≡◌, ◌≤◌, ◌⊎◌, ◌+◌, ◌∷◌, [], ℕ, All, Err, None, Ok, OnOk, Some};
+ghost use Rattle.std.specs.Prelude.{◌≡◌, ◌≤◌, ◌⊎◌, ◌+◌, ◌∷◌, [], ℕ, All, Err, None, Ok, OnOk, Some, false};
 ghost use Rattle.hmr_base.specs.Causes.{Rose};
 ghost use Rattle.hmr_types.specs.declared.limits.TheConstants.{MESSAGE_BYTES};
 ghost use Rattle.core_model.specs.Roots.{AreRoots};
@@ -39,6 +39,7 @@ use transform_pool::JobQueue;
 /// and then those of the script, each of a name and a text of at most 16,777,216 bytes together. At the end
 /// all jobs are finished, what is left of results is settled, all ends are given back to the net, and the
 /// report is written with the lines of the program's own clients. The closures of the shelves are for these.
+/// After the net refused an end it is asked for no more, and where it did, the answer isn't Ok.
 ///
 /// [`ServeStop::Unwritten`], [`ServeStop::Tree`] and [`ServeStop::Fault`] come only where the count of
 /// faults of the output, of the tree, of the net or of the spawner rose in this call; [`ServeStop::Limit`]
@@ -81,7 +82,7 @@ where
     ensures wrote { ((port : ℕ) × (p : Pass) × (N.heard net.new ≡ Some port)
         × Served roots.items (T.coming tree.old) (edits_in script.items) plan.now.rounds result p
         × Wrote port p result (K.written out.old) (K.written out.new) (K.faults out.old) (K.faults out.new))
-        ⊎ (StopsEarly (T.coming tree.old) result
+        ⊎ (StopsEarly roots.items (T.coming tree.old) result
         × WroteEarly result (K.written out.old) (K.written out.new) (K.faults out.old) (K.faults out.new)) }
     ensures begun { OnOk result (P.begun spawner.new
         ≡ plan.now.workers ∷ (plan.now.clients + plan.now.outside) ∷ plan.now.clients ∷ []) }
@@ -90,6 +91,9 @@ where
     ensures fault { result ≡ Err ServeStop.Fault
         → Rose (N.faults net.old) (N.faults net.new) ⊎ Rose (P.faults spawner.old) (P.faults spawner.new) }
     ensures asked { (N.asked net.new ≡ None) ⊎ (N.asked net.new ≡ Some (Asked.Listen plan.now.port)) }
+    ensures ends { N.lent net.new ≡ N.lent net.old }
+    ensures stops { N.refused net.old ≡ false → N.late net.new ≡ N.late net.old }
+    ensures goes { OnOk result (N.refused net.new ≡ N.refused net.old) }
     ensures opened { MayOpen (T.asked tree.new) folder.now }
     ensures hosts { All (All (IsHost F.post)) shelves.new }
 {
@@ -157,7 +161,7 @@ where
     ensures wrote { ((port : ℕ) × (p : Pass) × (N.heard net.new ≡ Some port)
         × Served roots.items (T.coming tree.old) (edits_in script.items) plan.now.rounds result p
         × WroteReport port p result (K.written out.old) (K.written out.new))
-        ⊎ (StopsEarly (T.coming tree.old) result × (K.written out.new ≡ K.written out.old)) }
+        ⊎ (StopsEarly roots.items (T.coming tree.old) result × (K.written out.new ≡ K.written out.old)) }
     ensures begun { OnOk result (P.begun spawner.new
         ≡ plan.now.workers ∷ (plan.now.clients + plan.now.outside) ∷ plan.now.clients ∷ []) }
     ensures unwritten { result ≡ Err ServeStop.Unwritten → Rose (K.faults out.old) (K.faults out.new) }
@@ -166,6 +170,9 @@ where
     ensures fault { result ≡ Err ServeStop.Fault
         → Rose (N.faults net.old) (N.faults net.new) ⊎ Rose (P.faults spawner.old) (P.faults spawner.new) }
     ensures asked { (N.asked net.new ≡ None) ⊎ (N.asked net.new ≡ Some (Asked.Listen plan.now.port)) }
+    ensures ends { N.lent net.new ≡ N.lent net.old }
+    ensures stops { N.refused net.old ≡ false → N.late net.new ≡ N.late net.old }
+    ensures goes { OnOk result (N.refused net.new ≡ N.refused net.old) }
     ensures opened { MayOpen (T.asked tree.new) folder.now }
     ensures hosts { All (All (IsHost F.post)) shelves.new }
 {

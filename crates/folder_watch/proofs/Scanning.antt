@@ -4,7 +4,12 @@ use Rattle.std.specs.Prelude.{◌||◌, ◌&&◌, not, ◌⊎◌, is_some, IfSom
 use Rattle.std.specs.Cmp.Lexicographic.{same_text}
 use Rattle.std.proofs.lemmas.List.Folds.{list_any-append}
 use Rattle.hmr_types.specs.ModName.{is_name, is_text, parts}
-use Rattle.folders.specs.Files.{HasRead, has_file, rest_after, text_at}
+use Prim.{⊥}
+use Rattle.std.specs.Global.{Vec}
+use Rattle.folders.specs.declared.tree.Reading.{Reading}
+use Rattle.folders.specs.declared.tree.Reading.TheVariants.{Text, Gone}
+use Rattle.folders.specs.Files.{has_file, rest_after, text_at}
+use Rattle.folders.specs.Readings.{HasRead}
 use Rattle.folder_watch.specs.Scans.{AreOf, Covers, IsScanOf, Reaches, Takes, is_pending}
 use Rattle.folder_watch.specs.Watched.{are_looked_into, ends_in_js, is_watched, watched_text}
 use Rattle.folder_watch.proofs.Watching.{watched_from}
@@ -172,9 +177,17 @@ module _ (files : Files) where
   takes_none path old h = record { are = λ a. a; found = λ other f. f; taken = h }
 
 -- what was read of a file that is told
-pub told_text : (told : Option Files) (files : Files) (at path : List ℕ) (limit : ℕ) (got : Option (List ℕ)) (text : List ℕ) → told ≡ Some files
-    → IfSome told (λ fs. HasRead fs at limit got) → at ≡ path → got ≡ Some text → text_at files path ≡ Some text
+pub told_text : (told : Option Files) (files : Files) (at path : List ℕ) (limit : ℕ) (got : Reading) (text : Vec ℕ) → told ≡ Some files
+    → IfSome told (λ fs. HasRead fs at limit got) → at ≡ path → got ≡ Text text → text_at files path ≡ Some text.items
 told_text told files at path limit got text e h p g = ap (text_at files) (sym p) ∙ read (subst (λ o. IfSome o (λ fs. HasRead fs at limit got)) e h)
   where
-    read : HasRead files at limit got → text_at files at ≡ Some text
-    read h = subst (λ o. HasRead files at limit o) g h
+    read : HasRead files at limit got → text_at files at ≡ Some text.items
+    read h = subst (λ r. HasRead files at limit r) g h
+
+-- a file that is told isn't gone
+pub told_gone : {X : Type 0} (told : Option Files) (files : Files) (at : List ℕ) (limit : ℕ) (got : Reading) → told ≡ Some files
+    → IfSome told (λ fs. HasRead fs at limit got) → got ≡ Gone → X
+told_gone told files at limit got e h g = absurd (read (subst (λ o. IfSome o (λ fs. HasRead fs at limit got)) e h))
+  where
+    read : HasRead files at limit got → ⊥
+    read h = subst (λ r. HasRead files at limit r) g h

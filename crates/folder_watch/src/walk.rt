@@ -19,7 +19,7 @@ ghost use Rattle.folder_watch.specs.Watched.{is_kept, is_open, is_passed};
 
 use crate::folder::Folder;
 use crate::{Listing, ScanStop};
-use folders::{Entry, Node, Tree};
+use folders::{Entry, Node, Reading, Tree};
 use hmr_types::limits::{SOURCE_NAMES, TEXT_BYTES};
 use hmr_types::{ModName, NameFault, is_name};
 use std::alloc::{AllocError, Global};
@@ -29,7 +29,8 @@ const LEVELS: usize = 256;
 
 /// The modules of a folder: the files below it whose names end in `.js`, with their texts. A name that no
 /// module may have is passed over, with all below it, and so are folders that begin with a dot and those
-/// named `node_modules`. Of files with one name the first that the scan meets counts.
+/// named `node_modules`. Of files with one name the first that the scan meets counts, and a file that is
+/// gone when it is read is no module.
 ///
 /// `TreeFault` comes only where the tree's count of faults rose in this call, `NoMemory` where memory ran
 /// out, and the others where the folder passes a limit. The time is linear in the listings and in the
@@ -261,8 +262,11 @@ fn take_file<T: Tree>(
     if found.text(&name).is_some() {
         return Ok(());
     }
-    let Some(text) = tree.read(alloc, &file, TEXT_BYTES)? else {
-        return Err(ScanStop::TextTooLong(name));
+    let text = match tree.read(alloc, &file, TEXT_BYTES)? {
+        Reading::Text(text) => text,
+        Reading::TooLong => return Err(ScanStop::TextTooLong(name)),
+        // It was removed since it was listed; the next look doesn't list it.
+        Reading::Gone => return Ok(()),
     };
     found.add(name, text)?;
     if found.len() > SOURCE_NAMES {

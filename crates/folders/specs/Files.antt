@@ -1,7 +1,7 @@
 -- The files of a folder: each path, from the folder on and beginning with a slash, with its bytes. Of a
 -- path that stands twice the first counts.
-use Rattle.std.specs.Prelude.{◌≡◌, ◌<◌, [], ◌∷◌, ◌++◌, ◌==◌, ◌⊎◌}
-use Rattle.std.specs.Prelude.{ℕ, List, length, Bool, false, cond, not, Option, Some, None, is_some}
+use Rattle.std.specs.Prelude.{◌≡◌, [], ◌∷◌, ◌++◌, ◌==◌, ◌⊎◌}
+use Rattle.std.specs.Prelude.{ℕ, List, Bool, false, cond, not, Option, Some, None, is_some}
 use Rattle.std.specs.Map.{lookup}
 use Rattle.hmr_types.specs.ModName.{slash, is_text}
 
@@ -27,11 +27,6 @@ has_file files path = is_some (text_at files path)
 abbrev pub is_gone : Option (List (List ℕ × List ℕ)) → List ℕ → Bool
 is_gone None path = false
 is_gone (Some files) path = not (has_file files path)
-
--- what reading a file with a limit gives: its bytes, and None exactly where they are more
-abbrev pub HasRead : List (List ℕ × List ℕ) → List ℕ → ℕ → Option (List ℕ) → Type 0
-HasRead files path limit (Some text) = text_at files path ≡ Some text
-HasRead files path limit None = (text : List ℕ) × (text_at files path ≡ Some text) × (limit < length text)
 
 -- each open names the same folder
 abbrev pub MayOpen : Option (List ℕ) → List ℕ → Type 0

@@ -1,3 +1,4 @@
 pub mod Files
+pub mod Readings
 pub mod Entries
 pub mod Memory

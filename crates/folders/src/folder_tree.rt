@@ -6,7 +6,7 @@ ghost use Rattle.hmr_base.specs.Causes.{Rose};
 ghost use Rattle.outside_calls.specs.Causes.{HasOutCause, is_failed};
 ghost use Rattle.outside_calls.specs.declared.out_fault.OutFault.{OutFault};
 
-use crate::{Entry, Node, OutFault, Tree};
+use crate::{Entry, Node, OutFault, Reading, Tree};
 use hmr_base::{ReadFault, StdSource, read_all};
 use std::alloc::{AllocError, Global};
 use std::fs::{DirEntry, File};
@@ -33,7 +33,8 @@ pub struct FolderFile {
 }
 
 /// A folder of the file system. Links to files are read and links to folders aren't followed; names that
-/// aren't UTF-8, and what is neither file nor folder, are left out.
+/// aren't UTF-8, and what is neither file nor folder, are left out. A file that was removed since it was
+/// listed is gone, and so is a link that leads nowhere.
 ///
 /// Each `open` but the first waits until a look at the folders that were listed since the `open` before it
 /// shows a name, a length or a time of change that wasn't listed, and for at most a minute. It doesn't wait
@@ -191,14 +192,15 @@ impl<R: Files + AllocGlobal + Wait + Clone + Drop> Tree for FolderTree<R> {
         alloc: Global,
         file: &FolderFile,
         limit: usize,
-    ) -> Result<Option<Vec<u8>>, OutFault> {
+    ) -> Result<Reading, OutFault> {
         let opened = match File::open(&self.rt, &file.path) {
             Ok(opened) => opened,
+            Err(error) if error.kind() == ErrorKind::NotFound => return Ok(Reading::Gone),
             Err(error) => return Err(self.fault(error)),
         };
         match read_all(alloc, &mut StdSource::new(opened), limit) {
-            Ok(text) => Ok(Some(text)),
-            Err(ReadFault::TooLong) => Ok(None),
+            Ok(text) => Ok(Reading::Text(text)),
+            Err(ReadFault::TooLong) => Ok(Reading::TooLong),
             Err(ReadFault::Failed) => Err(self.fail()),
             Err(ReadFault::NoMemory) => Err(OutFault::NoMemory),
         }
@@ -228,7 +230,7 @@ fn look<R: Files + AllocGlobal + Clone + Drop>(
 }
 
 // What a name in a folder stands for, or None where it is gone by now or stands for neither. A link that
-// leads nowhere is a file, which can't be read.
+// leads nowhere is a file that is gone.
 fn state_of<R: Files + AllocGlobal + Clone + Drop>(
     rt: &R,
     entry: &DirEntry<R, Global>,

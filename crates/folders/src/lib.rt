@@ -17,4 +17,4 @@ mod tree;
 pub use folder_tree::{FolderDir, FolderFile, FolderTree};
 pub use mem_tree::{MemDir, MemFile, MemPlace, MemTree};
 pub use outside_calls::OutFault;
-pub use tree::{Entry, Node, Tree};
+pub use tree::{Entry, Node, Reading, Tree};

@@ -7,13 +7,14 @@ ghost use Rattle.std.specs.List.{list_any};
 ghost use Rattle.std.specs.Option.{option_map, option_copied};
 ghost use Rattle.hmr_base.specs.Plans.{faults_of, fresh_plan, plan_of};
 ghost use Rattle.folders.specs.Entries.{IsListed, has_slash, is_there, leads_to, path_of};
-ghost use Rattle.folders.specs.Files.{HasRead, below, files_after, has_file};
+ghost use Rattle.folders.specs.Files.{below, files_after, has_file};
 ghost use Rattle.folders.specs.Files.{next_files, rest_after, text_at};
 ghost use Rattle.folders.specs.Memory.{IfDir, IfFile, IsEntryFor, IsOneMore, dir_path_of, file_path_of};
 ghost use Rattle.folders.specs.Memory.{files_to_come, held_by, open_files, told_file};
+ghost use Rattle.folders.specs.Readings.{HasRead};
 ghost use Rattle.hmr_types.specs.ModName.{is_text};
 
-use crate::{Entry, Node, OutFault, Tree};
+use crate::{Entry, Node, OutFault, Reading, Tree};
 use hmr_base::FaultPlan;
 use std::alloc::{AllocError, Global};
 use std::collections::VecDeque;
@@ -130,17 +131,12 @@ impl Tree for MemTree {
         Ok(entries_of(alloc, self.files(), &dir.path)?)
     }
 
-    fn read(
-        &mut self,
-        alloc: Global,
-        file: &MemPlace,
-        limit: usize,
-    ) -> Result<Option<Vec<u8>>, OutFault> {
+    fn read(&mut self, alloc: Global, file: &MemPlace, limit: usize) -> Result<Reading, OutFault> {
         self.plan.begin()?;
         match find(self.files(), &file.path) {
             None => Err(OutFault::from(self.plan.fail())),
-            Some(text) if text.len() > limit => Ok(None),
-            Some(text) => Ok(Some(Vec::from_slice(alloc, text)?)),
+            Some(text) if text.len() > limit => Ok(Reading::TooLong),
+            Some(text) => Ok(Reading::Text(Vec::from_slice(alloc, text)?)),
         }
     }
 }

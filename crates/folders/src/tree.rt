@@ -1,12 +1,13 @@
 // A folder and all below it. Contracts see which folder was asked for, how often a call failed and, where
 // the tree tells them, the files that the folder has: each path, from the folder on, with its bytes.
-ghost use Rattle.std.specs.Prelude.{◌≡◌, ◌≤◌, [], List, ℕ, Option, Some, false, length};
+ghost use Rattle.std.specs.Prelude.{◌≡◌, ◌≤◌, [], List, ℕ, Option, Some, false};
 ghost use Rattle.std.specs.Prelude.{IfOk, IfSome, OnOk, OnErr, MatchOption, IfNone};
 ghost use Rattle.std.specs.Option.{option_map};
 ghost use Rattle.outside_calls.specs.Causes.{HasOutCause, is_failed};
 ghost use Rattle.hmr_base.specs.Plans.{AsPlanned, Plan};
 ghost use Rattle.folders.specs.Entries.{IsListed};
-ghost use Rattle.folders.specs.Files.{HasRead, MayOpen, files_after, is_gone, next_files};
+ghost use Rattle.folders.specs.Files.{MayOpen, files_after, is_gone, next_files};
+ghost use Rattle.folders.specs.Readings.{HasRead, IsWithin};
 
 use crate::OutFault;
 use std::alloc::Global;
@@ -27,6 +28,17 @@ pub struct Entry<D, F> {
     pub name: String,
     /// The folder or the file of this name.
     pub node: Node<D, F>,
+}
+
+/// What reading a file gives.
+#[derive(Debug, Drop)]
+pub enum Reading {
+    /// Its bytes.
+    Text(Vec<u8>),
+    /// It has more bytes than the limit.
+    TooLong,
+    /// It was listed, and is gone by now.
+    Gone,
 }
 
 /// A folder and all below it.
@@ -84,21 +96,15 @@ pub trait Tree {
         ensures cause { HasOutCause (faults self.old) (faults self.new) result }
         ensures planned { AsPlanned (plan self.old) (plan self.new) (is_failed result) false };
 
-    /// The bytes of a file, or None where it has more than `limit` bytes. What is given has at most `limit`
-    /// bytes.
+    /// The bytes of a file, where it has at most `limit` bytes and is still there. A tree that tells its
+    /// files never says that one is gone: there a file that isn't among them is a fault.
     ///
-    /// `Failed` comes only where the count of faults rose in this call, as for a file that is gone, and
-    /// `NoMemory` where memory ran out.
-    fn read(
-        &mut self,
-        alloc: Global,
-        file: &Self::File,
-        limit: usize,
-    ) -> Result<Option<Vec<u8>>, OutFault>
-        ensures bound { IfOk result (λ got. IfSome got (λ text. length text.items ≤ limit)) }
+    /// `Failed` comes only where the count of faults rose in this call, and `NoMemory` where memory ran out.
+    fn read(&mut self, alloc: Global, file: &Self::File, limit: usize) -> Result<Reading, OutFault>
+        ensures bound { IfOk result (IsWithin limit) }
         ensures told { IfOk result
-            (λ got. IfSome (files self.old)
-            (λ files. HasRead files (file_path file.now) limit (option_map (λ text. text.items) got))) }
+            (λ reading. IfSome (files self.old)
+            (λ files. HasRead files (file_path file.now) limit reading)) }
         ensures asked { asked self.new ≡ asked self.old }
         ensures files { files self.new ≡ files self.old }
         ensures coming { coming self.new ≡ coming self.old }

@@ -159,23 +159,30 @@ module _ (p q : Pass) where
 
   -- what a call leaves as it was
   pub same_knower : mark_of q ≡ mark_of p → number_of q ≡ number_of p → lock.SameKnower (pass_view p.pass) (pass_view q.pass) → SameKnower p q
-  same_knower mark number s = record { mark = mark; number = number; known = s.known; alone = s.alone; given = s.all_given; roots = ap roots_in s.opening }
+  same_knower mark number s = record { mark = mark; number = number; known = s.known; alone = s.alone; given = s.all_given; numbers = s.given; roots = ap roots_in s.opening }
 
   -- what a split leaves as it was
   pub same_seen : mark_of q ≡ mark_of p → number_of q ≡ number_of p → lock.SameSeen (pass_view p.pass) (pass_view q.pass) → SameSeen p q
   same_seen mark number s = record { mark = mark; number = number; known = s.known; seen = ap transcript_of s.seen; alone = s.alone; roots = ap roots_in s.opening }
 
   -- a pass that was split off
-  pub half : mark_of q ≡ mark_of p → (0 < number_of q) × (number_of q < most_numbers) → pass_view q.pass ≡ numbered (new_half (pass_view p.pass)) (number_of q) → IsHalf p q
-  half mark range told = record {
-    mark = mark;
-    least = range.0;
-    most = range.1;
-    known = ap (λ (v : View Recording Asked). v.known) told;
-    seen = ap (λ (v : View Recording Asked). transcript_of v.seen) told;
-    alone = ap (λ (v : View Recording Asked). v.alone) told;
-    roots = ap (λ (v : View Recording Asked). roots_in v.opening) told;
-  }
+  pub half : mark_of q ≡ mark_of p → (0 < number_of q) × (number_of q < most_numbers) → pass_view q.pass ≡ new_half (numbered (pass_view p.pass) (number_of q))
+      → lock.IsFresh (pass_view p.pass) (number_of q) → IsHalf p q
+  half mark range told fresh =
+      let seen : seen_of q ≡ seen_of p = ap (λ (v : View Recording Asked). transcript_of v.seen) told in record {
+        mark = mark;
+        least = range.0;
+        most = range.1;
+        above = fresh.known;
+        later = fresh.given;
+        unused = ap (λ entries. calls (number_of q ∷ []) entries) seen
+            ∙ (calls_transcript (number_of q ∷ []) (pass_view p.pass).seen ∙ ap transcript_of fresh.unused);
+        given = ap (λ (v : View Recording Asked). v.given) told;
+        known = ap (λ (v : View Recording Asked). v.known) told;
+        seen = seen;
+        alone = ap (λ (v : View Recording Asked). v.alone) told;
+        roots = ap (λ (v : View Recording Asked). roots_in v.opening) told;
+      }
 
 -- the first pass of a lock round this value
 pub first : (p : Pass) (value : Recording) → pass_view p.pass ≡ first_view value → number_of p ≡ 0 → IsFirst value.roots p
@@ -220,6 +227,7 @@ module _ (p o q : Pass) where
         number = number;
         alone = j.alone;
         given = j.all_given;
+        numbers = j.given;
         roots = ap roots_in j.opening;
       }
 

@@ -1,6 +1,6 @@
 -- What a call, a split and a join of passes leave, as their callers are told.
-use Rattle.std.specs.Prelude.{◌≡◌, ◌≢◌, ◌<◌, ◌↔◌, ◌⊎◌, ◌||◌, ◌+◌, [], ◌∷◌, ◌++◌}
-use Rattle.std.specs.Prelude.{ℕ, Bool, true, false, List, length, Result, IfOk, IsErrOf}
+use Rattle.std.specs.Prelude.{◌≡◌, ◌≢◌, ◌<◌, ◌≤◌, ◌↔◌, ◌⊎◌, ◌||◌, ◌+◌, [], ◌∷◌, ◌++◌}
+use Rattle.std.specs.Prelude.{ℕ, Bool, true, false, List, length, max, Result, IfOk, IsErrOf}
 use Rattle.core_model.specs.Names.{Name}
 use Rattle.core_model.specs.Core.{Event}
 use Rattle.core_model.specs.Transcript.{Recorded, reply_after}
@@ -11,7 +11,8 @@ use Rattle.server_core.specs.Said.{IsWritten, said}
 use Rattle.turn_lock.specs.Histories.{Past, calls, has}
 use Rattle.turn_lock.specs.Views.{most_numbers}
 use Rattle.hmr_hub.specs.declared.pass.Pass.{Pass}
-use Rattle.hmr_hub.specs.Passes.{all_given, is_alone, known_of, mark_of, number_of, roots_of, seen_of}
+use Rattle.hmr_hub.specs.Passes.{all_given, given_of, is_alone, known_of, mark_of, number_of}
+use Rattle.hmr_hub.specs.Passes.{roots_of, seen_of}
 use Rattle.hmr_hub.specs.Transcripts.{is_full, recorded}
 
 -- the first pass of a hub with these roots
@@ -30,6 +31,7 @@ pub record SameKnower (p q : Pass) : Type 0 where
   pub known : known_of q ≡ known_of p
   pub alone : is_alone q ≡ is_alone p
   pub given : all_given q ≡ all_given p
+  pub numbers : given_of q ≡ given_of p
   pub roots : roots_of q ≡ roots_of p
 
 -- An event by a pass. The transcript begins with all that the pass had seen, goes on with entries under
@@ -63,11 +65,17 @@ pub record SameSeen (p q : Pass) : Type 0 where
   pub alone : is_alone q ≡ false
   pub roots : roots_of q ≡ roots_of p
 
--- a pass that was split off another: it has seen as much, and has a number of its own, above 0
+-- a pass that was split off another: it has seen as much, and has a number of its own, above 0, which no
+-- pass had before: it is above each that the other knows or gave in an earlier split, and no entry that was
+-- seen is under it
 pub record IsHalf (p half : Pass) : Type 0 where
   pub mark : mark_of half ≡ mark_of p
   pub least : 0 < number_of half
   pub most : number_of half < most_numbers
+  pub above : (k : ℕ) → has k (known_of p) ≡ true → k < number_of half
+  pub later : given_of p ≤ number_of half
+  pub unused : calls (number_of half ∷ []) (seen_of half) ≡ []
+  pub given : given_of half ≡ number_of half + 1
   pub known : known_of half ≡ number_of half ∷ []
   pub seen : seen_of half ≡ seen_of p
   pub alone : is_alone half ≡ false
@@ -95,4 +103,5 @@ pub record Joined (p o q : Pass) : Type 0 where
   pub number : number_of q ≡ number_of p
   pub alone : is_alone q ≡ false
   pub given : all_given q ≡ (all_given p || all_given o)
+  pub numbers : given_of q ≡ max (given_of p) (given_of o)
   pub roots : roots_of q ≡ roots_of p

@@ -41,6 +41,10 @@ is_alone p = (lock.pass_view p.pass).alone
 abbrev pub all_given : Pass → Bool
 all_given p = (lock.pass_view p.pass).all_given
 
+-- how many numbers it knows to be given: one that is given later is that or above
+abbrev pub given_of : Pass → ℕ
+given_of p = (lock.pass_view p.pass).given
+
 -- the server's roots
 abbrev pub roots_of : Pass → List Name
 roots_of p = roots_in (lock.pass_view p.pass).opening

@@ -1,5 +1,5 @@
 // What is done with a hub: it is made, called in turn by passes, and passes are split and joined.
-ghost use Rattle.std.specs.Prelude.{◌≡◌, ◌<◌, ◌≤◌, ◌↔◌, [], IfOk, IsErrOf, false, length, true};
+ghost use Rattle.std.specs.Prelude.{◌≡◌, ◌<◌, ◌≤◌, ◌↔◌, ◌+◌, [], IfOk, IsErrOf, false, length, true};
 ghost use Rattle.hmr_types.specs.declared.limits.TheConstants.{ROOTS};
 ghost use Rattle.core_model.specs.Roots.{AreRoots, are_distinct};
 ghost use Rattle.server_core.specs.Kept.{StandsFor};
@@ -8,7 +8,8 @@ ghost use Rattle.server_core.specs.declared.event.NewFault.TheVariants.{Duplicat
 ghost use Rattle.server_core.specs.declared.event.NewFault.TheVariants.{TooManyRoots};
 ghost use Rattle.hmr_hub.specs.Calls.{Called, IsFirst, IsHalf, Joined, Looked, SameKnower, SameSeen};
 ghost use Rattle.hmr_hub.specs.Outcomes.{IsOutstandingTold, IsReported, IsTold};
-ghost use Rattle.hmr_hub.specs.Passes.{HasTranscript, IsPassOf, all_given, number_of, roots_of, seen_of};
+ghost use Rattle.hmr_hub.specs.Passes.{HasTranscript, IsPassOf, all_given, given_of, number_of};
+ghost use Rattle.hmr_hub.specs.Passes.{roots_of, seen_of};
 ghost use Rattle.hmr_hub.specs.Reports.{report_of};
 ghost use Rattle.hmr_hub.specs.Transcripts.{HasVersion, is_outstanding, may_make};
 ghost use Rattle.hmr_hub.specs.declared.answer.Answer.TheVariants as answer;
@@ -85,14 +86,17 @@ impl Hub {
         told(self.lock.call(rt, &mut pass.pass, question))
     }
 
-    /// Splits a pass off another: it has seen as much, and has a number of its own, which nobody had before.
-    /// [`SplitFault::Spent`] comes exactly where all numbers were given; the pass shows that then, and is
-    /// answered so again. It takes no memory; it waits only while other splits come between.
+    /// Splits a pass off another: it has seen as much, and has a number of its own, which nobody had before:
+    /// it is above each number that the pass, or one that was joined into it, knows or gave in an earlier
+    /// split, and no entry that was seen is under it. [`SplitFault::Spent`] comes exactly where all numbers
+    /// were given; the pass shows that then, and is answered so again. It takes no memory; it waits only
+    /// while other splits come between.
     pub fn split<R: Wait>(&self, rt: &R, pass: &mut Pass) -> Result<Pass, SplitFault>
         requires { IsPassOf self.now pass.old }
         ensures pass { IsPassOf self.now pass.new }
         ensures same { SameSeen pass.old pass.new }
         ensures half { IfOk result (IsHalf pass.old) }
+        ensures given { IfOk result (λ half. given_of pass.new ≡ number_of half + 1) }
         ensures transcript { HasTranscript pass.old → IfOk result HasTranscript }
         ensures spent { IsErrOf result SplitFault.Spent ↔ (all_given pass.new ≡ true) }
         ensures again { all_given pass.old ≡ true → IsErrOf result SplitFault.Spent }
@@ -103,8 +107,9 @@ impl Hub {
 
     /// Joins another pass of this hub into a pass. The transcript that one of them has seen begins the
     /// other's; the longer stays. The pass that remains knows the numbers of both, and past what either had
-    /// seen there is no entry under a number which that one knew: so it has all their entries, each once. It
-    /// takes no memory and doesn't wait.
+    /// seen there is no entry under a number which that one knew: so it has all their entries, each once. A
+    /// pass that is split off it later has a number above all that either knew or gave. It takes no memory
+    /// and doesn't wait.
     pub fn join(&self, into: &mut Pass, other: Pass)
         requires into { IsPassOf self.now into.old }
         requires other { IsPassOf self.now other }

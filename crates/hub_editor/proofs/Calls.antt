@@ -1,6 +1,6 @@
 -- What one call of the hub is to the editor.
 use Rattle.std.proofs.Common.{◌≡◌, ◌≢◌, ◌≤◌, ◌<◌, List, [], ◌∷◌, ◌++◌, length, refl, ap, sym, ◌∙◌, subst, append_assoc, arith}
-use Rattle.std.specs.Prelude.{All, OnErr, Result, Ok, Err, if◌then◌else◌}
+use Rattle.std.specs.Prelude.{All, IfErr, OnErr, Result, Ok, Err, is_ok, true, false, if◌then◌else◌}
 use Rattle.std.proofs.lemmas.List.{append-nil, append_cancel_left, append_cancel_right, length-append}
 use Rattle.std.proofs.lemmas.List.Elements.{All-cons, All-head, All-nil, All-tail}
 use Rattle.hmr_types.specs.declared.limits.TheConstants.{LARGEST_NUMBER, MESSAGE_BYTES}
@@ -14,16 +14,16 @@ use Rattle.module_semantics.specs.Analysis.{transformed}
 use Rattle.module_semantics.specs.ModuleText.{parsing}
 use Rattle.core_model.specs.Sources.{edit_answer, result}
 use Rattle.core_model.specs.Core.{Event, change}
-use Rattle.core_model.specs.Transcript.{IsTrueEvent, Recorded, event_bytes, events_of}
+use Rattle.core_model.specs.Transcript.{IsTrueEvent, Recorded, event_bytes, events_of, reply_after}
 use Rattle.server_core.specs.declared.event.Reply.{Reply}
-use Rattle.server_core.specs.Said.{edit_said}
+use Rattle.server_core.specs.Said.{edit_said, said as core_said}
 use Rattle.turn_lock.specs.Histories.{calls, has}
 use Rattle.turn_lock.proofs.Histories.{calls_append}
 use Rattle.hmr_hub.specs.declared.pass.Pass.{Pass}
 use Rattle.hmr_hub.specs.Calls.{Called, Looked, SameKnower}
 use Rattle.hmr_hub.specs.Passes.{HasTranscript, is_alone, known_of, number_of, roots_of, seen_of}
 use Rattle.hmr_hub.specs.Transcripts.{recorded}
-use Rattle.hub_moves.specs.Moves.{KnowsOwn, Moved}
+use Rattle.hub_moves.specs.Moves.{KnowsOwn, Moved, own_of}
 use Rattle.hub_moves.specs.Answered.{Answered}
 use Rattle.hub_moves.proofs.Moves.{moved_called, moved_looked, moved_none, moved_then}
 use Rattle.hub_moves.proofs.Answers.{answered_called}
@@ -31,7 +31,7 @@ use Rattle.hub_moves.proofs.Fullness.{nearly_full_called}
 use Rattle.transform_pool.specs.Tasks.{Task}
 use Rattle.hub_editor.specs.declared.stop.EditStop.{EditStop}
 use Rattle.hub_editor.specs.declared.stop.EditStop.TheVariants as stop
-use Rattle.hub_editor.specs.Causes.{HasRefused, IsCause}
+use Rattle.hub_editor.specs.Causes.{HasRefused, IsCause, IsRoomStop, IsStopBy}
 use Rattle.hub_editor.specs.Edits.{Answer, Edit, IsEditReply, Made, counted_by, edit_entry, edit_event, edit_of, reply_of}
 use Rattle.hub_editor.specs.Results.{last_in, result_entry, result_event, sources_in}
 use Rattle.hub_editor.specs.Editing.{IsAnswered, Settled, Told, Went}
@@ -114,6 +114,15 @@ module _ (p q : Pass) (event : Event) (result : Result Reply HubStop) (zero : nu
       ∙ last_others (seen_of p) c.past.rest n quiet_rest
       (may_rest (seen_of p) c.past.rest (may_front (seen_of p ++ c.past.rest) (recorded 0 event result) (subst (λ es. All IsMade es) seen_all t.edits)))
 
+  -- nor anything else under the editor's number
+  pub own_before : calls (number_of q ∷ []) c.before ≡ own_of p
+  own_before =
+      ap (λ k. calls (k ∷ []) c.before) (same.number ∙ zero)
+      ∙ (ap (λ es. calls (0 ∷ []) es) c.past.whole
+      ∙ (calls_append (0 ∷ []) (seen_of p) c.past.rest
+      ∙ (ap (λ es. calls (0 ∷ []) (seen_of p) ++ es) quiet_rest
+      ∙ (append-nil (calls (0 ∷ []) (seen_of p)) ∙ ap (λ k. calls (k ∷ []) (seen_of p)) (sym zero)))))
+
   pub moved_so : Moved p q (recorded 0 event result)
   moved_so = subst (λ k. Moved p q (recorded k event result)) zero (moved_called p q event result same c)
 
@@ -127,6 +136,13 @@ module _ (p q : Pass) (zero : number_of p ≡ 0) (same : SameKnower p q) (t : Ha
       record {
         moved = moved_so p q event (Ok (reply_of answer)) zero same t c;
         answered = subst (λ k. Answered (roots_of q) (seen_of q) k event (reply_of answer)) zero (subst (λ roots. Answered roots (seen_of q) (number_of p) event (reply_of answer)) (sym same.roots) (answered_called p q event (reply_of answer) c));
+        placed = record {
+          before = c.before;
+          after = [];
+          whole = seen;
+          own_are = own_before p q event (Ok (reply_of answer)) zero same t c;
+          reply_is = ap (λ roots. core_said (reply_after roots c.before event)) same.roots ∙ c.reply;
+        };
         sources = λ n.
             ap (λ es. last_in es n) seen
             ∙ (last_edited c.before e answer n said
@@ -180,6 +196,19 @@ pub cause_called : (p q : Pass) (event : Event) (stopped : HubStop) (ended : Edi
 cause_called p q event hub.TranscriptFull ended c short from = subst (λ x. IsCause q x) (sym (from.0 refl)) (nearly_full_called p q event c short)
 cause_called p q event hub.NoMemory ended c short from = subst (λ x. IsCause q x) (sym (from.1 refl)) tt
 
+-- that is for want of a place or of memory
+pub room_called : (stopped : HubStop) (ended : EditStop) → (stopped ≡ hub.TranscriptFull → ended ≡ stop.Full) × (stopped ≡ hub.NoMemory → ended ≡ stop.NoMemory) → IsRoomStop ended
+room_called hub.TranscriptFull ended from = subst IsRoomStop (sym (from.0 refl)) tt
+room_called hub.NoMemory ended from = subst IsRoomStop (sym (from.1 refl)) tt
+
+pub room_by : (a : Answer) (ended : EditStop) → is_ok a ≡ true → IsRoomStop ended → IsStopBy a ended
+room_by (Ok outcome) ended ok h = h
+room_by (Err refusal) ended ok h = absurd (let z : false ≡ true = ok in cc)
+
+pub room_err : {T : Type 0} (r : Result T EditStop) (a : Answer) → is_ok a ≡ true → IfErr r IsRoomStop → IfErr r (IsStopBy a)
+room_err (Ok x) a ok h = tt
+room_err (Err ended) a ok h = room_by a ended ok h
+
 -- why an edit was refused
 pub cause_refused : (p : Pass) (m : Made) (refusal : EditRefusal) (ended : EditStop) → IsAnswered p m → m.answer ≡ Err refusal → refusal ≢ NumbersSpent
     → (refusal ≡ TextTooLong → ended ≡ stop.Text) → (refusal ≡ TooManyNames → ended ≡ stop.Names) → (refusal ≡ SourceTotal → ended ≡ stop.Sources) → IsCause p ended
@@ -206,6 +235,7 @@ knower_then p q r h k = record {
   known = k.known ∙ h.known;
   alone = k.alone ∙ h.alone;
   given = k.given ∙ h.given;
+  numbers = k.numbers ∙ h.numbers;
   roots = k.roots ∙ h.roots;
 }
 
@@ -213,4 +243,4 @@ pub knows_same : (p q : Pass) → SameKnower p q → KnowsOwn p → KnowsOwn q
 knows_same p q same k = ap (λ n. has n (known_of q)) same.number ∙ (ap (λ ks. has (number_of p) ks) same.known ∙ k)
 
 pub knower_self : (p : Pass) → SameKnower p p
-knower_self p = record { mark = refl; number = refl; known = refl; alone = refl; given = refl; roots = refl }
+knower_self p = record { mark = refl; number = refl; known = refl; alone = refl; given = refl; numbers = refl; roots = refl }

@@ -18,7 +18,7 @@ use Rattle.hmr_hub.specs.declared.pass.Pass.{Pass}
 use Rattle.hmr_hub.specs.Calls.{SameKnower}
 use Rattle.hmr_hub.specs.Passes.{HasTranscript, roots_of, seen_of}
 use Rattle.hmr_hub.specs.Transcripts as hub
-use Rattle.hub_moves.specs.Moves.{Moved}
+use Rattle.hub_moves.specs.Moves.{Moved, own_of}
 use Rattle.hub_editor.specs.declared.worked.Worked.TheVariants.{AtEnd}
 use Rattle.hub_editor.specs.Edits.{Answer, Edit, Made, edit_of, jobs_from, jobs_of, last_of, reply_of}
 use Rattle.hub_editor.specs.Results.{HasOwnResults, HasResult, last_in, sources_in}
@@ -26,7 +26,7 @@ use Rattle.hub_editor.specs.Editing.{Edited, HaveLastResults, IsAnswered, SameEd
 use Rattle.hub_editor.proofs.Finding.{result_there}
 use Rattle.hub_editor.proofs.Lasting.{IsTexted, last_anyhow, last_is_one, last_same}
 use Rattle.hub_editor.proofs.LookingBack.{said_edit}
-use Rattle.hub_editor.proofs.Steps.{all_at, result_moved, step_jobs, step_moved}
+use Rattle.hub_editor.proofs.Steps.{all_at, answered_all, result_moved, step_jobs, step_moved}
 
 -- A removal brings no job.
 
@@ -71,7 +71,7 @@ rest_step p q r first made i m n below read edits x step resulted h =
 -- all of them
 pub rest_all : (p q : Pass) (first made : List Made) → SameEdits first made → Edited p q made → All (HasLast (seen_of q) first) made → HaveLastResults q made
 rest_all p q first made edits x h = λ work last.
-    let o = last_is_one made work.name (work.ver, work.text) (all_texted q made x.answered) last in
+    let o = last_is_one made work.name (work.ver, work.text) (all_texted q made (answered_all q (own_of p) made x.answered)) last in
     all_at (HasLast (seen_of q) first) o.front o.back o.one (subst (λ ms. All (HasLast (seen_of q) first) ms) o.whole h) work o.jobs (sym (last_same first made None work.name edits) ∙ last)
 
 named : (e : Edit) (a : Answer) (work : Task) → jobs_from e a ≡ work ∷ [] → work.name ≡ e.0

@@ -1,7 +1,7 @@
 -- The edits of an editor, one after another, and the jobs that it works itself.
 use Rattle.std.proofs.Common.{◌≡◌, inl, inr, ◌<◌, ◌+◌, ℕ, suc, Bool, true, false, List, [], ◌∷◌, ◌++◌, length, map, take, drop, get_or, refl, ap, sym, ◌∙◌, subst, append_assoc, arith}
 use Prim.{⊥}
-use Rattle.std.specs.Prelude.{◌&&◌, All, flat_map, Some, None, Ok, Err, if◌then◌else◌}
+use Rattle.std.specs.Prelude.{◌&&◌, All, IfErr, Result, flat_map, Some, None, Ok, Err, if◌then◌else◌}
 use Rattle.std.proofs.Math.ListN.{set}
 use Rattle.std.specs.List.Sorted.{IsPermutation}
 use Rattle.std.proofs.lemmas.Bool.{false≢true}
@@ -10,19 +10,22 @@ use Rattle.std.proofs.lemmas.List.{append-nil, drop_more, map-append, nil_from_l
 use Rattle.std.proofs.lemmas.List.Elements.{All-cons, All-head, All-nil, All-push, All-tail, All-weaker}
 use Rattle.std.proofs.lemmas.List.Sorted.{IsPermutation-append_comm, IsPermutation-append_left, IsPermutation-append_right, IsPermutation-refl, IsPermutation-trans, length_permutation}
 use Rattle.core_model.specs.Names.{same_name}
-use Rattle.core_model.specs.Transcript.{Recorded}
+use Rattle.core_model.specs.Transcript.{Recorded, reply_after}
+use Rattle.server_core.specs.Said.{said}
+use Rattle.turn_lock.specs.Histories.{calls}
 use Rattle.transform_pool.specs.Tasks.{Task}
 use Rattle.hmr_hub.specs.declared.pass.Pass.{Pass}
 use Rattle.hmr_hub.specs.Passes.{is_alone, seen_of}
 use Rattle.version_map.specs.declared.outcome.EditOutcome.TheVariants.{Job, Same, Removed}
-use Rattle.hub_moves.specs.Moves.{Moved}
+use Rattle.hub_moves.specs.Moves.{Moved, own_of}
 use Rattle.hub_moves.proofs.Moves.{moved_no_more, moved_none, moved_then}
-use Rattle.hub_moves.proofs.Answers.{answered_moved}
 use Rattle.hub_editor.specs.declared.worked.Worked.{Worked}
 use Rattle.hub_editor.specs.declared.worked.Worked.TheVariants.{No, AtOnce, AtEnd}
-use Rattle.hub_editor.specs.Edits.{Answer, Edit, Made, counted_by, edit_entry, edit_event, edit_of, if_at_end, if_at_once, is_job, is_unworked, is_waiting, jobs_at_end, jobs_from, jobs_of, reply_of}
+use Rattle.hub_editor.specs.Edits.{Answer, Edit, Made, counted_by, edit_entry, edit_event, edit_of, if_at_end, if_at_once, is_job, is_unworked, is_waiting, jobs_at_end, jobs_from, jobs_of}
 use Rattle.hub_editor.specs.Results.{HasOwnResults, HasResult, IsResulted, last_in, result_entry, result_event}
-use Rattle.hub_editor.specs.Editing.{Edited, Fronted, IsAnswered, IsGoing, SameEdits, Settled, Steps, Told, Went, WorkedOut, entries_of}
+use Rattle.hub_editor.specs.Causes.{IsRoomStop, IsStopBy}
+use Rattle.hub_editor.specs.declared.stop.EditStop.{EditStop}
+use Rattle.hub_editor.specs.Editing.{AreAnswered, Edited, Fronted, IsAnswered, IsAnsweredAt, IsGoing, SameEdits, Settled, Steps, StoppedAt, Told, Went, WorkedOut, entries_of}
 use Rattle.hub_editor.proofs.Calls.{settled_later, went_then}
 use Rattle.hub_editor.proofs.Lasting.{last_more, last_same, same_there}
 
@@ -44,8 +47,49 @@ resulted_moved q r mine AtEnd jobs m h = All-weaker (HasResult (seen_of q)) (Has
 results_moved : (q r : Pass) (mine : List Recorded) (made : List Made) → Moved q r mine → All (HasOwnResults (seen_of q)) made → All (HasOwnResults (seen_of r)) made
 results_moved q r mine made m h = All-weaker (HasOwnResults (seen_of q)) (HasOwnResults (seen_of r)) (λ x own. resulted_moved q r mine x.worked (jobs_of x) m own) made h
 
-answers_moved : (q r : Pass) (mine : List Recorded) (made : List Made) → Moved q r mine → All (IsAnswered q) made → All (IsAnswered r) made
-answers_moved q r mine made m h = All-weaker (IsAnswered q) (IsAnswered r) (λ x a. answered_moved q r mine 0 (edit_event (edit_of x)) (reply_of x.answer) m a) made h
+answered_later : (q r : Pass) (mine own : List Recorded) (e : Edit) (a : Answer) → Moved q r mine → IsAnsweredAt q own e a → IsAnsweredAt r own e a
+answered_later q r mine own e a m h = record {
+  before = h.before;
+  after = h.after ++ m.more;
+  whole = m.longer ∙ (ap (λ es. es ++ m.more) h.whole ∙ append_assoc h.before (edit_entry e ∷ h.after) m.more);
+  own_are = ap (λ k. calls (k ∷ []) h.before) m.number ∙ h.own_are;
+  reply_is = ap (λ roots. said (reply_after roots h.before (edit_event e))) m.roots ∙ h.reply_is;
+}
+
+pub answers_moved : (q r : Pass) (mine own : List Recorded) (made : List Made) → Moved q r mine → AreAnswered q own made → AreAnswered r own made
+answers_moved q r mine own [] m h = tt
+answers_moved q r mine own (x ∷ made) m h =
+    (answered_later q r mine own (edit_of x) x.answer m h.0, answers_moved q r mine (own ++ entries_of x) made m h.1)
+
+-- one edit more
+answers_push : (q : Pass) (own : List Recorded) (made : List Made) (m : Made) → AreAnswered q own made → IsAnsweredAt q (own ++ flat_map entries_of made) (edit_of m) m.answer
+    → AreAnswered q own (made ++ m ∷ [])
+answers_push q own [] m h a = (subst (λ es. IsAnsweredAt q es (edit_of m) m.answer) (append-nil own) a, tt)
+answers_push q own (x ∷ made) m h a = (
+  h.0,
+  answers_push q (own ++ entries_of x) made m h.1
+      (subst (λ es. IsAnsweredAt q es (edit_of m) m.answer) (sym (append_assoc own (entries_of x) (flat_map entries_of made))) a),
+)
+
+same_answered : (q : Pass) (own : List Recorded) (m n : Made) → edit_of n ≡ edit_of m → n.answer ≡ m.answer → IsAnsweredAt q own (edit_of m) m.answer → IsAnsweredAt q own (edit_of n) n.answer
+same_answered q own m n e a h = subst (λ x. IsAnsweredAt q own x n.answer) (sym e) (subst (λ x. IsAnsweredAt q own (edit_of m) x) (sym a) h)
+
+-- the last of them in place of another
+answers_last : (q : Pass) (own : List Recorded) (made : List Made) (m n : Made) → edit_of n ≡ edit_of m → n.answer ≡ m.answer → AreAnswered q own (made ++ m ∷ []) → AreAnswered q own (made ++ n ∷ [])
+answers_last q own [] m n e a h = (same_answered q own m n e a h.0, tt)
+answers_last q own (x ∷ made) m n e a h = (h.0, answers_last q (own ++ entries_of x) made m n e a h.1)
+
+-- one of them in place of another with the same entries
+answers_there : (q : Pass) (own : List Recorded) (front back : List Made) (m n : Made) → entries_of n ≡ entries_of m → edit_of n ≡ edit_of m → n.answer ≡ m.answer
+    → AreAnswered q own (front ++ m ∷ back) → AreAnswered q own (front ++ n ∷ back)
+answers_there q own [] back m n entries e a h = (same_answered q own m n e a h.0, subst (λ es. AreAnswered q (own ++ es) back) (sym entries) h.1)
+answers_there q own (x ∷ front) back m n entries e a h = (h.0, answers_there q (own ++ entries_of x) front back m n entries e a h.1)
+
+pub answered_all : (q : Pass) (own : List Recorded) (made : List Made) → AreAnswered q own made → All (IsAnswered q) made
+answered_all q own [] h = All-nil (IsAnswered q)
+answered_all q own (m ∷ made) h =
+    All-cons (IsAnswered q) m made (record { before = h.0.before; after = h.0.after; whole = h.0.whole; reply_is = h.0.reply_is })
+    (answered_all q (own ++ entries_of m) made h.1)
 
 -- one of a list in place of another
 all_there : {X : Type 0} (P : X → Type 0) (front back : List X) (x y : X) → All P (front ++ x ∷ back) → P y → All P (front ++ y ∷ back)
@@ -62,7 +106,7 @@ edited_none p = record {
   settled = [];
   moved = moved_none p;
   each = IsPermutation-refl [];
-  answered = All-nil (IsAnswered p);
+  answered = tt;
   results = All-nil (HasOwnResults (seen_of p));
   sources = λ n. refl;
 }
@@ -73,7 +117,7 @@ edited_went p q r made x w = record {
   settled = x.settled;
   moved = moved_no_more p q r (flat_map entries_of made ++ map result_entry x.settled) x.moved w.moved;
   each = x.each;
-  answered = answers_moved q r [] made w.moved x.answered;
+  answered = answers_moved q r [] (own_of p) made w.moved x.answered;
   results = results_moved q r [] made w.moved x.results;
   sources = λ n. w.sources n ∙ x.sources n;
 }
@@ -100,12 +144,20 @@ module _ (p q r : Pass) (made : List Made) (m : Made) (going : IsGoing made) (x 
       ∙ (ap (λ es. es ++ edit_entry (edit_of m) ∷ []) (append-nil (flat_map entries_of made))
       ∙ (ap (λ es. flat_map entries_of made ++ es) (sym one) ∙ (sym (flat_map-append entries_of made (m ∷ [])) ∙ sym (append-nil (flat_map entries_of (made ++ m ∷ []))))))
 
+  own_now : own_of q ≡ own_of p ++ flat_map entries_of made
+  own_now =
+      x.moved.own
+      ∙ (ap (λ settled. own_of p ++ (flat_map entries_of made ++ map result_entry settled)) (none_settled (flat_map jobs_at_end made) x.settled going x.each)
+      ∙ ap (λ es. own_of p ++ es) (append-nil (flat_map entries_of made)))
+
   pub edited_told : Edited p r (made ++ m ∷ [])
   edited_told = record {
     settled = [];
     moved = subst (λ mine. Moved p r mine) entries_more (moved_then p q r (flat_map entries_of made ++ map result_entry x.settled) (edit_entry (edit_of m) ∷ []) x.moved t.moved);
     each = subst (λ jobs. IsPermutation jobs []) (sym (going_more made m going (unworked_end m unworked))) (IsPermutation-refl []);
-    answered = All-push (IsAnswered r) made m (answers_moved q r (edit_entry (edit_of m) ∷ []) made t.moved x.answered) t.answered;
+    answered =
+        answers_push r (own_of p) made m (answers_moved q r (edit_entry (edit_of m) ∷ []) (own_of p) made t.moved x.answered)
+        (subst (λ es. IsAnsweredAt r es (edit_of m) m.answer) own_now t.placed);
     results = All-push (HasOwnResults (seen_of r)) made m (results_moved q r (edit_entry (edit_of m) ∷ []) made t.moved x.results) (subst (λ w. IsResulted (seen_of r) w (jobs_of m)) (sym unworked) tt);
     sources = λ n.
         t.sources n
@@ -116,9 +168,6 @@ module _ (p q r : Pass) (made : List Made) (m : Made) (going : IsGoing made) (x 
 
 one_result : (q r : Pass) (m : Made) (work : Task) → jobs_of m ≡ work ∷ [] → Settled work q r → All (HasResult (seen_of r)) (jobs_of m)
 one_result q r m work e s = subst (λ jobs. All (HasResult (seen_of r)) jobs) (sym e) (All-cons (HasResult (seen_of r)) work [] s.there (All-nil (HasResult (seen_of r))))
-
-marked_answered : (r : Pass) (m n : Made) (w : Worked) → n ≡ record m { worked = w } → IsAnswered r m → IsAnswered r n
-marked_answered r m n w e a = subst (λ x. IsAnswered r x) (sym e) a
 
 marked_same : (front back : List Made) (m n : Made) (w : Worked) → n ≡ record m { worked = w } → SameEdits (front ++ m ∷ back) (front ++ n ∷ back)
 marked_same front back m n w e = same_there front back m n (ap edit_of e) (ap (λ x. x.answer) e)
@@ -149,8 +198,9 @@ module _ (p q r : Pass) (made : List Made) (m n : Made) (going : IsGoing made) (
     settled = [];
     moved = subst (λ mine. Moved p r mine) entries_once (moved_then p q r (flat_map entries_of (made ++ m ∷ []) ++ map result_entry x.settled) entry x.moved s.settled.went.moved);
     each = subst (λ jobs. IsPermutation jobs []) (sym (going_more made n going once_end)) (IsPermutation-refl []);
-    answered = all_there (IsAnswered r) made [] m n (answers_moved q r entry (made ++ m ∷ []) s.settled.went.moved x.answered)
-        (marked_answered r m n AtOnce s.marked (all_at (IsAnswered r) made [] m (answers_moved q r entry (made ++ m ∷ []) s.settled.went.moved x.answered)));
+    answered =
+        answers_last r (own_of p) made m n (ap edit_of s.marked) (ap (λ y. y.answer) s.marked)
+        (answers_moved q r entry (own_of p) (made ++ m ∷ []) s.settled.went.moved x.answered);
     results = all_there (HasOwnResults (seen_of r)) made [] m n (results_moved q r entry (made ++ m ∷ []) s.settled.went.moved x.results)
         (subst (λ y. HasOwnResults (seen_of r) y) (sym s.marked) (one_result q r m s.job s.jobs s.settled));
     sources = λ k.
@@ -204,8 +254,9 @@ module _ (p q r : Pass) (front back : List Made) (m n : Made) (x : Edited p q (f
     settled = x.settled ++ s.job ∷ [];
     moved = subst (λ mine. Moved p r mine) entries_end (moved_then p q r (flat_map entries_of old ++ map result_entry x.settled) (result_entry s.job ∷ []) x.moved s.settled.went.moved);
     each = each_end;
-    answered = all_there (IsAnswered r) front back m n (answers_moved q r (result_entry s.job ∷ []) old s.settled.went.moved x.answered)
-        (marked_answered r m n AtEnd s.marked (all_at (IsAnswered r) front back m (answers_moved q r (result_entry s.job ∷ []) old s.settled.went.moved x.answered)));
+    answered =
+        answers_there r (own_of p) front back m n (ap entries_of s.marked ∙ sym (unworked_entries m s.unworked)) (ap edit_of s.marked) (ap (λ y. y.answer) s.marked)
+        (answers_moved q r (result_entry s.job ∷ []) (own_of p) old s.settled.went.moved x.answered);
     results = all_there (HasOwnResults (seen_of r)) front back m n (results_moved q r (result_entry s.job ∷ []) old s.settled.went.moved x.results)
         (subst (λ y. HasOwnResults (seen_of r) y) (sym s.marked) (one_result q r m s.job s.jobs s.settled));
     sources = λ k.
@@ -260,6 +311,16 @@ fronted_one first new m e whole is = record {
   rest = [];
   whole = append-nil (map edit_of new) ∙ (ap (map edit_of) whole ∙ (map-append edit_of first (m ∷ []) ∙ ap (λ x. map edit_of first ++ x ∷ []) is));
 }
+
+-- where it stopped
+pub stopped_none : {T : Type 0} (r : Result T EditStop) (first new : List Made) (e : Edit) → new ≡ first → IfErr r IsRoomStop → IfErr r (StoppedAt e first new)
+stopped_none (Ok x) first new e same room = tt
+stopped_none (Err stop) first new e same room = inl (same, room)
+
+pub stopped_one : {T : Type 0} (r : Result T EditStop) (first new : List Made) (m : Made) (e : Edit) → new ≡ first ++ m ∷ [] → edit_of m ≡ e → IfErr r (IsStopBy m.answer)
+    → IfErr r (StoppedAt e first new)
+stopped_one (Ok x) first new m e whole is by = tt
+stopped_one (Err stop) first new m e whole is by = inr (m, whole, is, by)
 
 -- one of the edits by its index
 module _ (made : List Made) (i : ℕ) (m n : Made) (below : i < length made) (read : m ≡ get_or made i m) where

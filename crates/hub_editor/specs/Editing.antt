@@ -1,22 +1,25 @@
 -- What stands while an editor makes its edits, and when it has made one more.
-use Rattle.std.specs.Prelude.{◌≡◌, ◌⊎◌, [], ◌∷◌, ◌++◌}
+use Rattle.std.specs.Prelude.{◌≡◌, ◌⊎◌, ⊤, [], ◌∷◌, ◌++◌}
 use Rattle.std.specs.Prelude.{true, List, map, flat_map, is_ok, Some, None, All, if◌then◌else◌}
 use Rattle.std.specs.List.Sorted.{IsPermutation}
 use Rattle.core_model.specs.Names.{Name, same_name}
 use Rattle.core_model.specs.Sources.{edit_answer}
-use Rattle.core_model.specs.Transcript.{Recorded}
-use Rattle.server_core.specs.Said.{edit_said}
+use Rattle.core_model.specs.Transcript.{Recorded, reply_after}
+use Rattle.server_core.specs.Said.{edit_said, said}
+use Rattle.turn_lock.specs.Histories.{calls}
 use Rattle.transform_pool.specs.Passes.{HeldLastPut, places}
 use Rattle.transform_pool.specs.Tasks.{Task}
 use Rattle.transform_pool.specs.declared.item.Role.{Role}
 use Rattle.hmr_hub.specs.declared.pass.Pass.{Pass}
-use Rattle.hmr_hub.specs.Passes.{is_alone, roots_of, seen_of}
-use Rattle.hub_moves.specs.Moves.{Moved}
+use Rattle.hmr_hub.specs.Passes.{is_alone, number_of, roots_of, seen_of}
+use Rattle.hub_moves.specs.Moves.{Moved, own_of}
 use Rattle.hub_moves.specs.Answered.{Answered}
+use Rattle.hub_editor.specs.Causes.{IsRoomStop, IsStopBy}
 use Rattle.hub_editor.specs.Edits.{Answer, Edit, Made, answered_edit, counted_by, edit_entry, edit_event}
 use Rattle.hub_editor.specs.Edits.{edit_of, jobs_at_end, jobs_at_once, jobs_of, jobs_put, last_of, reply_of}
 use Rattle.hub_editor.specs.Results.{HasOwnResults, HasResult, last_in, result_entry, sources_in}
 use Rattle.hub_editor.specs.declared.editor.Editor.{Editor}
+use Rattle.hub_editor.specs.declared.stop.EditStop.{EditStop}
 use Rattle.hub_editor.specs.declared.worked.Worked.{Worked}
 use Rattle.hub_editor.specs.declared.worked.Worked.TheVariants.{AtOnce, No}
 
@@ -32,15 +35,31 @@ entries_of m = edit_entry (edit_of m) ∷ map result_entry (jobs_at_once m)
 abbrev pub IsAnswered : Pass → Made → Type 0
 IsAnswered p m = Answered (roots_of p) (seen_of p) 0 (edit_event (edit_of m)) (reply_of m.answer)
 
+-- The edit is the entry that comes behind just these of the editor's own, and it was answered so by the
+-- state that the entries before it make.
+pub record IsAnsweredAt (p : Pass) (own : List Recorded) (e : Edit) (answer : Answer) : Type 0 where
+  pub before : List Recorded
+  pub after : List Recorded
+  pub whole : seen_of p ≡ before ++ edit_entry e ∷ after
+  pub own_are : calls (number_of p ∷ []) before ≡ own
+  pub reply_is : said (reply_after (roots_of p) before (edit_event e)) ≡ reply_of answer
+
+-- Each edit was answered at its own place: behind these entries of the editor and those of the edits before
+-- it. So edits of the same name and text have each its own answer.
+abbrev pub AreAnswered : Pass → List Recorded → List Made → Type 0
+AreAnswered p own [] = ⊤
+AreAnswered p own (m ∷ made) =
+    IsAnsweredAt p own (edit_of m) m.answer × AreAnswered p (own ++ entries_of m) made
+
 -- The pass p has gone on to q. Under the editor's number came the edits, each once and in order, with the
 -- results of the jobs that it worked at once, and then the results of the jobs that it worked at the end,
--- each once. Each edit was answered so. What a name has is what the last counted one of these edits gave it,
--- and what it had at p where none did.
+-- each once. Each edit was answered so at its place. What a name has is what the last counted one of these
+-- edits gave it, and what it had at p where none did.
 pub record Edited (p q : Pass) (made : List Made) : Type 0 where
   pub settled : List Task
   pub moved : Moved p q (flat_map entries_of made ++ map result_entry settled)
   pub each : IsPermutation (flat_map jobs_at_end made) settled
-  pub answered : All (IsAnswered q) made
+  pub answered : AreAnswered q (own_of p) made
   pub results : All (HasOwnResults (seen_of q)) made
   pub sources : (n : Name) → last_in (seen_of q) n ≡ last_of made (last_in (seen_of p) n) n
 
@@ -55,6 +74,7 @@ pub record Went (p q : Pass) (mine : List Recorded) : Type 0 where
 pub record Told (e : Edit) (answer : Answer) (p q : Pass) : Type 0 where
   pub moved : Moved p q (edit_entry e ∷ [])
   pub answered : Answered (roots_of q) (seen_of q) 0 (edit_event e) (reply_of answer)
+  pub placed : IsAnsweredAt q (own_of p) e answer
   pub sources : (n : Name) → last_in (seen_of q) n
       ≡ (if same_name e.0 n then counted_by answer e.1 (last_in (seen_of p) n) else last_in (seen_of p) n)
   pub alone : is_alone p ≡ true → seen_of q ≡ seen_of p ++ edit_entry e ∷ []
@@ -99,6 +119,13 @@ pub record Added (edit : Edit) (old new : List Made) (v w : Role) : Type 0 where
 pub record Fronted (old new : List Made) (edits : List Edit) : Type 0 where
   pub rest : List Edit
   pub whole : map edit_of new ++ rest ≡ map edit_of old ++ edits
+
+-- It stopped at this edit. The edit was not made, for want of a place or of memory; or it was made, and it
+-- was refused so, or its job had no place or no memory.
+abbrev pub StoppedAt : Edit → List Made → List Made → EditStop → Type 0
+StoppedAt e old new stop =
+    ((new ≡ old) × IsRoomStop stop)
+    ⊎ ((one : Made) × (new ≡ old ++ one ∷ []) × (edit_of one ≡ e) × IsStopBy one.answer stop)
 
 -- for each name the job of its last counted edit has its result in the transcript
 abbrev pub HaveLastResults : Pass → List Made → Type 0

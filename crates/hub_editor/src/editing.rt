@@ -9,10 +9,10 @@ ghost use Rattle.hmr_hub.specs.Calls.{SameKnower};
 ghost use Rattle.hmr_hub.specs.declared.pass.Pass.{Pass};
 ghost use Rattle.hmr_hub.specs.Passes.{HasTranscript, IsPassOf, number_of};
 ghost use Rattle.hub_moves.specs.Moves.{KnowsOwn};
-ghost use Rattle.hub_editor.specs.Causes.{IsCause};
+ghost use Rattle.hub_editor.specs.Causes.{IsCause, IsRoomStop};
 ghost use Rattle.hub_editor.specs.Edits.{has_version, length_of, text_in};
 ghost use Rattle.hub_editor.specs.Editing.{Added, Edited, Fronted, HaveLastResults};
-ghost use Rattle.hub_editor.specs.Editing.{IsGoing, SameEdits, made_by};
+ghost use Rattle.hub_editor.specs.Editing.{IsGoing, SameEdits, StoppedAt, made_by};
 
 use crate::editor::Editor;
 use crate::stop::EditStop;
@@ -39,7 +39,8 @@ impl Editor {
     ///
     /// [`EditStop::Text`], `Names` and `Sources` come where the edit was refused, `Full` where the
     /// transcript has no place, `NoMemory` where memory is wanting. After each the edit was made, or nothing
-    /// was; its job may be neither in the queue nor worked. It keeps a copy of the text.
+    /// was; its job may be neither in the queue nor worked. A refused edit gives the stop of its refusal. It
+    /// keeps a copy of the text.
     pub fn edit<R: Wait>(
         &mut self,
         rt: &R,
@@ -70,6 +71,8 @@ impl Editor {
         ensures of_queue { pool.IsPassOf queue.now jobs.new }
         ensures puts { (pool.role_of jobs.new).puts ≡ true }
         ensures unclosed { (pool.role_of jobs.new).closed ≡ false }
+        ensures stopped { IfErr result
+            (StoppedAt (name, text_in text) (made_by self.old) (made_by self.new)) }
         ensures cause { IfErr result (IsCause pass.new) }
     {
         self.works.reserve(1)?;
@@ -105,6 +108,7 @@ impl Editor {
         ensures same_puts { SamePuts (pool.role_of jobs.old) (pool.role_of jobs.new) }
         ensures closed { (pool.role_of jobs.new).closed ≡ true }
         ensures marks { (pool.role_of jobs.new).marks ≡ pool.takers_of queue.now }
+        ensures room { IfErr result IsRoomStop }
         ensures cause { IfErr result (IsCause pass.new) }
     {
         let mut ended = Ok(());
@@ -129,6 +133,7 @@ impl Editor {
     )
         requires of { IsPassOf hub.now pass.old }
         requires number { number_of pass.old ≡ 0 }
+        requires room { IfErr ended.old IsRoomStop }
         requires cause { IfErr ended.old (IsCause pass.old) }
         ensures of { IsPassOf hub.now pass.new }
         ensures same { SameKnower pass.old pass.new }
@@ -136,6 +141,7 @@ impl Editor {
         ensures edited { (p : Pass) → Edited p pass.old (made_by self.old)
             → Edited p pass.new (made_by self.new) }
         ensures edits { SameEdits (made_by self.old) (made_by self.new) }
+        ensures room { IfErr ended.new IsRoomStop }
         ensures cause { IfErr ended.new (IsCause pass.new) }
     {
         if ended.is_err() {
@@ -180,6 +186,7 @@ impl Editor {
         ensures edits { SameEdits (made_by self.old) (made_by self.new) }
         ensures results { OnOk result ((p : Pass) → Edited p pass.old (made_by self.old)
             → HaveLastResults pass.new (made_by self.new)) }
+        ensures room { IfErr result IsRoomStop }
         ensures cause { IfErr result (IsCause pass.new) }
     {
         let mut left = self.works.len();

@@ -2,15 +2,16 @@
 // told in the order of the edits.
 ghost use Rattle.std.specs.Option.{option_to_list};
 ghost use Rattle.std.specs.Prelude.{◌≡◌, ◌+◌, ◌≤◌, ◌++◌, ◌∷◌, []};
-ghost use Rattle.std.specs.Prelude.{All, IfErr, IfOk, IfSome, List, OnOk, length, map, true};
+ghost use Rattle.std.specs.Prelude.{All, IfErr, IfOk, IfSome, List, OnErr, OnOk, length, map, true};
 ghost use Rattle.hmr_types.specs.declared.limits.TheConstants.{MESSAGE_BYTES};
 ghost use Rattle.core_model.specs.Formed.{IsVersion};
 ghost use Rattle.transform_pool.specs.Tasks.{Task};
 ghost use Rattle.hmr_hub.specs.Calls.{SameKnower};
 ghost use Rattle.hmr_hub.specs.Passes.{HasTranscript, IsPassOf, is_alone, number_of, seen_of};
-ghost use Rattle.hub_editor.specs.Causes.{IsCause};
+ghost use Rattle.hub_editor.specs.Causes.{IsCause, IsRoomStop};
 ghost use Rattle.hub_editor.specs.Edits.{Edit, IsWorkable, edits_in, length_of, text_in};
-ghost use Rattle.hub_editor.specs.Openings.{Opening, opening, told_entries};
+ghost use Rattle.hub_editor.specs.Openings.{AreAccepted, BeginsOpening, BeginsResults, Opening};
+ghost use Rattle.hub_editor.specs.Openings.{StopsFirst, StopsOpening, opening, told_entries};
 
 use crate::stop::EditStop;
 use crate::telling::{stop_by, tell_result, told_work};
@@ -28,7 +29,9 @@ use transform_pool::{TextJob, run_jobs};
 /// order. It waits, and takes memory for a copy of the texts.
 ///
 /// [`EditStop::Text`], `Names` and `Sources` come where an edit was refused, `Full` where the transcript has
-/// no place, `NoMemory` where memory is wanting; the edits and results before it were made.
+/// no place, `NoMemory` where memory is wanting. After each the pass has seen a front of the edits in order,
+/// and then of the results; no edit behind a refused one was made, and a refused one gives the stop of its
+/// refusal. Where it is Ok, no edit was refused.
 pub fn open_sources<R: Threads + Wait + Sync>(
     rt: &R,
     alloc: Global,
@@ -46,6 +49,9 @@ pub fn open_sources<R: Threads + Wait + Sync>(
     ensures same { SameKnower pass.old pass.new }
     ensures transcript { HasTranscript pass.old → HasTranscript pass.new }
     ensures opened { OnOk result (seen_of pass.new ≡ opening (edits_in edits.items)) }
+    ensures accepted { OnOk result (AreAccepted [] (edits_in edits.items)) }
+    ensures front { OnErr result (BeginsOpening (edits_in edits.items) pass.new) }
+    ensures stopped { IfErr result (StopsOpening (edits_in edits.items) pass.new) }
     ensures cause { IfErr result (IsCause pass.new) }
 {
     let jobs = tell_edits(rt, alloc, hub, pass, edits)?;
@@ -71,6 +77,8 @@ fn tell_edits<R: Wait>(
     ensures same { SameKnower pass.old pass.new }
     ensures transcript { HasTranscript pass.old → HasTranscript pass.new }
     ensures opening { IfOk result (λ jobs. Opening (edits_in edits.items) pass.new jobs.items) }
+    ensures front { OnErr result (BeginsOpening (edits_in edits.items) pass.new) }
+    ensures stopped { IfErr result (StopsOpening (edits_in edits.items) pass.new) }
     ensures workable { IfOk result (λ jobs. All IsWorkable jobs.items) }
     ensures cause { IfErr result (IsCause pass.new) }
 {
@@ -100,6 +108,7 @@ fn tell_first<R: Wait>(
     ensures transcript { HasTranscript pass.old → HasTranscript pass.new }
     ensures opens { IfOk result (λ job. (edits : List Edit) (jobs : List Task) → Opening edits pass.old jobs
         → Opening (edits ++ (name, text_in text) ∷ []) pass.new (jobs ++ option_to_list job)) }
+    ensures stopped { IfErr result (StopsFirst (name, text_in text) pass.old pass.new) }
     ensures workable { IfOk result (λ job. IfSome job IsWorkable) }
     ensures cause { IfErr result (IsCause pass.new) }
 {
@@ -150,6 +159,8 @@ fn tell_results<R: Wait>(
     ensures transcript { HasTranscript pass.old → HasTranscript pass.new }
     ensures told { OnOk result
         (seen_of pass.new ≡ seen_of pass.old ++ told_entries done.items versions.now) }
+    ensures front { OnErr result (BeginsResults done.items versions.now pass.old pass.new) }
+    ensures room { IfErr result IsRoomStop }
     ensures cause { IfErr result (IsCause pass.new) }
 {
     let mut at = 0;

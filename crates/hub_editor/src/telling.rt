@@ -7,7 +7,7 @@ ghost use Rattle.core_model.specs.Formed.{IsVersion};
 ghost use Rattle.transform_pool.specs.Results.{result_of};
 ghost use Rattle.hmr_hub.specs.Calls.{SameKnower};
 ghost use Rattle.hmr_hub.specs.Passes.{HasTranscript, IsPassOf, number_of};
-ghost use Rattle.hub_editor.specs.Causes.{IsCause};
+ghost use Rattle.hub_editor.specs.Causes.{IsCause, IsRoomStop, IsStopFor};
 ghost use Rattle.hub_editor.specs.Edits.{IsEditReply, IsGiven, edit_of, length_of, reply_of, text_in};
 ghost use Rattle.hub_editor.specs.Editing.{Settled, Told, Went};
 ghost use Rattle.hub_editor.specs.declared.worked.Worked.TheVariants.{No};
@@ -42,6 +42,7 @@ pub(crate) fn told_work<R: Wait>(
     ensures edit { IfOk result (λ work. edit_of work ≡ (name, text_in text)) }
     ensures unworked { IfOk result (λ work. work.worked ≡ No) }
     ensures untold { OnErr result (Went pass.old pass.new []) }
+    ensures room { IfErr result IsRoomStop }
     ensures cause { IfErr result (IsCause pass.new) }
 {
     let own_name = name.clone()?;
@@ -67,6 +68,7 @@ pub(crate) fn tell_edit<R: Wait>(
     ensures told { IfOk result (λ answer. Told (name, text_in text) answer pass.old pass.new) }
     ensures given { IfOk result IsGiven }
     ensures untold { OnErr result (Went pass.old pass.new []) }
+    ensures room { IfErr result IsRoomStop }
     ensures cause { IfErr result (IsCause pass.new) }
 {
     let reply = hub.call(rt, pass, Event::Edit(name, text))?;
@@ -92,6 +94,7 @@ pub(crate) fn stop_by(refusal: EditRefusal) -> EditStop
     ensures text { refusal ≡ TextTooLong → result ≡ EditStop.Text }
     ensures names { refusal ≡ TooManyNames → result ≡ EditStop.Names }
     ensures sources { refusal ≡ SourceTotal → result ≡ EditStop.Sources }
+    ensures is { IsStopFor refusal result }
 {
     match refusal {
         EditRefusal::TextTooLong => EditStop::Text,
@@ -117,6 +120,7 @@ pub(crate) fn settle<R: Wait>(
     ensures transcript { HasTranscript pass.old → HasTranscript pass.new }
     ensures settled { OnOk result (Settled job pass.old pass.new) }
     ensures unsettled { OnErr result (Went pass.old pass.new []) }
+    ensures room { IfErr result IsRoomStop }
     ensures cause { IfErr result (IsCause pass.new) }
 {
     let ver = job.ver();
@@ -142,6 +146,7 @@ pub(crate) fn tell_result<R: Wait>(
     ensures settled { OnOk result
         (Settled (record { name = done.name; text = done.text; ver = ver }) pass.old pass.new) }
     ensures unsettled { OnErr result (Went pass.old pass.new []) }
+    ensures room { IfErr result IsRoomStop }
     ensures cause { IfErr result (IsCause pass.new) }
 {
     hub.call(rt, pass, Event::Settle(done, ver))?;

@@ -6,7 +6,7 @@ ghost use Rattle.transform_pool.specs.Tasks.{Task};
 ghost use Rattle.hmr_hub.specs.Calls.{SameKnower};
 ghost use Rattle.hmr_hub.specs.Passes.{HasTranscript, IsPassOf, number_of, seen_of};
 ghost use Rattle.hub_moves.specs.Moves.{KnowsOwn};
-ghost use Rattle.hub_editor.specs.Causes.{IsCause};
+ghost use Rattle.hub_editor.specs.Causes.{IsCause, IsRoomStop, IsStopBy};
 ghost use Rattle.hub_editor.specs.Edits.{IsGiven, jobs_of, jobs_put};
 ghost use Rattle.hub_editor.specs.Results.{HasOwnResults, HasResult, last_in};
 ghost use Rattle.hub_editor.specs.Editing.{IsAnswered, Steps, WorkedOut};
@@ -51,6 +51,7 @@ impl Work {
             ((pool.role_of jobs.new).put ≡ (pool.role_of jobs.old).put ++ jobs_put self.new) }
         ensures accepted { OnOk result (is_ok self.new.answer ≡ true) }
         ensures held { self.new.worked ≡ AtOnce → pool.HeldLastPut pool.places (pool.role_of jobs.old).put }
+        ensures stopped { IfErr result (IsStopBy self.new.answer) }
         ensures cause { IfErr result (IsCause pass.new) }
     {
         if let Err(refusal) = self.answer() {
@@ -85,6 +86,7 @@ impl Work {
         ensures transcript { HasTranscript pass.old → HasTranscript pass.new }
         ensures worked_out { OnOk result (WorkedOut worked self.old self.new pass.old pass.new) }
         ensures steps { Steps worked self.old self.new pass.old pass.new }
+        ensures room { IfErr result IsRoomStop }
         ensures cause { IfErr result (IsCause pass.new) }
     {
         settle(rt, alloc, hub, pass, job)?;
@@ -108,6 +110,7 @@ impl Work {
         ensures steps { Steps AtEnd self.old self.new pass.old pass.new }
         ensures resulted { OnOk result (HasOwnResults (seen_of pass.old) self.old
             → (job : Task) → jobs_of self.old ≡ job ∷ [] → HasResult (seen_of pass.new) job) }
+        ensures room { IfErr result IsRoomStop }
         ensures cause { IfErr result (IsCause pass.new) }
     {
         if !self.is_waiting() {
@@ -139,6 +142,7 @@ impl Work {
             → (job : Task) → jobs_of self.old ≡ job ∷ []
             → last_in (seen_of pass.old) job.name ≡ Some (job.ver, job.text)
             → HasResult (seen_of pass.new) job) }
+        ensures room { IfErr result IsRoomStop }
         ensures cause { IfErr result (IsCause pass.new) }
     {
         if !self.is_waiting() {

@@ -2,3 +2,4 @@ pub mod Begun
 pub mod Ends
 pub mod Runs
 pub mod Spawners
+pub mod Tokens

@@ -1,7 +1,7 @@
 // A spawner for tests: it stands before another and refuses chosen starts.
 ghost use Rattle.std.specs.Prelude.{◌≡◌};
 
-use crate::Spawner;
+use crate::{Refused, Spawner, Started};
 
 /// Hands each start on to another spawner, but for those whose numbers, from 0, are to be refused.
 #[derive(Debug, Drop)]
@@ -33,18 +33,14 @@ impl<P: Spawner> Spawner for CutSpawner<P> {
     fn admits(&mut self) -> bool {
         let start = self.starts;
         self.starts = self.starts.saturating_add(1);
-        if self.refused.contains(&start) {
-            self.inner.count_fault();
-            return false;
-        }
-        self.inner.admits()
+        !self.refused.contains(&start) && self.inner.admits()
     }
 
-    fn count_start(&mut self, kind: u8) {
-        self.inner.count_start(kind);
+    fn count_start(&mut self, started: Started) {
+        self.inner.count_start(started);
     }
 
-    fn count_fault(&mut self) {
-        self.inner.count_fault();
+    fn count_fault(&mut self, refused: Refused) {
+        self.inner.count_fault(refused);
     }
 }

@@ -16,10 +16,12 @@ mod job;
 mod running;
 mod spawner;
 mod thread_spawner;
+mod threads;
 
 pub use cut_spawner::CutSpawner;
 pub use gate::{Gate, OpenGate};
 pub use job::Job;
 pub use running::{Promised, Running, finish, start};
-pub use spawner::Spawner;
+pub use spawner::{Refused, Spawner, Started};
 pub use thread_spawner::ThreadSpawner;
+pub use threads::{Thread, finish_thread, start_thread};

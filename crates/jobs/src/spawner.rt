@@ -1,31 +1,58 @@
-// What decides of a start and counts it. A thread is started by the functions `start` and `finish`, which
-// ask a spawner; the decisions and the counts are all that two spawners differ in.
-ghost use Rattle.std.specs.Prelude.{◌≡◌, ◌≤◌, ◌<◌, List, ℕ, false, length, sum};
+// What decides of a start and counts it. Threads are started and waited for by `start_thread` and
+// `finish_thread`, which ask a spawner; the decisions and the counts are all that two spawners differ in.
+ghost use Rattle.std.specs.Prelude.{◌≡◌, ◌≤◌, ◌<◌, List, ℕ, length, sum};
 ghost use Rattle.hmr_base.specs.Causes.{Rose};
 ghost use Rattle.jobs.specs.Begun.{kinds, most_starts, one_more};
 
-/// Says which starts go on, and counts those that did, by kind, and the faults.
+/// A thread was started, for a job of this kind. One is made for each thread, and none otherwise.
+#[derive(Debug, Drop)]
+pub struct Started {
+    pub(crate) kind: u8,
+    ghost known: { kind < kinds },
+}
+
+/// A start was refused, or what was started was given up. One is made for each such fault, and none
+/// otherwise.
+#[derive(Debug, Drop)]
+pub struct Refused {
+    pub(crate) seen: (),
+}
+
+impl Started {
+    ghost use Rattle.jobs.specs.Tokens.{started_kind};
+
+    /// The kind of the job, from 0 to 2. It takes no memory.
+    pub fn kind(&self) -> u8
+        ensures is { result ≡ started_kind self.now }
+        ensures range { result < kinds }
+    {
+        self.kind
+    }
+}
+
+/// Says which starts go on, and counts those that did, by kind, and the faults. Who has no [`Started`] and
+/// no [`Refused`] can count nothing.
 pub trait Spawner {
-    // How many starts of each kind went on.
+    ghost use Rattle.jobs.specs.Tokens.{started_kind};
+
+    // How many threads were started for jobs of each kind.
     ghost begun: { Self → List ℕ };
-    // How often a start was refused or a started job was given up.
+    // How often a start was refused or what was started was given up.
     ghost faults: { Self → ℕ };
 
-    /// Whether the next start goes on. If not, that is a fault.
+    /// Whether the next start goes on. Nothing is counted.
     fn admits(&mut self) -> bool
         ensures begun { begun self.new ≡ begun self.old }
-        ensures later { faults self.old ≤ faults self.new }
-        ensures failed { result ≡ false → Rose (faults self.old) (faults self.new) };
+        ensures faults { faults self.new ≡ faults self.old };
 
-    /// Counts a start of this kind that went on.
-    fn count_start(&mut self, kind: u8)
+    /// Counts a thread that was started.
+    fn count_start(&mut self, started: Started)
         requires few { sum (begun self.old) < most_starts }
-        requires kind { kind < kinds }
-        ensures begun { begun self.new ≡ one_more (begun self.old) kind }
+        ensures begun { begun self.new ≡ one_more (begun self.old) (started_kind started) }
         ensures faults { faults self.new ≡ faults self.old };
 
     /// Counts a fault.
-    fn count_fault(&mut self)
+    fn count_fault(&mut self, refused: Refused)
         ensures begun { begun self.new ≡ begun self.old }
         ensures later { faults self.old ≤ faults self.new }
         ensures rose { Rose (faults self.old) (faults self.new) };

@@ -2,7 +2,7 @@
 ghost use Rattle.std.specs.Prelude.{◌≡◌};
 ghost use Rattle.jobs.specs.Begun.{none_begun};
 
-use crate::Spawner;
+use crate::{Refused, Spawner, Started};
 
 /// Lets every start go on.
 #[derive(Debug, Drop)]
@@ -35,11 +35,11 @@ impl Spawner for ThreadSpawner {
         true
     }
 
-    fn count_start(&mut self, kind: u8) {
-        self.begun[usize::from(kind)] += 1;
+    fn count_start(&mut self, started: Started) {
+        self.begun[usize::from(started.kind())] += 1;
     }
 
-    fn count_fault(&mut self) {
+    fn count_fault(&mut self, _refused: Refused) {
         self.faults = self.faults.saturating_add(1);
     }
 }

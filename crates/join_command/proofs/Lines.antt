@@ -1,5 +1,5 @@
 -- A session whose lines are written answer by answer.
-use Rattle.std.proofs.Common.{◌≡◌, ◌<◌, ◌+◌, inl, inr, ℕ, List, [], ◌++◌, Result, Err, refl, sym, ap, subst, ◌∙◌, arith}
+use Rattle.std.proofs.Common.{◌≡◌, ◌<◌, ◌+◌, inl, inr, ℕ, List, [], ◌++◌, Some, None, Result, Err, refl, sym, ap, subst, ◌∙◌, arith}
 use Rattle.std.specs.Prelude.{⊤}
 use Rattle.std.specs.Io.KnownBytes.{Appends}
 use Rattle.std.proofs.KnownBytes.{Appends-nil, Appends-trans}
@@ -21,7 +21,8 @@ use Rattle.client_sessions.specs.Course.{ClientCourse, Talked, TurnEnded, TurnTa
 use Rattle.client_sessions.specs.Exchange.{Ends, takes_bye}
 use Rattle.client_sessions.proofs.Talking.{ended_at_bye, ended_in_turn, talked_more, talked_none, unopened}
 use Rattle.join_command.specs.declared.stop.JoinStop.{JoinStop}
-use Rattle.join_command.specs.Joining.{Bytes, IsWriteStop, Joins, JoinsAt, Words, ends_as, lines_text}
+use Rattle.links.specs.Told.{told_front, told_none, told_of}
+use Rattle.join_command.specs.Joining.{Bytes, IsWriteStop, Joins, JoinsAt, JoinsBy, JoinsOver, Words, ends_as, lines_text}
 
 -- so many requests of a new runtime were answered, and the lines of their answers are written
 pub record Wrote {F : Type 0} (opening : Opening) (count format : ℕ) (left left' sent sent' : Words)
@@ -86,8 +87,10 @@ wrote_front opening turns count format f l m n s t u a b c h h' none lines stop 
       takes = more.takes;
       answers = more.answers;
       left_is = more.left_is;
+      sent_is = more.sent_is;
       reads = more.reads;
       few = omega (arith, few, counted);
+      taken = more.taken;
       written = front_more a b c (lines_text k.lines) (lines_text lines) []
           (lines_text (lines_of opening [] more.answers)) k.written w
           (ap (λ x. lines_text k.lines ++ x) (append-nil (lines_text lines))
@@ -134,14 +137,51 @@ never_opened fault e opening turns format l l' s s' a h result is stands hl hs e
     (unopened fault e opening turns format l l' s s' h [] is refl stands hl hs) (Appends-nil a) ends
 
 -- a session over the end that came next
+over : (opening : Opening) (turns format : ℕ) (coming l l' s s' : Words) (a b : Bytes)
+    (result : Result ⊤ JoinStop) → format ≡ opening.format → l ≡ coming → s ≡ told_none coming
+    → Joins opening turns format l l' s s' a b result → JoinsOver opening turns coming l' s' a b result
+over opening turns format coming l l' s s' a b result spoken told silent h =
+    subst (λ x. Joins opening turns opening.format coming l' x s' a b result) silent
+    (subst (λ f. Joins opening turns f coming l' s s' a b result) spoken
+    (subst (λ x. Joins opening turns format x l' s s' a b result) told h))
+
 pub joined : (opening : Opening) (turns format : ℕ) (coming l l' s s' : Words) (a b : Bytes)
-    (result : Result ⊤ JoinStop) → format ≡ opening.format → l ≡ coming
+    (result : Result ⊤ JoinStop) → format ≡ opening.format → l ≡ coming → s ≡ told_none coming
     → Joins opening turns format l l' s s' a b result → JoinsAt opening turns coming a b result
-joined opening turns format coming l l' s s' a b result spoken told h =
-    inr (record {
-      left = l';
-      before = s;
-      after = s';
-      joins = subst (λ f. Joins opening turns f coming l' s s' a b result) spoken
-          (subst (λ x. Joins opening turns format x l' s s' a b result) told h);
-    })
+joined opening turns format coming l l' s s' a b result spoken told silent h =
+    inr (l', s', over opening turns format coming l l' s s' a b result spoken told silent h)
+
+-- Over a net that tells no messages nothing is told of the end either.
+
+none_left : (front : List (List ℕ)) (left : Words) → None ≡ told_front front left → left ≡ None
+none_left front None e = refl
+none_left front (Some xs) e = cc
+
+untold : (opening : Opening) (turns format : ℕ) (l' s' : Words) (a b : Bytes) (result : Result ⊤ JoinStop)
+    → Joins opening turns format None l' None s' a b result → (l' ≡ None) × (s' ≡ None)
+untold opening turns format l' s' a b result (inl h) =
+    (none_left h.course.takes l' h.course.left_is, h.course.sent_is)
+untold opening turns format l' s' a b result (inr h) = (none_left h.takes l' h.left_is, h.sent_is)
+
+settled : (opening : Opening) (turns : ℕ) (coming l' s' : Words) (a b : Bytes) (result : Result ⊤ JoinStop)
+    → JoinsOver opening turns coming l' s' a b result
+    → JoinsOver opening turns coming (told_of (told_none coming) l') (told_of (told_none coming) s') a b result
+settled opening turns None l' s' a b result h =
+    let same = untold opening turns opening.format l' s' a b result h in
+    subst (λ x. JoinsOver opening turns None None x a b result) same.1
+    (subst (λ x. JoinsOver opening turns None x s' a b result) same.0 h)
+settled opening turns (Some xs) l' s' a b result h = h
+
+-- a session over the end that came next, with what the net tells of it once it took it back
+pub joined_by : (opening : Opening) (turns format : ℕ) (coming rest l l' s s' unread spoken : Words)
+    (a b : Bytes) (result : Result ⊤ JoinStop) → format ≡ opening.format → l ≡ coming
+    → s ≡ told_none coming → rest ≡ told_none coming → unread ≡ told_of rest l'
+    → spoken ≡ told_of rest s' → Joins opening turns format l l' s s' a b result
+    → JoinsBy opening turns coming unread spoken a b result
+joined_by opening turns format coming rest l l' s s' unread spoken a b result f told silent none left sent h =
+    inr (subst (λ x. JoinsOver opening turns coming x spoken a b result)
+    (sym (left ∙ ap (λ x. told_of x l') none))
+    (subst (λ x. JoinsOver opening turns coming (told_of (told_none coming) l') x a b result)
+    (sym (sent ∙ ap (λ x. told_of x s') none))
+    (settled opening turns coming l' s' a b result
+    (over opening turns format coming l l' s s' a b result f told silent h))))

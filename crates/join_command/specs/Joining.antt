@@ -9,12 +9,12 @@ use Rattle.outside_calls.specs.declared.out_fault.OutFault.TheVariants as faults
 use Rattle.output_lines.specs.declared.out_line.OutLine.{OutLine}
 use Rattle.play_text.specs.Lines.{line_text}
 use Rattle.update_msgs.specs.declared.message.ServerMsg.{ServerMsg}
-use Rattle.links.specs.Told.{told_front}
+use Rattle.links.specs.Told.{told_and, told_front, told_none}
 use Rattle.client_model.specs.Runtime.{Opening}
 use Rattle.sessions.specs.declared.ended.Ended.{Ended}
 use Rattle.sessions.specs.declared.ended.Ended.TheVariants as ends
-use Rattle.client_sessions.specs.Asking.{lines_of}
-use Rattle.client_sessions.specs.Course.{ClientCourse}
+use Rattle.client_sessions.specs.Asking.{AllTaken, lines_of}
+use Rattle.client_sessions.specs.Course.{ClientCourse, said}
 use Rattle.client_sessions.specs.Exchange.{ReadsIn}
 use Rattle.join_command.specs.declared.stop.JoinStop.{JoinStop}
 use Rattle.join_command.specs.declared.stop.JoinStop.TheVariants.{Unwritten, NetFailed, InstancesFull}
@@ -63,14 +63,16 @@ pub record RunsOut (opening : Opening) (turns format : ℕ) (left left' sent sen
   pub written : Appends old new (lines_text lines)
   pub result_is : result ≡ ends_as ended
 
--- writing stopped behind these answers, and a front of their lines is written
-pub record IsCutShort (opening : Opening) (turns format : ℕ) (left left' : Words) (old new : Bytes)
+-- writing stopped behind these answers, and a front of their lines is written; nothing more was sent
+pub record IsCutShort (opening : Opening) (turns format : ℕ) (left left' sent sent' : Words) (old new : Bytes)
     (result : Result ⊤ JoinStop) : Type 0 where
   pub takes : List (List ℕ)
   pub answers : List ServerMsg
   pub left_is : left ≡ told_front takes left'
+  pub sent_is : sent' ≡ told_and sent (said opening answers)
   pub reads : AllZip (ReadsIn format) takes answers
   pub few : length answers ≤ turns + 1
+  pub taken : AllTaken opening [] answers
   pub written : WritesFront old new (lines_text (lines_of opening [] answers))
   pub stop : JoinStop
   pub stops : IsWriteStop stop
@@ -81,7 +83,7 @@ abbrev pub Joins : Opening → ℕ → ℕ → Words → Words → Words → Wor
     → Type 0
 Joins opening turns format left left' sent sent' old new result =
     RunsOut opening turns format left left' sent sent' old new result
-    ⊎ IsCutShort opening turns format left left' old new result
+    ⊎ IsCutShort opening turns format left left' sent sent' old new result
 
 -- no end was given, and nothing is written
 pub record IsUnconnected (old new : Bytes) (result : Result ⊤ JoinStop) : Type 0 where
@@ -89,15 +91,19 @@ pub record IsUnconnected (old new : Bytes) (result : Result ⊤ JoinStop) : Type
   pub result_is : result ≡ Err (stop_at fault)
   pub written : Appends old new []
 
--- a session over an end
-pub record JoinsOver (opening : Opening) (turns : ℕ) (coming : Words) (old new : Bytes)
-    (result : Result ⊤ JoinStop) : Type 0 where
-  pub left : Words
-  pub before : Words
-  pub after : Words
-  pub joins : Joins opening turns opening.format coming left before after old new result
+-- a session over the end to which these messages came, of which these were left, and which sent these, where
+-- the net tells messages
+abbrev pub JoinsOver : Opening → ℕ → Words → Words → Words → Bytes → Bytes → Result ⊤ JoinStop → Type 0
+JoinsOver opening turns coming left sent old new result =
+    Joins opening turns opening.format coming left (told_none coming) sent old new result
 
--- a session over the end that comes next, where the net tells its messages; or there was no end
+-- the same, or there was no end
+abbrev pub JoinsBy : Opening → ℕ → Words → Words → Words → Bytes → Bytes → Result ⊤ JoinStop → Type 0
+JoinsBy opening turns coming left sent old new result =
+    IsUnconnected old new result ⊎ JoinsOver opening turns coming left sent old new result
+
+-- the same, with nothing said of what was left and what was sent
 abbrev pub JoinsAt : Opening → ℕ → Words → Bytes → Bytes → Result ⊤ JoinStop → Type 0
 JoinsAt opening turns coming old new result =
-    IsUnconnected old new result ⊎ JoinsOver opening turns coming old new result
+    IsUnconnected old new result
+    ⊎ ((left : Words) × (sent : Words) × JoinsOver opening turns coming left sent old new result)

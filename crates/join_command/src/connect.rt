@@ -5,7 +5,7 @@ ghost use Rattle.handler_table.specs.Held.{IsHost};
 ghost use Rattle.handler_table.specs.Shelf.{marks_of};
 ghost use Rattle.hmr_base.specs.Causes.{Rose};
 ghost use Rattle.links.specs.declared.net.Asked.{Asked};
-ghost use Rattle.join_command.specs.Joining.{JoinsAt};
+ghost use Rattle.join_command.specs.Joining.{JoinsAt, JoinsBy};
 
 use crate::session::run;
 use crate::stop::JoinStop;
@@ -27,7 +27,9 @@ use std::alloc::{AllocError, Global};
 /// [`JoinStop::NetFailed`] only where the net's did. [`JoinStop::BadAnswer`] and
 /// [`JoinStop::InstancesFull`] come exactly where the session ended so, and [`JoinStop::NoMemory`] where
 /// memory ran out. The lines of the answers that were taken are written: all of them, but where the output
-/// failed or memory ran out a front of their bytes. It waits.
+/// failed or memory ran out a front of their bytes. What it sends and takes is that of a client's session,
+/// as far as the net tells messages: a real one tells none. The net has each end back that it gave. It
+/// waits.
 pub fn join<F: FnOnce(Bag) -> Result<Ran, AllocError> + Drop, N: Net, K: Sink>(
     alloc: Global,
     port: u16,
@@ -43,6 +45,10 @@ pub fn join<F: FnOnce(Bag) -> Result<Ran, AllocError> + Drop, N: Net, K: Sink>(
     requires hosts { All (IsHost F.post) shelf }
     ensures joins { JoinsAt (record { shelf = marks_of shelf; roots = roots.items; format = 2 }) turns
         (N.coming net.old) (K.written out.old) (K.written out.new) result }
+    ensures over { JoinsBy (record { shelf = marks_of shelf; roots = roots.items; format = 2 }) turns
+        (N.coming net.old) (N.unread net.new) (N.spoken net.new) (K.written out.old) (K.written out.new)
+        result }
+    ensures back { N.lent net.new ≡ N.lent net.old }
     ensures asked { N.asked net.new ≡ Some (Asked.Connect port) }
     ensures later { N.faults net.old ≤ N.faults net.new }
     ensures failed { result ≡ Err JoinStop.NetFailed → Rose (N.faults net.old) (N.faults net.new) }

@@ -3,6 +3,7 @@ use Rattle.std.specs.Prelude.{ℕ, List, Option, Some, None, map}
 use Rattle.links.specs.declared.feed.Feed.{Feed}
 use Rattle.links.specs.declared.feed.Feed.TheVariants.{Pipes, Told}
 use Rattle.links.specs.declared.feed.Lists.{Lists}
+use Rattle.links.specs.declared.mem_link.MemLink.{MemLink}
 
 -- the messages to come that a list holds
 abbrev pub coming_of : Lists → List (List ℕ)
@@ -21,3 +22,13 @@ left_of (Told told) = Some (coming_of told)
 abbrev pub sent_of : Feed → Option (List (List ℕ))
 sent_of (Pipes incoming outgoing) = None
 sent_of (Told told) = Some (sent_by told)
+
+-- the messages left to an end that came back
+abbrev pub unread_of : {R : Type 0} → Option (MemLink R) → Option (List (List ℕ))
+unread_of None = None
+unread_of (Some end) = left_of end.feed
+
+-- the messages that it sent
+abbrev pub spoken_of : {R : Type 0} → Option (MemLink R) → Option (List (List ℕ))
+spoken_of None = None
+spoken_of (Some end) = sent_of end.feed

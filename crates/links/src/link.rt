@@ -78,6 +78,10 @@ pub trait Link {
         ensures planned { AsPlanned (plan self.old) (plan self.new) (is_failed result)
             (is_first_long (left self.old)) };
 
+    /// Lets a client rest that was told there is nothing new: over a real connection it returns after 50
+    /// milliseconds, in memory at once. It takes no memory.
+    fn pause(&self);
+
     /// Closes the end. The other end still receives what was sent before, and after that None or a
     /// failure. It takes no memory.
     fn close(&mut self)

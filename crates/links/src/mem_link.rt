@@ -91,6 +91,8 @@ impl<R: Wait + Drop> Link for MemLink<R> {
         }
     }
 
+    fn pause(&self) {}
+
     fn close(&mut self) {
         self.feed.shut(&self.rt);
         self.phase = Phase::Shut;

@@ -4,7 +4,9 @@ ghost use Rattle.std.specs.Prelude.{◌≡◌, ◌≢◌, ◌≤◌, ℕ, Option
 ghost use Rattle.hmr_base.specs.Plans.{faults_of, fresh_plan, plan_of};
 ghost use Rattle.links.specs.declared.link.Phase.{Phase};
 ghost use Rattle.links.specs.Ends.{ends_of};
-ghost use Rattle.links.specs.Feeds.{left_of};
+ghost use Rattle.links.specs.Lending.{HasGiven, HasRefused};
+ghost use Rattle.links.specs.Feeds.{left_of, sent_of};
+ghost use Rattle.links.specs.Told.{told_none, told_of};
 
 use crate::feed::Feed;
 use crate::pipe::Pipe;
@@ -102,6 +104,7 @@ impl<R: Wait + Copy + Drop> MemNet<R> {
     // Leaves a pair of new pipes at the door, and answers the feed of this side.
     fn knock(&self, alloc: Global) -> Result<Feed, AllocError>
         ensures untold { IfOk result (λ feed. left_of feed ≡ None) }
+        ensures silent { IfOk result (λ feed. sent_of feed ≡ None) }
     {
         let there = Pipe::new(alloc)?;
         let back = Pipe::new(alloc)?;
@@ -119,11 +122,21 @@ impl<R: Wait + Copy + Drop> Net for MemNet<R> {
 
     ghost faults = { λ s. faults_of s.port.plan };
 
+    ghost lent = { λ s. s.port.lent };
+
+    ghost refused = { λ s. s.port.refused };
+
+    ghost late = { λ s. s.port.late };
+
     ghost asked = { λ s. s.port.asked };
 
     ghost heard = { λ s. s.port.heard };
 
     ghost coming = { λ _. None };
+
+    ghost unread = { λ _. None };
+
+    ghost spoken = { λ _. None };
 
     ghost plan = { λ s. Some (plan_of s.port.plan) };
 
@@ -143,7 +156,9 @@ impl<R: Wait + Copy + Drop> Net for MemNet<R> {
 
     fn connect(&mut self, alloc: Global, port: u16) -> Result<MemLink<R>, OutFault> {
         self.port.begin_connect(port)?;
-        let feed = self.knock(alloc)?;
+        let Ok(feed) = self.knock(alloc) else {
+            return Err(self.port.refuse(OutFault::NoMemory));
+        };
         let failing = self.port.next_end(alloc);
         Ok(MemLink::new(self.rt, feed, failing))
     }

@@ -1,6 +1,6 @@
 // What the nets in memory have in common: what they were asked, the port that they listen at, which of
-// their calls are to fail and which calls of the ends to come.
-ghost use Rattle.std.specs.Prelude.{◌≡◌, ◌≢◌, ◌≤◌, Some, None, false, IfErr, IfOk};
+// their calls are to fail and which calls of the ends to come, and what became of the ends that they gave.
+ghost use Rattle.std.specs.Prelude.{◌≡◌, ◌≢◌, ◌≤◌, ◌<◌, ◌-◌, ◌^◌, Some, None, false, IfOk, OnErr, OnOk};
 ghost use Rattle.hmr_base.specs.Causes.{Rose};
 ghost use Rattle.outside_calls.specs.Causes.{HasOutCause, is_failed};
 ghost use Rattle.hmr_base.specs.Plans.{AsPlanned, faults_of, fresh_plan, plan_of};
@@ -8,6 +8,7 @@ ghost use Rattle.outside_calls.specs.declared.out_fault.OutFault.{OutFault};
 ghost use Rattle.links.specs.declared.net.Asked.{Asked};
 ghost use Rattle.links.specs.Asks.{first_asked};
 ghost use Rattle.links.specs.Ends.{ends_after, ends_of, failing_next};
+ghost use Rattle.links.specs.Lent.{Gives, IsSameLending, Refuses};
 
 use crate::{Asked, OutFault};
 use hmr_base::FaultPlan;
@@ -24,6 +25,9 @@ pub(crate) struct Port {
     heard: Option<u16>,
     plan: FaultPlan,
     ends: VecDeque<Vec<u64>>,
+    lent: u64,
+    refused: bool,
+    late: bool,
 }
 
 impl Port {
@@ -32,12 +36,16 @@ impl Port {
         ensures plan { plan_of result.plan ≡ fresh_plan failing.items }
         ensures faults { faults_of result.plan ≡ 0 }
         ensures ends { result.ends ≡ ends }
+        ensures none { (result.lent ≡ 0) × (result.refused ≡ false) × (result.late ≡ false) }
     {
         Port {
             asked: None,
             heard: None,
             plan: FaultPlan::new(failing),
             ends,
+            lent: 0,
+            refused: false,
+            late: false,
         }
     }
 
@@ -45,6 +53,7 @@ impl Port {
         ensures asked { self.new.asked ≡ Some (Asked.Listen port) }
         ensures heard { IfOk result (λ heard. self.new.heard ≡ Some heard) }
         ensures ends { self.new.ends ≡ self.old.ends }
+        ensures lent { IsSameLending self.old self.new }
         ensures cause { HasOutCause (faults_of self.old.plan) (faults_of self.new.plan) result }
         ensures planned { AsPlanned (Some (plan_of self.old.plan)) (Some (plan_of self.new.plan))
             (is_failed result) false }
@@ -56,22 +65,45 @@ impl Port {
         Ok(heard)
     }
 
+    /// Refused as planned, and where one more end can't be counted.
     pub(crate) fn begin_accept(&mut self) -> Result<(), OutFault>
         ensures asked { self.new.asked ≡ self.old.asked }
         ensures heard { self.new.heard ≡ self.old.heard }
         ensures ends { self.new.ends ≡ self.old.ends }
+        ensures same { OnOk result (IsSameLending self.old self.new) }
+        ensures room { OnOk result (self.new.lent < 2 ^ 64 - 1) }
+        ensures kept { OnErr result (Refuses self.old self.new) }
         ensures cause { HasOutCause (faults_of self.old.plan) (faults_of self.new.plan) result }
         ensures planned { AsPlanned (Some (plan_of self.old.plan)) (Some (plan_of self.new.plan))
             (is_failed result) false }
-        ensures only { IfErr result (λ fault. fault ≡ OutFault.Failed) }
     {
-        Ok(self.plan.begin()?)
+        match self.plan.begin() {
+            Ok(()) if self.lent < u64::MAX => Ok(()),
+            Ok(()) => Err(self.refuse(OutFault::NoMemory)),
+            Err(fault) => Err(self.refuse(OutFault::from(fault))),
+        }
+    }
+
+    /// Notes that an end is refused for this cause.
+    pub(crate) fn refuse(&mut self, fault: OutFault) -> OutFault
+        ensures same { result ≡ fault }
+        ensures kept { Refuses self.old self.new }
+        ensures asked { self.new.asked ≡ self.old.asked }
+        ensures heard { self.new.heard ≡ self.old.heard }
+        ensures ends { self.new.ends ≡ self.old.ends }
+        ensures plan { self.new.plan ≡ self.old.plan }
+    {
+        self.refused = true;
+        fault
     }
 
     pub(crate) fn begin_connect(&mut self, port: u16) -> Result<(), OutFault>
         ensures asked { self.new.asked ≡ first_asked self.old.asked (Asked.Connect port) }
         ensures heard { self.new.heard ≡ self.old.heard }
         ensures ends { self.new.ends ≡ self.old.ends }
+        ensures same { OnOk result (IsSameLending self.old self.new) }
+        ensures room { OnOk result (self.new.lent < 2 ^ 64 - 1) }
+        ensures kept { OnErr result (Refuses self.old self.new) }
         ensures cause { HasOutCause (faults_of self.old.plan) (faults_of self.new.plan) result }
         ensures planned { AsPlanned (Some (plan_of self.old.plan)) (Some (plan_of self.new.plan))
             (is_failed result) false }
@@ -79,21 +111,25 @@ impl Port {
         if self.asked.is_none() {
             self.asked = Some(Asked::Connect(port));
         }
-        Ok(self.plan.begin()?)
+        self.begin_accept()
     }
 
-    /// The numbers of the calls that are to fail of the end that comes now.
+    /// Counts the end that comes now, and gives the numbers of its calls that are to fail.
     pub(crate) fn next_end(&mut self, alloc: Global) -> Vec<u64>
+        requires room { self.old.lent < 2 ^ 64 - 1 }
+        ensures gave { Gives self.old self.new }
         ensures failing { result.items ≡ failing_next (ends_of self.old) }
         ensures ends { Some (ends_of self.new) ≡ ends_after (Some (ends_of self.old)) }
         ensures asked { self.new.asked ≡ self.old.asked }
         ensures heard { self.new.heard ≡ self.old.heard }
         ensures plan { self.new.plan ≡ self.old.plan }
     {
+        self.lent += 1;
+        self.late = self.late || self.refused;
         self.ends.pop_front().unwrap_or(Vec::new(alloc))
     }
 
-    /// Counts a fault where an end that came back has some.
+    /// Takes an end back, and counts a fault where it has some.
     pub(crate) fn retire(&mut self, end_faults: u64)
         ensures rose { end_faults ≢ 0 → Rose (faults_of self.old.plan) (faults_of self.new.plan) }
         ensures same { end_faults ≡ 0 → faults_of self.new.plan ≡ faults_of self.old.plan }
@@ -102,7 +138,10 @@ impl Port {
         ensures asked { self.new.asked ≡ self.old.asked }
         ensures heard { self.new.heard ≡ self.old.heard }
         ensures ends { self.new.ends ≡ self.old.ends }
+        ensures lent { self.new.lent ≡ self.old.lent - 1 }
+        ensures refused { (self.new.refused ≡ self.old.refused) × (self.new.late ≡ self.old.late) }
     {
+        self.lent = self.lent.saturating_sub(1);
         if end_faults > 0 {
             self.plan.fail();
         }

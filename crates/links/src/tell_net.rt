@@ -1,9 +1,13 @@
-// A net in memory whose next end has its messages from the start, and tells them.
-ghost use Rattle.std.specs.Prelude.{◌≡◌, ◌≢◌, ◌≤◌, ℕ, List, Option, Some, None, IfOk, IsSome, map, []};
+// A net in memory whose next end has its messages from the start, and tells them. It holds the end that it
+// took back last, and so tells what was left to it and what it sent.
+ghost use Rattle.std.specs.Prelude.{◌≡◌, ◌≢◌, ◌≤◌, ◌<◌, ◌-◌, ◌^◌, ℕ, List, Option, Some, None, IfOk, IfSome, IsSome, map, []};
 ghost use Rattle.hmr_base.specs.Plans.{faults_of, fresh_plan, plan_of};
 ghost use Rattle.links.specs.declared.link.Phase.{Phase};
 ghost use Rattle.links.specs.Ends.{ends_after, ends_of, failing_next};
-ghost use Rattle.links.specs.Feeds.{left_of};
+ghost use Rattle.links.specs.Feeds.{left_of, sent_of, spoken_of, unread_of};
+ghost use Rattle.links.specs.Lending.{HasGiven, HasRefused};
+ghost use Rattle.links.specs.Lent.{Gives};
+ghost use Rattle.links.specs.Told.{told_none, told_of};
 
 use crate::feed::Feed;
 use crate::port::Port;
@@ -20,6 +24,7 @@ pub struct TellNet<R: Drop> {
     rt: R,
     coming: VecDeque<Vec<u8>>,
     port: Port,
+    back: Option<MemLink<R>>,
 }
 
 impl<R: Wait + Copy + Drop> TellNet<R> {
@@ -43,13 +48,29 @@ impl<R: Wait + Copy + Drop> TellNet<R> {
             rt,
             coming,
             port: Port::new(failing, ends),
+            back: None,
+        }
+    }
+
+    /// The messages that the end which it took back last had sent; none before it took one back.
+    pub fn spoken(&self) -> &[Vec<u8>]
+        ensures { IfSome (spoken_of self.now.back)
+            (λ messages. map (λ message. message.items) result.now ≡ messages) }
+    {
+        match &self.back {
+            Some(end) => end.sent(),
+            None => &[],
         }
     }
 
     // The end that comes now.
     fn next_link(&mut self, alloc: Global) -> MemLink<R>
+        requires room { self.old.port.lent < 2 ^ 64 - 1 }
+        ensures gave { Gives self.old.port self.new.port }
         ensures fresh { result.phase ≡ Phase.Fresh }
         ensures told { left_of result.feed ≡ Some (map (λ message. message.items) self.old.coming.items) }
+        ensures silent { sent_of result.feed ≡ Some [] }
+        ensures no_more { self.new.coming.items ≡ [] }
         ensures clean { faults_of result.plan ≡ 0 }
         ensures plan { plan_of result.plan ≡ fresh_plan (failing_next (ends_of self.old.port)) }
         ensures ends { Some (ends_of self.new.port) ≡ ends_after (Some (ends_of self.old.port)) }
@@ -68,11 +89,21 @@ impl<R: Wait + Copy + Drop> Net for TellNet<R> {
 
     ghost faults = { λ s. faults_of s.port.plan };
 
+    ghost lent = { λ s. s.port.lent };
+
+    ghost refused = { λ s. s.port.refused };
+
+    ghost late = { λ s. s.port.late };
+
     ghost asked = { λ s. s.port.asked };
 
     ghost heard = { λ s. s.port.heard };
 
     ghost coming = { λ s. Some (map (λ message. message.items) s.coming.items) };
+
+    ghost unread = { λ s. unread_of s.back };
+
+    ghost spoken = { λ s. spoken_of s.back };
 
     ghost plan = { λ s. Some (plan_of s.port.plan) };
 
@@ -94,5 +125,6 @@ impl<R: Wait + Copy + Drop> Net for TellNet<R> {
 
     fn retire(&mut self, end: MemLink<R>) {
         self.port.retire(end.faults());
+        self.back = Some(end);
     }
 }

@@ -1,5 +1,5 @@
 // What a folder in memory and one of the file system show, before and after a change.
-use crate::{file_named, is_gone, show};
+use crate::{fails, file_named, is_gone, show};
 use folders::{FolderTree, MemFile, MemTree, OutFault, Tree};
 use std::alloc::{AllocError, Global};
 use std::collections::VecDeque;
@@ -52,7 +52,7 @@ fn a_folder_in_memory_shows_each_state(rt: HostRuntime) -> Result<(), Fail> {
 }
 
 #[test]
-fn a_file_of_an_earlier_state_is_gone(rt: HostRuntime) -> Result<(), Fail> {
+fn a_file_of_an_earlier_state_is_a_fault(rt: HostRuntime) -> Result<(), Fail> {
     let alloc = rt.alloc();
     let mut folders = VecDeque::new(alloc);
     folders.push_back(files(alloc, &[("/main.js", "one")])?)?;
@@ -62,9 +62,9 @@ fn a_file_of_an_earlier_state_is_gone(rt: HostRuntime) -> Result<(), Fail> {
     let Some(file) = file_named(alloc, &mut tree, &root, "main.js")? else {
         panic!(rt; "main.js isn't listed")
     };
-    assert!(rt; !is_gone(alloc, &mut tree, &file));
+    assert!(rt; !fails(alloc, &mut tree, &file));
     assert!(rt; show(alloc, &mut tree, "site", 3)?.is_empty());
-    assert!(rt; is_gone(alloc, &mut tree, &file));
+    assert!(rt; fails(alloc, &mut tree, &file));
     Ok(())
 }
 

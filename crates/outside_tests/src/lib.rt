@@ -27,6 +27,6 @@ mod wait_tests;
 #[cfg(test)]
 pub use ends::{ask, receive, send_all, serve};
 #[cfg(test)]
-pub use listing::{depth, file_named, is_gone, show};
+pub use listing::{depth, fails, file_named, is_gone, show};
 #[cfg(test)]
 pub use trials::{end_trial, net_trial};

@@ -2,7 +2,7 @@
 ghost use Rattle.std.specs.Prelude.{◌≡◌};
 ghost use Rattle.folders.specs.Files.{MayOpen};
 
-use folders::{Entry, Node, OutFault, Tree};
+use folders::{Entry, Node, OutFault, Reading, Tree};
 use std::alloc::{AllocError, Global};
 
 /// The most folders that are looked into.
@@ -96,11 +96,14 @@ fn line_of<T: Tree>(
 ) -> Result<String, OutFault>
     ensures asked { T.asked tree.new ≡ T.asked tree.old }
 {
-    let Some(bytes) = tree.read(alloc, file, limit)? else {
-        return Ok(format!(in alloc; "{path} has more")?);
-    };
-    let text = str::from_utf8(&bytes).unwrap_or("?");
-    Ok(format!(in alloc; "{path}: {text}")?)
+    match tree.read(alloc, file, limit)? {
+        Reading::Text(bytes) => {
+            let text = str::from_utf8(&bytes).unwrap_or("?");
+            Ok(format!(in alloc; "{path}: {text}")?)
+        }
+        Reading::TooLong => Ok(format!(in alloc; "{path} has more")?),
+        Reading::Gone => Ok(format!(in alloc; "{path} is gone")?),
+    }
 }
 
 /// The file of a name in a folder, if there is one.
@@ -159,9 +162,16 @@ fn file_of<D: Drop, F: Drop>(node: Node<D, F>) -> Option<F> {
     }
 }
 
-/// Whether a file can't be read.
-pub fn is_gone<T: Tree>(alloc: Global, tree: &mut T, file: &T::File) -> bool
+/// Whether reading a file is a fault.
+pub fn fails<T: Tree>(alloc: Global, tree: &mut T, file: &T::File) -> bool
     ensures asked { T.asked tree.new ≡ T.asked tree.old }
 {
     matches!(tree.read(alloc, file, 9), Err(OutFault::Failed))
+}
+
+/// Whether a file is gone since it was listed.
+pub fn is_gone<T: Tree>(alloc: Global, tree: &mut T, file: &T::File) -> bool
+    ensures asked { T.asked tree.new ≡ T.asked tree.old }
+{
+    matches!(tree.read(alloc, file, 9), Ok(Reading::Gone))
 }

@@ -51,6 +51,11 @@ module _ {R L : Type 0} where
   pass_in (Worker board ended) = board.pass
   pass_in (Session desk link ended) = desk.pass
 
+  -- how many ends of connections the job hands back
+  abbrev pub ends_back : ServeOut R L → ℕ
+  ends_back (Worker board ended) = 0
+  ends_back (Session desk link ended) = 1
+
   -- there was no memory for the job, or for telling the hub that its client is gone
   abbrev pub lacked_memory : ServeOut R L → Bool
   lacked_memory (Worker board ended) = stopped_for_memory ended

@@ -3,3 +3,4 @@ pub mod Gathers
 pub mod Crews
 pub mod Begun
 pub mod Splits
+pub mod Lendings

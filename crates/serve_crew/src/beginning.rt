@@ -15,8 +15,9 @@ ghost use Rattle.hmr_hub.specs.Passes.{IsPassOf, all_given};
 ghost use Rattle.handler_table.specs.Held.{IsHost};
 ghost use Rattle.serve_jobs.specs.Clients.{IsReady};
 ghost use Rattle.serve_crew.specs.Begun.{HasBegun};
-ghost use Rattle.serve_crew.specs.Crews.{IsCrew, logs_due, passes_due};
+ghost use Rattle.serve_crew.specs.Crews.{IsCrew, ends_due, logs_due, passes_due};
 ghost use Rattle.serve_crew.specs.Gathers.{Gathers};
+ghost use Rattle.serve_crew.specs.Lendings.{Lends};
 ghost use Rattle.serve_crew.specs.Splits.{Divided, IsSpentBy};
 
 use crate::cause::Cause;
@@ -44,7 +45,8 @@ impl<
     R: Threads + Wait + Copy + Drop + Send + 'static,
     N: Net,
     G: Gate + Clone + Drop + Send + 'static,
-> Crew<R, N, G>
+    F: FnOnce(Bag) -> Result<Ran, AllocError> + Drop + Send + 'static,
+> Crew<R, N, G, F>
 where
     N::End: Drop + Send + 'static,
 {
@@ -56,8 +58,10 @@ where
     /// A job whose start is refused is given up and noted as a fault, and the next is begun. No more are
     /// begun after a [`Cause`]: [`Cause::Fault`] comes only where the count of the net rose in this call,
     /// and [`Cause::Spent`] exactly where all numbers of passes were found given. An end without a partner
-    /// is then closed and given back. Where the answer is Ok and no fault was noted, all were begun.
-    pub fn begin_all<P: Spawner, F: FnOnce(Bag) -> Result<Ran, AllocError> + Drop + Send + 'static>(
+    /// is then closed and given back, and the net is asked for no end after one that it refused. Each end
+    /// that it gave is with a job that runs, or was given back. Where the answer is Ok and no fault was
+    /// noted, all were begun.
+    pub fn begin_all<P: Spawner>(
         &mut self,
         rt: &R,
         alloc: Global,
@@ -86,6 +90,10 @@ where
         ensures gathers { Gathers self.old.gathered self.new.gathered
             (N.faults net.old) (N.faults net.new) (P.faults spawner.old) (P.faults spawner.new) }
         ensures asked { (N.asked net.new ≡ N.asked net.old) × (N.heard net.new ≡ N.heard net.old) }
+        ensures ends { Lends (ends_due self.old.running self.old.clients)
+            (ends_due self.new.running self.new.clients) (N.lent net.old) (N.lent net.new) }
+        ensures stops { N.refused net.old ≡ false → N.late net.new ≡ N.late net.old }
+        ensures goes { OnOk result (N.refused net.new ≡ N.refused net.old) }
         ensures begun { OnOk result (self.new.gathered.fault ≡ false → P.begun spawner.new
             ≡ length workers.takers.items ∷ (clients.own + clients.outside) ∷ clients.own ∷ []) }
         ensures kept { OnOk result (passes_due self.new.running self.new.gathered
@@ -123,6 +131,9 @@ where
         ensures gathers { Gathers self.old.gathered self.new.gathered
             (N.faults net.old) (N.faults net.new) (P.faults spawner.old) (P.faults spawner.new) }
         ensures asked { (N.asked net.new ≡ N.asked net.old) × (N.heard net.new ≡ N.heard net.old) }
+        ensures ends { Lends (ends_due self.old.running self.old.clients)
+            (ends_due self.new.running self.new.clients) (N.lent net.old) (N.lent net.new) }
+        ensures unasked { (N.refused net.new ≡ N.refused net.old) × (N.late net.new ≡ N.late net.old) }
         ensures begun { OnOk result (self.new.gathered.fault ≡ false
             → HasBegun (length workers.takers.items) 0 0 (P.begun spawner.old) (P.begun spawner.new)) }
         ensures few { sum (P.begun spawner.new) ≤ sum (P.begun spawner.old) + length workers.takers.items }
@@ -170,6 +181,9 @@ where
         ensures gathers { Gathers self.old.gathered self.new.gathered
             (N.faults net.old) (N.faults net.new) (P.faults spawner.old) (P.faults spawner.new) }
         ensures asked { (N.asked net.new ≡ N.asked net.old) × (N.heard net.new ≡ N.heard net.old) }
+        ensures ends { Lends (ends_due self.old.running self.old.clients)
+            (ends_due self.new.running self.new.clients) (N.lent net.old) (N.lent net.new) }
+        ensures unasked { (N.refused net.new ≡ N.refused net.old) × (N.late net.new ≡ N.late net.old) }
         ensures begun { OnOk result (self.new.gathered.fault ≡ false
             → HasBegun 1 0 0 (P.begun spawner.old) (P.begun spawner.new)) }
         ensures few { sum (P.begun spawner.new) ≤ sum (P.begun spawner.old) + 1 }
@@ -190,7 +204,7 @@ where
     }
 
     // Begins a session and a client for each of the program's own clients.
-    fn begin_pairs<P: Spawner, F: FnOnce(Bag) -> Result<Ran, AllocError> + Drop + Send + 'static>(
+    fn begin_pairs<P: Spawner>(
         &mut self,
         rt: &R,
         alloc: Global,
@@ -217,6 +231,10 @@ where
         ensures gathers { Gathers self.old.gathered self.new.gathered
             (N.faults net.old) (N.faults net.new) (P.faults spawner.old) (P.faults spawner.new) }
         ensures asked { (N.asked net.new ≡ N.asked net.old) × (N.heard net.new ≡ N.heard net.old) }
+        ensures ends { Lends (ends_due self.old.running self.old.clients)
+            (ends_due self.new.running self.new.clients) (N.lent net.old) (N.lent net.new) }
+        ensures stops { N.refused net.old ≡ false → N.late net.new ≡ N.late net.old }
+        ensures goes { OnOk result (N.refused net.new ≡ N.refused net.old) }
         ensures begun { OnOk result (self.new.gathered.fault ≡ false
             → HasBegun 0 clients.own clients.own (P.begun spawner.old) (P.begun spawner.new)) }
         ensures few { sum (P.begun spawner.new) ≤ sum (P.begun spawner.old) + 2 * clients.own }
@@ -236,7 +254,7 @@ where
     }
 
     // Begins a session and a client at the two ends of a new connection.
-    fn begin_pair<P: Spawner, F: FnOnce(Bag) -> Result<Ran, AllocError> + Drop + Send + 'static>(
+    fn begin_pair<P: Spawner>(
         &mut self,
         rt: &R,
         alloc: Global,
@@ -261,6 +279,10 @@ where
         ensures gathers { Gathers self.old.gathered self.new.gathered
             (N.faults net.old) (N.faults net.new) (P.faults spawner.old) (P.faults spawner.new) }
         ensures asked { (N.asked net.new ≡ N.asked net.old) × (N.heard net.new ≡ N.heard net.old) }
+        ensures ends { Lends (ends_due self.old.running self.old.clients)
+            (ends_due self.new.running self.new.clients) (N.lent net.old) (N.lent net.new) }
+        ensures stops { N.refused net.old ≡ false → N.late net.new ≡ N.late net.old }
+        ensures goes { OnOk result (N.refused net.new ≡ N.refused net.old) }
         ensures begun { OnOk result (self.new.gathered.fault ≡ false
             → HasBegun 0 1 1 (P.begun spawner.old) (P.begun spawner.new)) }
         ensures few { sum (P.begun spawner.new) ≤ sum (P.begun spawner.old) + 2 }
@@ -287,7 +309,7 @@ where
     }
 
     // Begins a client at an end of a connection.
-    fn begin_client<P: Spawner, F: FnOnce(Bag) -> Result<Ran, AllocError> + Drop + Send + 'static>(
+    fn begin_client<P: Spawner>(
         &mut self,
         rt: &R,
         alloc: Global,
@@ -309,6 +331,9 @@ where
         ensures gathers { Gathers self.old.gathered self.new.gathered
             (N.faults net.old) (N.faults net.new) (P.faults spawner.old) (P.faults spawner.new) }
         ensures asked { (N.asked net.new ≡ N.asked net.old) × (N.heard net.new ≡ N.heard net.old) }
+        ensures ends { Lends (ends_due self.old.running self.old.clients + 1)
+            (ends_due self.new.running self.new.clients) (N.lent net.old) (N.lent net.new) }
+        ensures unasked { (N.refused net.new ≡ N.refused net.old) × (N.late net.new ≡ N.late net.old) }
         ensures begun { OnOk result (self.new.gathered.fault ≡ false
             → HasBegun 0 0 1 (P.begun spawner.old) (P.begun spawner.new)) }
         ensures few { sum (P.begun spawner.new) ≤ sum (P.begun spawner.old) + 1 }
@@ -353,6 +378,10 @@ where
         ensures gathers { Gathers self.old.gathered self.new.gathered
             (N.faults net.old) (N.faults net.new) (P.faults spawner.old) (P.faults spawner.new) }
         ensures asked { (N.asked net.new ≡ N.asked net.old) × (N.heard net.new ≡ N.heard net.old) }
+        ensures ends { Lends (ends_due self.old.running self.old.clients)
+            (ends_due self.new.running self.new.clients) (N.lent net.old) (N.lent net.new) }
+        ensures stops { N.refused net.old ≡ false → N.late net.new ≡ N.late net.old }
+        ensures goes { OnOk result (N.refused net.new ≡ N.refused net.old) }
         ensures begun { OnOk result (self.new.gathered.fault ≡ false
             → HasBegun 0 count 0 (P.begun spawner.old) (P.begun spawner.new)) }
         ensures few { sum (P.begun spawner.new) ≤ sum (P.begun spawner.old) + count }
@@ -391,6 +420,10 @@ where
         ensures gathers { Gathers self.old.gathered self.new.gathered
             (N.faults net.old) (N.faults net.new) (P.faults spawner.old) (P.faults spawner.new) }
         ensures asked { (N.asked net.new ≡ N.asked net.old) × (N.heard net.new ≡ N.heard net.old) }
+        ensures ends { Lends (ends_due self.old.running self.old.clients)
+            (ends_due self.new.running self.new.clients) (N.lent net.old) (N.lent net.new) }
+        ensures stops { N.refused net.old ≡ false → N.late net.new ≡ N.late net.old }
+        ensures goes { OnOk result (N.refused net.new ≡ N.refused net.old) }
         ensures begun { OnOk result (self.new.gathered.fault ≡ false
             → HasBegun 0 1 0 (P.begun spawner.old) (P.begun spawner.new)) }
         ensures few { sum (P.begun spawner.new) ≤ sum (P.begun spawner.old) + 1 }
@@ -429,6 +462,9 @@ where
         ensures gathers { Gathers self.old.gathered self.new.gathered
             (N.faults net.old) (N.faults net.new) (P.faults spawner.old) (P.faults spawner.new) }
         ensures asked { (N.asked net.new ≡ N.asked net.old) × (N.heard net.new ≡ N.heard net.old) }
+        ensures ends { Lends (ends_due self.old.running self.old.clients + 1)
+            (ends_due self.new.running self.new.clients) (N.lent net.old) (N.lent net.new) }
+        ensures unasked { (N.refused net.new ≡ N.refused net.old) × (N.late net.new ≡ N.late net.old) }
         ensures begun { OnOk result (self.new.gathered.fault ≡ false
             → HasBegun 0 1 0 (P.begun spawner.old) (P.begun spawner.new)) }
         ensures few { sum (P.begun spawner.new) ≤ sum (P.begun spawner.old) + 1 }

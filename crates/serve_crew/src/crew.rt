@@ -4,15 +4,18 @@ ghost use Rattle.std.specs.Arc.{arc_value};
 ghost use Rattle.jobs.specs.Begun.{most_starts, one_more};
 ghost use Rattle.hmr_hub.specs.Passes.{IsPassOf, all_given, hub_mark};
 ghost use Rattle.serve_jobs.specs.Outs.{JobOf, kind_of};
-ghost use Rattle.serve_crew.specs.Crews.{IsCrew, logs_due, passes_due};
+ghost use Rattle.serve_crew.specs.Crews.{IsCrew, ends_due, ends_of, logs_due, passes_due};
 ghost use Rattle.serve_crew.specs.Gathers.{Gathers, HasPlace, HasRoom, SameGathered};
+ghost use Rattle.serve_crew.specs.Lendings.{Lends};
 ghost use Rattle.serve_crew.specs.Splits.{Divided, IsSpentBy};
 
 use crate::cause::Cause;
 use crate::gathered::Gathered;
+use const_eval::Ran;
 use hmr_hub::{Hub, Pass};
 use jobs::{Gate, Job, Running, Spawner, start};
 use links::{Link, Net};
+use retained_data::Bag;
 use serve_jobs::{RunningClient, ServeJob, ServeOut};
 use std::alloc::{AllocError, Global};
 use std::sync::{Arc, Wait};
@@ -20,13 +23,13 @@ use std::thread::Threads;
 
 /// Jobs of a hub that were begun, and what those that ended so far have left.
 #[derive(Drop)]
-pub struct Crew<R: Wait + Drop, N: Net, G: Gate + Drop>
+pub struct Crew<R: Wait + Drop, N: Net, G: Gate + Drop, F: Drop>
 where
     N::End: Drop,
 {
     pub(crate) hub: Arc<Hub, Global>,
     pub(crate) running: Vec<Running<ServeJob<R, N::End, G>>>,
-    pub(crate) clients: Vec<RunningClient<N::End>>,
+    pub(crate) clients: Vec<RunningClient<F, N::End>>,
     pub(crate) gathered: Gathered,
 }
 
@@ -34,7 +37,8 @@ impl<
     R: Threads + Wait + Copy + Drop + Send + 'static,
     N: Net,
     G: Gate + Clone + Drop + Send + 'static,
-> Crew<R, N, G>
+    F: FnOnce(Bag) -> Result<Ran, AllocError> + Drop + Send + 'static,
+> Crew<R, N, G, F>
 where
     N::End: Drop + Send + 'static,
 {
@@ -45,6 +49,7 @@ where
             result.running result.clients result.gathered }
         ensures none { passes_due result.running result.gathered ≡ 0 }
         ensures no_logs { logs_due result.clients result.gathered ≡ 0 }
+        ensures no_ends { ends_due result.running result.clients ≡ 0 }
         ensures well { (result.gathered.memory ≡ false) × (result.gathered.fault ≡ false) }
     {
         Crew {
@@ -105,6 +110,9 @@ where
         ensures gathers { Gathers self.old.gathered self.new.gathered
             (N.faults net.old) (N.faults net.new) (P.faults spawner.old) (P.faults spawner.new) }
         ensures asked { (N.asked net.new ≡ N.asked net.old) × (N.heard net.new ≡ N.heard net.old) }
+        ensures ends { Lends (ends_due self.old.running self.old.clients + ends_of job)
+            (ends_due self.new.running self.new.clients) (N.lent net.old) (N.lent net.new) }
+        ensures unasked { (N.refused net.new ≡ N.refused net.old) × (N.late net.new ≡ N.late net.old) }
         ensures begun { self.new.gathered.fault ≡ false
             → P.begun spawner.new ≡ one_more (P.begun spawner.old) (kind_of job) }
         ensures few { sum (P.begun spawner.new) ≤ sum (P.begun spawner.old) + 1 }

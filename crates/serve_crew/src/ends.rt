@@ -1,5 +1,5 @@
 // What is read off the end of a job, and how the end of a connection is given back that no job has.
-ghost use Rattle.std.specs.Prelude.{◌≡◌};
+ghost use Rattle.std.specs.Prelude.{◌≡◌, ◌-◌};
 ghost use Rattle.serve_jobs.specs.ClientEnds.{ending_of};
 ghost use Rattle.serve_crew.specs.Ends.{ended_for_memory, found_full, is_faulty, is_faulty_end};
 ghost use Rattle.serve_crew.specs.Ends.{lacked_memory};
@@ -61,6 +61,8 @@ pub(crate) fn hang_up<N: Net>(net: &mut N, mut end: N::End)
     requires clean { N.End.faults end ≡ 0 }
     ensures faults { N.faults net.new ≡ N.faults net.old }
     ensures asked { (N.asked net.new ≡ N.asked net.old) × (N.heard net.new ≡ N.heard net.old) }
+    ensures lent { N.lent net.new ≡ N.lent net.old - 1 }
+    ensures unasked { (N.refused net.new ≡ N.refused net.old) × (N.late net.new ≡ N.late net.old) }
 {
     end.close();
     net.retire(end);

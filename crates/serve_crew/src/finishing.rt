@@ -1,16 +1,20 @@
 // The end of a crew: each job is waited for, and what it leaves is taken in.
-ghost use Rattle.std.specs.Prelude.{◌≡◌, ◌<◌, ◌+◌, length, vec_capacity, vec_len};
-ghost use Rattle.std.specs.List.{All};
+ghost use Rattle.std.specs.Prelude.{◌≡◌, ◌<◌, ◌+◌, ◌-◌, length, vec_capacity, vec_len};
+ghost use Rattle.std.specs.List.{All, sum_by};
 ghost use Rattle.std.specs.Arc.{arc_value};
-ghost use Rattle.serve_crew.specs.Crews.{IsCrew, RunsOn, logs_due, passes_due};
+ghost use Rattle.serve_crew.specs.Crews.{IsCrew, RunsOn, ends_due, ends_held, logs_due, passes_due};
 ghost use Rattle.serve_crew.specs.Gathers.{Gathers, HasRoom, IsGathered};
+ghost use Rattle.serve_crew.specs.Lendings.{Lends};
 
 use crate::crew::Crew;
 use crate::gathered::Gathered;
+use const_eval::Ran;
 use hmr_hub::Hub;
 use jobs::{Gate, Running, Spawner, finish};
 use links::{Link, Net};
+use retained_data::Bag;
 use serve_jobs::{RunningClient, ServeJob, finish_client};
+use std::alloc::AllocError;
 use std::sync::Wait;
 use std::thread::Threads;
 
@@ -18,7 +22,8 @@ impl<
     R: Threads + Wait + Copy + Drop + Send + 'static,
     N: Net,
     G: Gate + Clone + Drop + Send + 'static,
-> Crew<R, N, G>
+    F: FnOnce(Bag) -> Result<Ran, AllocError> + Drop + Send + 'static,
+> Crew<R, N, G, F>
 where
     N::End: Drop + Send + 'static,
 {
@@ -34,6 +39,8 @@ where
         ensures gathers { Gathers self.gathered result
             (N.faults net.old) (N.faults net.new) (P.faults spawner.old) (P.faults spawner.new) }
         ensures asked { (N.asked net.new ≡ N.asked net.old) × (N.heard net.new ≡ N.heard net.old) }
+        ensures ends { Lends (ends_due self.running self.clients) 0 (N.lent net.old) (N.lent net.new) }
+        ensures unasked { (N.refused net.new ≡ N.refused net.old) × (N.late net.new ≡ N.late net.old) }
         ensures begun { P.begun spawner.new ≡ P.begun spawner.old }
         ensures kept { length result.passes.items ≡ passes_due self.running self.gathered }
         ensures logs { length result.logs.items ≡ logs_due self.clients self.gathered }
@@ -67,6 +74,8 @@ where
     ensures gathers { Gathers gathered.old gathered.new
         (N.faults net.old) (N.faults net.new) (P.faults spawner.old) (P.faults spawner.new) }
     ensures asked { (N.asked net.new ≡ N.asked net.old) × (N.heard net.new ≡ N.heard net.old) }
+    ensures ends { Lends (sum_by ends_held running.items) 0 (N.lent net.old) (N.lent net.new) }
+    ensures unasked { (N.refused net.new ≡ N.refused net.old) × (N.late net.new ≡ N.late net.old) }
     ensures begun { P.begun spawner.new ≡ P.begun spawner.old }
     ensures kept { length gathered.new.passes.items ≡ passes_due running gathered.old }
     ensures logs { gathered.new.logs ≡ gathered.old.logs }
@@ -93,6 +102,8 @@ where
     ensures gathers { Gathers gathered.old gathered.new
         (N.faults net.old) (N.faults net.new) (P.faults spawner.old) (P.faults spawner.new) }
     ensures asked { (N.asked net.new ≡ N.asked net.old) × (N.heard net.new ≡ N.heard net.old) }
+    ensures ends { Lends (ends_held running) 0 (N.lent net.old) (N.lent net.new) }
+    ensures unasked { (N.refused net.new ≡ N.refused net.old) × (N.late net.new ≡ N.late net.old) }
     ensures begun { P.begun spawner.new ≡ P.begun spawner.old }
     ensures kept { length gathered.new.passes.items ≡ length gathered.old.passes.items + 1 }
     ensures count { vec_len gathered.new.passes ≡ vec_len gathered.old.passes + 1 }
@@ -105,11 +116,11 @@ where
 }
 
 // Waits for the end of each client, in the order in which they were begun.
-fn finish_clients<R: Threads + Wait, N: Net, P: Spawner>(
+fn finish_clients<R: Threads + Wait, N: Net, P: Spawner, F: Drop>(
     rt: &R,
     net: &mut N,
     spawner: &mut P,
-    mut clients: Vec<RunningClient<N::End>>,
+    mut clients: Vec<RunningClient<F, N::End>>,
     gathered: &mut Gathered,
 )
 where
@@ -121,6 +132,8 @@ where
     ensures gathers { Gathers gathered.old gathered.new
         (N.faults net.old) (N.faults net.new) (P.faults spawner.old) (P.faults spawner.new) }
     ensures asked { (N.asked net.new ≡ N.asked net.old) × (N.heard net.new ≡ N.heard net.old) }
+    ensures ends { Lends (length clients.items) 0 (N.lent net.old) (N.lent net.new) }
+    ensures unasked { (N.refused net.new ≡ N.refused net.old) × (N.late net.new ≡ N.late net.old) }
     ensures begun { P.begun spawner.new ≡ P.begun spawner.old }
 {
     clients.reverse();
@@ -130,11 +143,11 @@ where
 }
 
 // Waits for the end of a client.
-fn finish_one_client<R: Threads + Wait, N: Net, P: Spawner>(
+fn finish_one_client<R: Threads + Wait, N: Net, P: Spawner, F: Drop>(
     rt: &R,
     net: &mut N,
     spawner: &mut P,
-    running: RunningClient<N::End>,
+    running: RunningClient<F, N::End>,
     gathered: &mut Gathered,
 )
 where
@@ -148,6 +161,8 @@ where
     ensures gathers { Gathers gathered.old gathered.new
         (N.faults net.old) (N.faults net.new) (P.faults spawner.old) (P.faults spawner.new) }
     ensures asked { (N.asked net.new ≡ N.asked net.old) × (N.heard net.new ≡ N.heard net.old) }
+    ensures ends { N.lent net.new ≡ N.lent net.old - 1 }
+    ensures unasked { (N.refused net.new ≡ N.refused net.old) × (N.late net.new ≡ N.late net.old) }
     ensures begun { P.begun spawner.new ≡ P.begun spawner.old }
 {
     let end = finish_client(rt, spawner, running);

@@ -1,9 +1,10 @@
 // What the ended jobs leave.
-ghost use Rattle.std.specs.Prelude.{◌≡◌, ◌≤◌, ◌<◌, ◌≢◌, ◌||◌, ◌∷◌, [], false, true, vec_capacity, vec_len};
+ghost use Rattle.std.specs.Prelude.{◌≡◌, ◌≤◌, ◌<◌, ◌≢◌, ◌-◌, ◌||◌, ◌∷◌, []};
+ghost use Rattle.std.specs.Prelude.{false, true, vec_capacity, vec_len};
 ghost use Rattle.hmr_base.specs.Causes.{Rose};
 ghost use Rattle.links.specs.declared.link.Phase.{Phase};
 ghost use Rattle.serve_jobs.specs.ClientEnds.{IsClientEnd, ending_of};
-ghost use Rattle.serve_crew.specs.Ends.{IsDone, ended_for_memory, found_full, has_link_fault};
+ghost use Rattle.serve_crew.specs.Ends.{IsDone, ended_for_memory, ends_back, found_full, has_link_fault};
 ghost use Rattle.serve_crew.specs.Ends.{is_faulty, is_faulty_end, lacked_memory, pass_in};
 
 use crate::ends::{client_is_faulty, client_lacked_memory, found_full, is_faulty, lacked_memory};
@@ -61,6 +62,8 @@ impl Gathered {
         ensures later { N.faults net.old ≤ N.faults net.new }
         ensures rose { has_link_fault out ≡ true → Rose (N.faults net.old) (N.faults net.new) }
         ensures asked { (N.asked net.new ≡ N.asked net.old) × (N.heard net.new ≡ N.heard net.old) }
+        ensures lent { N.lent net.new ≡ N.lent net.old - ends_back out }
+        ensures unasked { (N.refused net.new ≡ N.refused net.old) × (N.late net.new ≡ N.late net.old) }
     {
         self.note(lacked_memory(&out), found_full(&out), is_faulty(&out));
         match out {
@@ -85,6 +88,8 @@ impl Gathered {
         ensures later { N.faults net.old ≤ N.faults net.new }
         ensures rose { N.End.faults end.link ≢ 0 → Rose (N.faults net.old) (N.faults net.new) }
         ensures asked { (N.asked net.new ≡ N.asked net.old) × (N.heard net.new ≡ N.heard net.old) }
+        ensures lent { N.lent net.new ≡ N.lent net.old - 1 }
+        ensures unasked { (N.refused net.new ≡ N.refused net.old) × (N.late net.new ≡ N.late net.old) }
     {
         let ClientEnd { client, link, told } = end;
         self.note(client_lacked_memory(&told), false, client_is_faulty(&told));

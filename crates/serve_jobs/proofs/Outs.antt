@@ -19,7 +19,7 @@ use Rattle.serve_jobs.specs.declared.job.ServeJob.{ServeJob}
 use Rattle.serve_jobs.specs.declared.job.ServeJob.TheVariants.{Worker, Session}
 use Rattle.serve_jobs.specs.declared.job.ServeOut.{ServeOut}
 use Rattle.serve_jobs.specs.declared.job.ServeOut.TheVariants.{Worker as WorkerOut, Session as SessionOut}
-use Rattle.serve_jobs.specs.Outs.{HasLeft, IsShut, JobOf, OutIsGood, OutOf, is_unrun}
+use Rattle.serve_jobs.specs.Outs.{HasLeft, IsServed, IsShut, JobOf, OutIsGood, OutOf, is_unrun}
 
 board_mark : (x y : HubBoard) → SameBoard x y → mark_of y.pass ≡ mark_of x.pass
 board_mark x y same = y.of_hub ∙ (ap (λ hub. hub_mark (arc_value hub)) same.hub ∙ sym x.of_hub)
@@ -49,10 +49,10 @@ left_full false x y left e = left.told.full_is ∙ full_stays x.full left.reply 
 
 -- what is handed back for a session that was served
 pub session_served : {R L : Type 0} (G : Type 0) (g : Link.Ghosts L) (j : SessionJob R L g) (served desk : HubDesk R) (link : L) (ended : Ended)
-    → SameDesk j.desk served → Left served desk → (ended ≡ Stopped → served.full ≡ true) → IsShut g link (Some ended)
+    → IsServed g j.link j.desk ended link served → Left served desk → IsShut g link (Some ended)
     → OutOf {G = G} g (Session j) (SessionOut desk link (Some ended)) × (is_unrun (SessionOut desk link (Some ended)) ≡ false) × HasLeft {G = G} g (Session j) (SessionOut desk link (Some ended))
-session_served G g j served desk link ended same left stopped shut =
+session_served G g j served desk link ended how left shut =
     let then : SameDesk served desk = left_same (served.client == 0) served desk left in
-    let whole : SameDesk j.desk desk = record { hub = then.hub ∙ same.hub; number = then.number ∙ same.number } in
-    let full : Some ended ≡ Some Stopped → desk.full ≡ true = λ e. left_full (served.client == 0) served desk left (stopped cc) in
-    ((whole, shut, full), refl, (served, same, left))
+    let whole : SameDesk j.desk desk = record { hub = then.hub ∙ how.same.hub; number = then.number ∙ how.same.number } in
+    let full : Some ended ≡ Some Stopped → desk.full ≡ true = λ e. left_full (served.client == 0) served desk left (how.stopped.0 cc) in
+    ((whole, shut, full), refl, (served, ended, refl, how, left))

@@ -1,3 +1,5 @@
 pub mod Outs
 pub mod ClientEnds
 pub mod Clients
+pub mod ClientSessions
+pub mod RunningClients

@@ -1,9 +1,11 @@
 -- What is handed back for a job.
-use Rattle.std.specs.Prelude.{◌≡◌, ◌≢◌, ℕ, Bool, true, false, Option, Some, None, Err, ⊤}
+use Rattle.std.specs.Prelude.{◌≡◌, ◌≢◌, ◌≤◌, ◌↔◌, ℕ, Bool, true, false, Option, Some, None, Err, ⊤}
 use Prim.{⊥}
 use Rattle.atomic_table.specs.Seated.{TableId}
+use Rattle.hmr_base.specs.Causes.{Rose}
 use Rattle.links.specs.declared.link.Link as Link
 use Rattle.links.specs.declared.link.Phase.TheVariants.{Shut}
+use Rattle.sessions.specs.Course.{Course}
 use Rattle.sessions.specs.declared.ended.Ended.{Ended}
 use Rattle.sessions.specs.declared.ended.Ended.TheVariants.{LinkFault, Stopped}
 use Rattle.update_msgs.specs.declared.desk.HubStop.TheVariants.{TranscriptFull}
@@ -15,6 +17,17 @@ use Rattle.serve_jobs.specs.declared.job.ServeJob.{ServeJob}
 use Rattle.serve_jobs.specs.declared.job.ServeJob.TheVariants.{Worker, Session}
 use Rattle.serve_jobs.specs.declared.job.ServeOut.{ServeOut}
 use Rattle.serve_jobs.specs.declared.job.ServeOut.TheVariants.{Worker as WorkerOut, Session as SessionOut}
+
+-- What a session over a link leaves of the link and of its desk, which is of the same hub. The messages that
+-- were taken of the link, the answers that were sent and the ending are those of one session.
+pub record IsServed {R L : Type 0} (g : Link.Ghosts L) (link : L) (desk : HubDesk R) (ended : Ended) (link' : L)
+    (desk' : HubDesk R) : Type 0 where
+  pub same : SameDesk desk desk'
+  pub course : Course 1 (g.left link) (g.left link') (g.sent link) (g.sent link') None None (Err ended)
+  pub shut : g.phase link' ≡ Shut
+  pub later : g.faults link ≤ g.faults link'
+  pub failed : ended ≡ LinkFault → Rose (g.faults link) (g.faults link')
+  pub stopped : (ended ≡ Stopped) ↔ (desk'.full ≡ true)
 
 -- the end of a link is shut, and an ending by its fault is shown by its count
 pub record IsShut {L : Type 0} (g : Link.Ghosts L) (link : L) (ended : Option Ended) : Type 0 where
@@ -45,13 +58,14 @@ module _ {R L : Type 0} (g : Link.Ghosts L) where
       (mark_of desk.pass ≡ mark) × IsShut g link ended × (ended ≡ Some Stopped → desk.full ≡ true)
 
 module _ {R L G : Type 0} (g : Link.Ghosts L) where
-  -- what is handed back of a job that was worked: a session's desk was left at last
+  -- what is handed back of a job that was worked: a session was served, and its desk was left at last
   abbrev pub HasLeft : ServeJob R L G g → ServeOut R L → Type 0
   HasLeft (Worker j) (WorkerOut board ended) = ⊤
   HasLeft (Worker j) (SessionOut desk link ended) = ⊥
   HasLeft (Session j) (WorkerOut board ended) = ⊥
   HasLeft (Session j) (SessionOut desk link ended) =
-      (served : HubDesk R) × SameDesk j.desk served × Left served desk
+      (served : HubDesk R) × (how : Ended) × (ended ≡ Some how) × IsServed g j.link j.desk how link served
+      × Left served desk
 
   -- what is handed back of a job that was given up: its desk or board as it was
   abbrev pub IsUntouched : ServeJob R L G g → ServeOut R L → Type 0

@@ -1,12 +1,10 @@
 // A client of the program's own. It is no `Job`: what is known of its closures can stand in clauses alone,
 // and a trait's `work` has none for them.
-ghost use Rattle.std.specs.Prelude.{◌≡◌, All, false, true};
+ghost use Rattle.std.specs.Prelude.{◌≡◌, All, [], false, true};
 ghost use Rattle.links.specs.declared.link.Phase.TheVariants.{Fresh};
 ghost use Rattle.update_msgs.specs.Writable.{IsFormat};
 ghost use Rattle.handler_table.specs.Held.{IsHost};
-ghost use Rattle.hot_runtime.specs.Standing.{KeepsWords};
-ghost use Rattle.client_sessions.specs.Asking.{IsNew};
-ghost use Rattle.serve_jobs.specs.ClientEnds.{IsClientEnd};
+ghost use Rattle.hot_runtime.specs.Standing.{KeepsWords, StandsFor};
 ghost use Rattle.serve_jobs.specs.Clients.{IsReady};
 
 use client_sessions::client_session;
@@ -68,10 +66,13 @@ impl<F> ClientOpening<F> {
 }
 
 impl<F: FnOnce(Bag) -> Result<Ran, AllocError> + Drop> ClientOpening<F> {
+    ghost use Rattle.serve_jobs.specs.ClientSessions.{opening_of};
+
     // The runtime that begins so. It takes no memory.
     fn runtime(self, alloc: Global) -> HotRuntime<F>
         requires hosts { All (IsHost F.post) self.shelf }
-        ensures untaken { IsNew result }
+        ensures stands { StandsFor (opening_of self) [] result }
+        ensures format { result.format ≡ self.format }
         ensures words { KeepsWords F.post result }
     {
         let ClientOpening {
@@ -95,6 +96,8 @@ impl<F: Drop> Drop for ClientOpening<F> {
 }
 
 impl<F: FnOnce(Bag) -> Result<Ran, AllocError> + Drop, L: Link + Drop> ClientJob<F, L> {
+    ghost use Rattle.serve_jobs.specs.ClientSessions.{IsEndOf};
+
     /// The job of a client over a fresh link that never failed. It takes no memory.
     pub fn new(opening: ClientOpening<F>, link: L, turns: u32) -> Self
         requires fresh { L.phase link ≡ Fresh }
@@ -113,7 +116,7 @@ impl<F: FnOnce(Bag) -> Result<Ran, AllocError> + Drop, L: Link + Drop> ClientJob
     /// Says hello, makes the requests and says bye, and closes the link. It waits.
     pub(crate) fn work(self, alloc: Global) -> ClientEnd<L>
         requires ready { IsReady F.post ((f : F) → F.IsAlwaysCallable f) self.opening.shelf }
-        ensures { IsClientEnd (L.phase result.link) (L.faults result.link) result.told true }
+        ensures { IsEndOf self result true }
     {
         let ClientJob {
             opening,
@@ -131,7 +134,7 @@ impl<F: FnOnce(Bag) -> Result<Ran, AllocError> + Drop, L: Link + Drop> ClientJob
 
     /// Closes the link, over which nothing went. It takes no memory.
     pub(crate) fn give_up(self) -> ClientEnd<L>
-        ensures { IsClientEnd (L.phase result.link) (L.faults result.link) result.told false }
+        ensures { IsEndOf self result false }
     {
         let ClientJob {
             opening: _,

@@ -1,105 +1,39 @@
-// Clients in threads of their own.
-//
-// A thread may be refused after the job has gone into its closure, which the caller then gets back. So
-// caller and closure share a flag: a closure that finds it set gives its job up, and tells which it did.
+// Clients in threads of their own, which a spawner counts.
 ghost use Rattle.std.specs.Prelude.{◌≡◌, ◌≤◌, ◌<◌};
-ghost use Rattle.std.specs.Prelude.{IfErr, IfOk, OnErr, OnOk, Bool, false, is_some, sum, true};
+ghost use Rattle.std.specs.Prelude.{IfErr, IfOk, OnErr, OnOk, Bool, false, is_some, sum};
 ghost use Rattle.hmr_base.specs.Causes.{Rose};
 ghost use Rattle.jobs.specs.Begun.{most_starts, one_more};
 ghost use Rattle.serve_jobs.specs.ClientEnds.{IsClientEnd};
+ghost use Rattle.serve_jobs.specs.ClientSessions.{IsEndOf, Tells, opening_of};
 ghost use Rattle.serve_jobs.specs.Clients.{IsReady};
+ghost use Rattle.serve_jobs.specs.RunningClients.{RunsClient};
 
 use crate::client::{ClientEnd, ClientJob};
 use const_eval::Ran;
-use jobs::Spawner;
+use jobs::{Spawner, Thread, finish_thread, start_thread};
 use links::Link;
 use retained_data::Bag;
 use std::alloc::{AllocError, Global};
 use std::snapshot::Snapshot;
-use std::sync::atomic::{AtomicBool, Ordering};
-use std::sync::{Arc, Wait};
-use std::thread;
-use std::thread::{Promise, PromisedHandle, Threads};
+use std::sync::Wait;
+use std::thread::{Promise, Threads};
 
 // The kind of a client's job.
 const CLIENT: u8 = 2;
 
-/// What the thread of a client promises: its end is shut, and it was worked or given up as the flag says.
+/// What the thread of a client promises: its end is that of the client, worked or given up as the flag beside
+/// it says.
 #[derive(Drop)]
-pub struct ClientPromise<L>(Snapshot<L>);
+pub struct ClientPromise<F: Drop, L: Link + Drop>(Snapshot<ClientJob<F, L>>);
 
-impl<L: Link> Promise<(ClientEnd<L>, bool)> for ClientPromise<L> {
-    ghost kept_by = { λ p r. IsClientEnd (L.phase r.0.link) (L.faults r.0.link) r.0.told r.1 };
+impl<F: Drop, L: Link + Drop> Promise<(ClientEnd<L>, bool)> for ClientPromise<F, L> {
+    ghost kept_by = { λ p r. IsEndOf p.0.value r.0 r.1 };
 }
 
-/// A client that was worked without a thread.
+/// A client that was started, in a thread of its own. [`finish_client`] gives its end.
 #[derive(Drop)]
-pub struct WorkedClient<L: Link + Drop> {
-    end: ClientEnd<L>,
-    ghost ended: { IsClientEnd (L.phase end.link) (L.faults end.link) end.told true },
-}
-
-/// A client that was started.
-#[derive(Drop)]
-pub enum RunningClient<L: Link + Drop> {
-    /// It runs in a thread of its own.
-    Thread(PromisedHandle<(ClientEnd<L>, bool), ClientPromise<L>>),
-    /// There was no thread for it, and it was worked all the same.
-    Done(WorkedClient<L>),
-}
-
-// Works a job, or gives it up where the flag is set, and tells which it did.
-fn run<F: FnOnce(Bag) -> Result<Ran, AllocError> + Drop, L: Link + Drop>(
-    alloc: Global,
-    job: ClientJob<F, L>,
-    stopped: bool,
-) -> (ClientEnd<L>, bool)
-    requires ready { IsReady F.post ((f : F) → F.IsAlwaysCallable f) job.opening.shelf }
-    ensures { IsClientEnd (L.phase result.0.link) (L.faults result.0.link) result.0.told result.1 }
-{
-    if stopped {
-        (job.give_up(), false)
-    } else {
-        (job.work(alloc), true)
-    }
-}
-
-// The handle of a thread for the job; without a thread what the closure gave with the flag set.
-fn spawn_client<
-    F: FnOnce(Bag) -> Result<Ran, AllocError> + Drop + Send + 'static,
-    L: Link + Drop + Send + 'static,
-    R: Threads + Wait + Copy + Send + 'static,
->(
-    rt: R,
-    alloc: Global,
-    flag: Arc<AtomicBool, Global>,
-    job: ClientJob<F, L>,
-) -> Result<PromisedHandle<(ClientEnd<L>, bool), ClientPromise<L>>, (ClientEnd<L>, bool)>
-    requires ready { IsReady F.post ((f : F) → F.IsAlwaysCallable f) job.opening.shelf }
-    ensures err { IfErr result (λ r. IsClientEnd (L.phase r.0.link) (L.faults r.0.link) r.0.told r.1) }
-{
-    let promise = ClientPromise(Snapshot::of(&job.link));
-    let ours = Arc::try_clone(&flag);
-    match thread::spawn_with(
-        &rt,
-        promise,
-        move || -> (ClientEnd<L>, bool)
-            requires ready { IsReady F.post ((f : F) → F.IsAlwaysCallable f) job.opening.shelf }
-            ensures { IsClientEnd (L.phase result.0.link) (L.faults result.0.link) result.0.told result.1 }
-        {
-            let job = job;
-            let stopped = flag.load(Ordering::SeqCst);
-            run(alloc, job, stopped)
-        },
-    ) {
-        Ok(handle) => Ok(handle),
-        Err(refused) => {
-            if let Ok(ours) = ours {
-                ours.store(true, Ordering::SeqCst);
-            }
-            Err((refused.value)())
-        }
-    }
+pub struct RunningClient<F: Drop, L: Link + Drop> {
+    thread: Thread<ClientEnd<L>, ClientPromise<F, L>>,
 }
 
 /// Starts a client in a thread of its own. A refused start gives its job up, and the Err is that end; it
@@ -109,66 +43,63 @@ pub fn start_client<
     P: Spawner,
     F: FnOnce(Bag) -> Result<Ran, AllocError> + Drop + Send + 'static,
     L: Link + Drop + Send + 'static,
-    R: Threads + Wait + Copy + Send + 'static,
+    R: Threads + Wait,
 >(
     rt: &R,
     alloc: Global,
     spawner: &mut P,
     job: ClientJob<F, L>,
-) -> Result<RunningClient<L>, ClientEnd<L>>
+) -> Result<RunningClient<F, L>, ClientEnd<L>>
     requires few { sum (P.begun spawner.old) < most_starts }
     requires ready { IsReady F.post ((f : F) → F.IsAlwaysCallable f) job.opening.shelf }
-    ensures refused { IfErr result
-        (λ end. IsClientEnd (L.phase end.link) (L.faults end.link) end.told false) }
+    ensures running { IfOk result (λ r. RunsClient r job) }
+    ensures refused { IfErr result (λ end. IsEndOf job end false) }
     ensures begun { OnOk result (P.begun spawner.new ≡ one_more (P.begun spawner.old) 2) }
     ensures same { OnErr result (P.begun spawner.new ≡ P.begun spawner.old) }
     ensures later { P.faults spawner.old ≤ P.faults spawner.new }
     ensures failed { OnErr result (Rose (P.faults spawner.old) (P.faults spawner.new)) }
 {
-    if !spawner.admits() {
-        return Err(job.give_up());
-    }
-    let Ok(flag) = Arc::new(alloc, AtomicBool::new(false)) else {
-        spawner.count_fault();
-        return Err(job.give_up());
-    };
-    match spawn_client(*rt, alloc, flag, job) {
-        Ok(handle) => {
-            spawner.count_start(CLIENT);
-            Ok(RunningClient::Thread(handle))
-        }
-        Err((end, true)) => {
-            spawner.count_start(CLIENT);
-            Ok(RunningClient::Done(WorkedClient { end }))
-        }
-        Err((end, false)) => {
-            spawner.count_fault();
-            Err(end)
-        }
+    let promise = ClientPromise(Snapshot::of(&job));
+    match start_thread(
+        rt,
+        alloc,
+        spawner,
+        CLIENT,
+        promise,
+        move |goes_on: bool| -> ClientEnd<L>
+            requires ready { IsReady F.post ((f : F) → F.IsAlwaysCallable f) job.opening.shelf }
+            ensures { IsEndOf job result goes_on }
+        {
+            let job = job;
+            if goes_on {
+                job.work(alloc)
+            } else {
+                job.give_up()
+            }
+        },
+    ) {
+        Ok(thread) => Ok(RunningClient { thread }),
+        Err(end) => Err(end),
     }
 }
 
-/// Waits for the end of a client that was started. Where it was given up, the spawner's count of faults then
-/// rose. It takes no memory.
-pub fn finish_client<P: Spawner, L: Link + Drop, R: Threads + Wait>(
+/// Waits for the end of a client that was started. Its lines, its ending and what went over its link are
+/// those of one session of that client. Where the client was given up, nothing went over its link and the
+/// spawner's count of faults then rose. It takes no memory.
+pub fn finish_client<P: Spawner, F: Drop, L: Link + Drop, R: Threads + Wait>(
     rt: &R,
     spawner: &mut P,
-    running: RunningClient<L>,
+    running: RunningClient<F, L>,
 ) -> ClientEnd<L>
     ensures ended { (worked : Bool)
         × IsClientEnd (L.phase result.link) (L.faults result.link) result.told worked }
+    ensures tells { (job : _) → RunsClient running job → Tells ⟦<L as Link>⟧ (opening_of job.opening)
+        job.turns job.link result.link result.told }
     ensures failed { is_some result.told ≡ false → Rose (P.faults spawner.old) (P.faults spawner.new) }
     ensures begun { P.begun spawner.new ≡ P.begun spawner.old }
     ensures later { P.faults spawner.old ≤ P.faults spawner.new }
 {
-    match running {
-        RunningClient::Thread(handle) => {
-            let (end, worked) = handle.join(rt);
-            if !worked {
-                spawner.count_fault();
-            }
-            end
-        }
-        RunningClient::Done(worked) => worked.end,
-    }
+    let RunningClient { thread } = running;
+    let (end, _worked) = finish_thread(rt, spawner, thread);
+    end
 }

@@ -17,6 +17,6 @@ mod laws;
 mod work;
 
 pub use client::{ClientEnd, ClientJob, ClientOpening};
-pub use client_threads::{ClientPromise, RunningClient, WorkedClient, finish_client, start_client};
+pub use client_threads::{ClientPromise, RunningClient, finish_client, start_client};
 pub use job::{ServeJob, ServeOut, SessionJob, WorkerJob};
 pub use laws::an_out_is_of_its_jobs_hub;

@@ -35,11 +35,21 @@ impl<N: Net> Net for CountedNet<N> {
 
     ghost faults = { λ s. N.faults s.inner };
 
+    ghost lent = { λ s. N.lent s.inner };
+
+    ghost refused = { λ s. N.refused s.inner };
+
+    ghost late = { λ s. N.late s.inner };
+
     ghost asked = { λ s. N.asked s.inner };
 
     ghost heard = { λ s. N.heard s.inner };
 
     ghost coming = { λ s. N.coming s.inner };
+
+    ghost unread = { λ s. N.unread s.inner };
+
+    ghost spoken = { λ s. N.spoken s.inner };
 
     ghost plan = { λ s. N.plan s.inner };
 

@@ -1,7 +1,7 @@
 // What a client sends for what it is told, and the lines of what it took.
 use crate::messages::{
     ABORTED, APPLIED, ASK, BAD_TEXT, BYE, CONNECTED, DONE, FETCH, HELLO, IDLE, TEXT, UNKNOWN,
-    coming,
+    are_sent, coming,
 };
 use client_sessions::{Ended, client_session};
 use const_eval::Ran;
@@ -56,18 +56,6 @@ fn joined<R: Wait + Copy + Drop, F: FnOnce(Bag) -> Result<Ran, AllocError> + Dro
     let (ended, lines) = client_session(alloc, &mut link, &mut runtime, turns);
     let lines = text_of(alloc, &lines).ok()?;
     Some(Over { ended, lines, link })
-}
-
-fn are_sent(sent: &[Vec<u8>], expected: &[&str]) -> bool {
-    if sent.len() != expected.len() {
-        return false;
-    }
-    for (message, text) in sent.iter().zip(expected) {
-        if message.as_slice() != text.as_bytes() {
-            return false;
-        }
-    }
-    true
 }
 
 /// Whether a session of three turns that is told these messages sends these, writes these lines and ends so.

@@ -1,5 +1,7 @@
 // What the command of one client writes for what its server tells it, and how it ends.
-use crate::messages::{CONNECTED, DONE, IDLE, TEXT, UNKNOWN, coming};
+use crate::messages::{
+    APPLIED, ASK, BYE, CONNECTED, DONE, FETCH, HELLO, IDLE, TEXT, UNKNOWN, are_sent, coming,
+};
 use const_eval::Ran;
 use handler_table::{Shelf, host_run};
 use hmr_base::MemSink;
@@ -13,9 +15,10 @@ use std::test::Fail;
 
 /// A command that is over.
 #[derive(Drop)]
-struct Over {
+struct Over<R: Drop> {
     ended: Result<(), JoinStop>,
     lines: String,
+    net: TellNet<R>,
 }
 
 /// Which calls of the net, of its end and of the output fail.
@@ -42,7 +45,7 @@ fn joined<R: Wait + Copy + Drop, F: FnOnce(Bag) -> Result<Ran, AllocError> + Dro
     _sample: F,
     messages: &[&str],
     failing: Failing,
-) -> Option<Over>
+) -> Option<Over<R>>
     requires callable { (f : F) → F.IsAlwaysCallable f }
 {
     let coming = coming(alloc, messages).ok()?;
@@ -52,7 +55,7 @@ fn joined<R: Wait + Copy + Drop, F: FnOnce(Bag) -> Result<Ran, AllocError> + Dro
     let shelf: Shelf<F> = Shelf::new(Vec::new(alloc));
     let ended = join(alloc, 5173, Vec::new(alloc), 3, &mut net, &mut out, shelf);
     let lines = String::from_utf8_lossy(alloc, out.bytes()).ok()?;
-    Some(Over { ended, lines })
+    Some(Over { ended, lines, net })
 }
 
 /// Whether a command whose server tells these messages writes these lines and ends so.
@@ -76,6 +79,25 @@ fn a_page_is_loaded(rt: HostRuntime) -> Result<(), Fail> {
     let alloc = rt.alloc();
     let told = [CONNECTED, TEXT, DONE, IDLE, DONE];
     assert!(rt; goes(alloc, rt, &told, none_failing(alloc), "1 loaded\n", Ok(())));
+    Ok(())
+}
+
+/// Whether a command whose server tells these messages sends these.
+fn sends<R: Wait + Copy + Drop>(alloc: Global, rt: R, told: &[&str], sent: &[&str]) -> bool {
+    let sample = move |bag: Bag| -> Result<Ran, AllocError> { host_run(alloc, "H", 1, bag) };
+    match joined(alloc, rt, sample, told, none_failing(alloc)) {
+        Some(over) => are_sent(over.net.spoken(), sent),
+        None => false,
+    }
+}
+
+#[test]
+fn what_it_sent_is_told(rt: HostRuntime) -> Result<(), Fail> {
+    let alloc = rt.alloc();
+    let told = [CONNECTED, TEXT, DONE, IDLE, DONE];
+    assert!(rt; sends(alloc, rt, &told, &[HELLO, FETCH, APPLIED, ASK, BYE]));
+    let told = [CONNECTED, TEXT, DONE, DONE, DONE];
+    assert!(rt; sends(alloc, rt, &told, &[HELLO, FETCH, APPLIED, ASK]));
     Ok(())
 }
 

@@ -40,3 +40,16 @@ pub fn coming(alloc: Global, messages: &[&str]) -> Result<VecDeque<Vec<u8>>, All
     }
     Ok(coming)
 }
+
+/// Whether the messages that were sent are these.
+pub fn are_sent(sent: &[Vec<u8>], expected: &[&str]) -> bool {
+    if sent.len() != expected.len() {
+        return false;
+    }
+    for (message, text) in sent.iter().zip(expected) {
+        if message.as_slice() != text.as_bytes() {
+            return false;
+        }
+    }
+    true
+}

@@ -38,10 +38,15 @@ status_of_serve (Err stops.Fault) = 7
 status_of_serve (Err (stops.Limit limit)) = 8
 status_of_serve (Err stops.NoMemory) = 9
 
+-- bytes within the limit that say these edits
+pub record IsScript (bytes : List ℕ) (script : List Edit) : Type 0 where
+  pub short : length bytes ≤ SCRIPT_BYTES
+  pub is : edits_of bytes ≡ Ok script
+
 -- the edits that the input has, where they are asked for
 abbrev pub HasScript : Bool → Option (List ℕ) → List Edit → Type 0
 HasScript false left script = script ≡ []
-HasScript true left script = IfSome left (λ bytes. edits_of bytes ≡ Ok script)
+HasScript true left script = IfSome left (λ bytes. IsScript bytes script)
 
 -- The server was begun, with the edits of the input. What it did and wrote is of its one transcript.
 pub record IsServed (plan : ServePlan) (left : Option (List ℕ)) (coming : Option (List Files))
@@ -52,15 +57,16 @@ pub record IsServed (plan : ServePlan) (left : Option (List ℕ)) (coming : Opti
   pub status_is : status ≡ status_of_serve ended
   pub served : ((port : ℕ) × (p : Pass) × (heard ≡ Some port)
       × Served plan.roots coming script plan.rounds ended p × Wrote port p ended old new before now)
-      ⊎ (StopsEarly coming ended × WroteEarly ended old new before now)
+      ⊎ (StopsEarly plan.roots coming ended × WroteEarly ended old new before now)
 
 -- the line is written, or a front of it where the count of the output's faults rose
 pub record WroteLine (old new : Option (List ℕ)) (before now : ℕ) (line : List ℕ) : Type 0 where
   pub front : WritesFront old new line
   pub whole : ¬ Rose before now → Appends old new line
 
--- the bytes say no edits, by their first fault
+-- the bytes are within the limit, and say no edits, by their first fault
 pub record IsFaulty (bytes : List ℕ) (old new : Option (List ℕ)) (before now : ℕ) : Type 0 where
+  pub short : length bytes ≤ SCRIPT_BYTES
   pub fault : ScriptFault
   pub is : edits_of bytes ≡ Err fault
   pub wrote : WroteLine old new before now (fault_line fault)
@@ -75,8 +81,9 @@ HasNoScript left old new before now status =
     × WroteLine old new before now input_limit)
     ⊎ ((status ≡ 9) × Keeps old new)
 
--- the line of the first fault of bytes that say no edits
+-- the line of the first fault of bytes within the limit that say no edits
 pub record HasFaultLine (bytes line : List ℕ) : Type 0 where
+  pub short : length bytes ≤ SCRIPT_BYTES
   pub fault : ScriptFault
   pub is : edits_of bytes ≡ Err fault
   pub line_is : line ≡ fault_line fault

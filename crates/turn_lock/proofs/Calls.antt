@@ -1,17 +1,16 @@
 -- The parts of one call put together, and what a split and a join leave.
 use Rattle.std.proofs.Common.{◌≡◌, ◌+◌, length, ⊎_elim, inl, inr, ℕ, List, [], ◌∷◌, ◌++◌, Bool, true, false, sym, refl, ap, ◌∙◌, subst, Option, Some, None}
 use Rattle.std.specs.Prelude.{All}
-use Rattle.std.proofs.lemmas.List.{append-nil}
 use Rattle.std.proofs.lemmas.List.Elements.{All-push}
 use Rattle.atomic_table.specs.Table.{Me}
 use Rattle.turn_lock.specs.Histories.{calls, grown, longer, Past}
 use Rattle.turn_lock.specs.Calls.{SameKnower, SameSeen, Called, Joined}
 use Rattle.turn_lock.specs.Rule.{Met}
 use Rattle.turn_lock.specs.Steps.{IsIdle, Took, Grew, Settled}
-use Rattle.turn_lock.specs.Views.{seized, counted, released, joined, old_half, new_half, filled}
+use Rattle.turn_lock.specs.Views.{seized, counted, released, joined, old_half, numbered, filled}
 use Rattle.turn_lock.specs.declared.keeps.Keeps.{Ghosts}
 use Rattle.turn_lock.specs.declared.view.View.{View}
-use Rattle.turn_lock.proofs.Histories.{calls_grown, calls_still, has_it, quiet_less, past_calls, calls_two, longer_is, longer_self}
+use Rattle.turn_lock.proofs.Histories.{calls_grown, calls_still, has_it, quiet_less, past_calls, calls_two, longer_is}
 use Rattle.turn_lock.proofs.Steps.{value_at}
 
 all_grown : {X : Type 0} (P : ℕ × X → Type 0) (xs : List (ℕ × X)) (by : ℕ) (x : X) (recorded : Bool) → All P xs → P (by, x) → All P (grown xs by x recorded)
@@ -85,7 +84,7 @@ module _ {T E P : Type 0} (K : Ghosts T E P) where
     ended s e settled out = ap (λ z. z.0) out ∙ ap (λ z. released z.0) (left s settled)
 
     pub same_knower : (s e : Me (Option T) (View T E)) → Settled K.history K.may K.follows g s → e ≡ (released s.0, []) → SameKnower m.0 e.0
-    same_knower s e settled out = subst (λ z. SameKnower m.0 z) (sym (ended s e settled out)) record { opening = refl; number = refl; known = refl; alone = refl; all_given = refl }
+    same_knower s e settled out = subst (λ z. SameKnower m.0 z) (sym (ended s e settled out)) record { opening = refl; number = refl; given = refl; known = refl; alone = refl; all_given = refl }
 
     pub all_may : (s e : Me (Option T) (View T E)) → Settled K.history K.may K.follows g s → e ≡ (released s.0, []) → All (λ x. K.may x.0 x.1 ≡ true) e.0.seen
     all_may s e settled out =
@@ -136,11 +135,15 @@ module _ {T E : Type 0} where
             ∙ (ap (λ (a : List (ℕ × E)). length a + length (calls w.known (longer v.seen w.seen))) mine ∙ ap (λ (b : List (ℕ × E)). length (calls v.known v.seen) + length b) other);
         known = refl;
         number = refl;
+        given = refl;
         opening = refl;
         alone = refl;
         all_given = refl;
       }
 
-  -- the new half was joined back
-  pub back : (v : View T E) → SameSeen v (joined (old_half v) (filled (new_half v)))
-  back v = record { opening = refl; number = refl; known = append-nil v.known; seen = longer_self v.seen; alone = refl }
+  -- a pass was split off, or all numbers were given
+  pub split_left : (v : View T E) (n : ℕ) → SameSeen v (old_half (numbered v n))
+  split_left v n = record { opening = refl; number = refl; known = refl; seen = refl; alone = refl }
+
+  pub filled_left : (v : View T E) → SameSeen v (filled v)
+  filled_left v = record { opening = refl; number = refl; known = refl; seen = refl; alone = refl }

@@ -2,7 +2,7 @@
 use Rattle.std.proofs.Common.{◌≡◌, ◌⊎◌, ◌≤◌, ◌+◌, ℕ, eqb, List, [], ◌∷◌, ◌++◌, length, Bool, true, false, ◌||◌, sym, refl, ap, ◌∙◌, arith, inl, inr, ⊎_elim}
 use Rattle.std.proofs.lemmas.List.{append-nil, append_assoc}
 use Rattle.std.proofs.lemmas.List.Elements.{filter-append}
-use Rattle.std.proofs.lemmas.Bool.{cond_both, ltb-true, ltb-false, false≢true, cases_Bool, or_cases, or_from, or_left, or_right, eqb-true, ne_eqb, eq-eqb}
+use Rattle.std.proofs.lemmas.Bool.{false_from_ne_true, cond_both, ltb-true, ltb-false, false≢true, cases_Bool, or_cases, or_from, or_left, or_right, eqb-true, ne_eqb, eq-eqb}
 use lib.Dec.{ltb}
 use Rattle.turn_lock.specs.Histories.{has, calls, grown, longer, Past}
 
@@ -62,6 +62,17 @@ has_it k ks = rw (eq-eqb k k refl) refl
 
 pub has_else : (k n : ℕ) → (k ≡ n → ⊥) → has k (n ∷ []) ≡ false
 has_else k n h = rw (ne_eqb k n h) refl
+
+-- a number that isn't known is none of fewer either
+pub has_later : (k n : ℕ) (ks : List ℕ) → has k (n ∷ ks) ≡ false → has k ks ≡ false
+has_later k n ks f = false_from_ne_true (has k ks) (λ t. false≢true (sym f ∙ or_right (eqb k n) (has k ks) t))
+
+pub not_it : (k n : ℕ) (ks : List ℕ) → has n ks ≡ false → has k ks ≡ true → k ≡ n → ⊥
+not_it k n ks f t e = false≢true (sym f ∙ (ap (λ i. has i ks) (sym e) ∙ t))
+
+pub quiet_later : {X : Type 0} (n : ℕ) (ks : List ℕ) (xs : List (ℕ × X)) → calls (n ∷ ks) xs ≡ [] → calls ks xs ≡ []
+quiet_later n ks [] q = refl
+quiet_later n ks (x ∷ xs) q = quiet_cons ks x xs (has_later x.0 n ks (quiet_head (n ∷ ks) x xs q)) (quiet_later n ks xs (quiet_tail (n ∷ ks) x xs q))
 
 pub past_self : {X : Type 0} (xs : List (ℕ × X)) (ks : List ℕ) → Past xs xs ks
 past_self xs ks = record { rest = []; whole = sym (append-nil xs); quiet = refl }

@@ -2,7 +2,8 @@
 use Rattle.std.proofs.Common.{All, ◌≡◌, ◌≢◌, ℕ, zero, suc, eq-eqb, ◌<◌, ◌≤◌, ◌+◌, eqb, List, [], ◌∷◌, ◌++◌, get_or, set, length, Bool, true, false, sym, refl, ap, ◌∙◌, subst, arith, Option, Some, None, unwrap_or, inl, inr, ⊎_elim}
 use Rattle.std.proofs.lemmas.List.{take_at, set-get_or}
 use Rattle.std.proofs.lemmas.List.Elements.{All-nil, All-push, All-take}
-use Rattle.std.proofs.lemmas.Bool.{false≢true, or_cases, or_from, or_left, false_from_ne_true, eqb-true, ne_eqb}
+use Rattle.std.proofs.lemmas.Bool.{false≢true, or_cases, or_from, or_left, or_right, false_from_ne_true, eqb-true, ne_eqb}
+use Rattle.std.proofs.Math.Nat.{max-le}
 use mathlib.Core.Logic.{dite}
 use mathlib.Core.Option.{none, some, some-injective, some-ne-none}
 use native.Mathlib.Decide.{ℕ_discrete}
@@ -12,10 +13,10 @@ use Rattle.atomic_table.specs.Table.{State, Me, step, keeps, takes, gives, Allow
 use Rattle.atomic_table.proofs.Lists.{set_here, set_else, set_again, at_longer}
 use Rattle.turn_lock.specs.Histories.{has, calls, Past}
 use Rattle.turn_lock.specs.Rule.{IsCurrent, Stands, Apart, IsFree, IsLock}
-use Rattle.turn_lock.specs.Steps.{IsIdle, Seizes, Grew, Counts, Releases, Numbers, Meets}
+use Rattle.turn_lock.specs.Steps.{IsGiven, IsIdle, Seizes, Grew, Counts, Releases, Numbers, Meets}
 use Rattle.turn_lock.specs.Views.{first_view, spent_view, seized, counted, released, old_half, new_half, numbered, filled, joined, most_numbers}
 use Rattle.turn_lock.specs.declared.view.View.{View}
-use Rattle.turn_lock.proofs.Histories.{has_append, calls_none, quiet_rest, quiet_both, both_past, quiet_append, quiet_one, has_one, has_it, has_else, past_self, past_nothing, past_more}
+use Rattle.turn_lock.proofs.Histories.{has_append, quiet_rest, quiet_both, both_past, quiet_append, quiet_one, quiet_front, quiet_less, quiet_later, has_later, has_one, has_it, has_else, not_it, past_self, past_nothing, past_more}
 use Rattle.turn_lock.proofs.Views.{each_set, each_snoc, pairs_set, pairs_snoc}
 
 abbrev pub value_at : {T : Type 0} → List (ℕ × Option T) → T → T
@@ -73,6 +74,7 @@ module _ {T E : Type 0} (history : T → List (ℕ × E)) (may : ℕ → E → B
             record {
               past = past_self [] (0 ∷ []);
               below = λ k h. let z : k ≡ 0 = has_one k 0 h in omega arith;
+              given = omega arith;
               own = λ k e. let z : 0 ≡ k = cc in subst (λ j. has j (0 ∷ []) ≡ true) z (has_it 0 []);
               turn = λ h. absurd (false≢true h);
               named = λ h. absurd (false≢true h);
@@ -115,6 +117,7 @@ module _ {T E : Type 0} (history : T → List (ℕ × E)) (may : ℕ → E → B
             record {
               past = past_self l.log m.0.known;
               below = sm.below;
+              given = sm.given;
               own = sm.own;
               turn = λ h. (refl, idle.spent);
               named = λ h. (by, idle.number);
@@ -203,6 +206,7 @@ module _ {T E : Type 0} (history : T → List (ℕ × E)) (may : ℕ → E → B
             record {
               past = past_self log v.known;
               below = sv.below;
+              given = sv.given;
               own = sv.own;
               turn = λ h. (refl, (sv.turn h).1);
               named = sv.named;
@@ -218,6 +222,7 @@ module _ {T E : Type 0} (history : T → List (ℕ × E)) (may : ℕ → E → B
             record {
               past = past_more l.log u.seen u.known more su.past (quiet_one u.known by entry (p.numbers by mine));
               below = su.below;
+              given = su.given;
               own = su.own;
               turn = λ h. both_ways (IsCurrent log u) u.holds (p.turn holds) h;
               named = su.named;
@@ -282,6 +287,7 @@ module _ {T E : Type 0} (history : T → List (ℕ × E)) (may : ℕ → E → B
               record {
                 past = sm.past;
                 below = sm.below;
+                given = sm.given;
                 own = sm.own;
                 turn = λ h. absurd (false≢true h);
                 named = λ h. absurd (false≢true h);
@@ -359,9 +365,10 @@ module _ {T E : Type 0} (history : T → List (ℕ × E)) (may : ℕ → E → B
               (quiet_rest (old ∷ []) v.seen sv.past.rest (ap (λ h. calls (old ∷ []) h) (sym sv.past.whole) ∙ l.fresh old (omega arith))) sv.past.quiet;
         };
         below = λ k h. ⊎_elim (λ t. let e = eqb-true k old t in omega arith) (λ t. let b = sv.below k t in omega arith) (or_cases (eqb k old) (has k v.known) h);
-        own = λ k e. let same : old ≡ k = cc in subst (λ j. has j (old ∷ v.known) ≡ true) same (has_it old v.known);
+        given = omega arith;
+        own = λ k e. or_right (eqb k old) (has k v.known) (sv.own k e);
         turn = λ h. both_ways (IsCurrent l.log v) v.holds idle h;
-        named = λ h. (old, refl);
+        named = sv.named;
         alone = sv.alone;
         all_given = λ h. let e = sv.all_given h in absurd (omega arith);
         opened = sv.opened;
@@ -375,6 +382,7 @@ module _ {T E : Type 0} (history : T → List (ℕ × E)) (may : ℕ → E → B
         record {
           past = su.past;
           below = λ k h. let b = su.below k h in omega arith;
+          given = let b = su.given in omega arith;
           own = su.own;
           turn = su.turn;
           named = su.named;
@@ -403,10 +411,11 @@ module _ {T E : Type 0} (history : T → List (ℕ × E)) (may : ℕ → E → B
       record {
         past = sv.past;
         below = sv.below;
+        given = sv.given;
         own = sv.own;
         turn = sv.turn;
         named = sv.named;
-        alone = sv.alone;
+        alone = λ h. absurd (false≢true h);
         all_given = λ h. is;
         opened = sv.opened;
         met = record { mine = sv.met.mine; other = sv.met.other; apart = sv.met.apart };
@@ -415,7 +424,7 @@ module _ {T E : Type 0} (history : T → List (ℕ × E)) (may : ℕ → E → B
       let p = l.apart id j v u at a (λ e. ne (sym e)) in
       let q = l.apart j id u v a at ne in (
         l.each j u a,
-        record { numbers = p.numbers; turn = p.turn; alone = p.alone },
+        record { numbers = p.numbers; turn = p.turn; alone = λ h. absurd (false≢true h) },
         record { numbers = q.numbers; turn = q.turn; alone = q.alone },
       ))
 
@@ -434,7 +443,20 @@ module _ {T E : Type 0} (history : T → List (ℕ × E)) (may : ℕ → E → B
         tt,
         subst (λ k. IsLock history may follows record { words = set s.words 1 k; homes = s.homes; views = set s.views id (numbered m.0 y) }) (sym hit)
             (subst (λ k. IsLock history may follows record { words = set s.words 1 (old + 1); homes = s.homes; views = set s.views id (numbered m.0 k) }) (sym e) (numbered_lock s id old m.0 l at idle (sym found ∙ e) low)),
-        inl (e, omega arith, false_from_ne_true m.0.all_given (λ t. let f = sm.all_given t in absurd (omega arith)), refl),
+        inl (
+          e,
+          omega arith,
+          record {
+            fresh = record {
+              known = λ k h. let b = sm.below k h in omega arith;
+              unused = quiet_front (y ∷ []) m.0.seen sm.past.rest (ap (λ h. calls (y ∷ []) h) (sym sm.past.whole) ∙ l.fresh y (omega arith));
+              given = let b = sm.given in omega arith;
+            };
+            left = false_from_ne_true m.0.all_given (λ t. let f = sm.all_given t in absurd (omega arith));
+            own = sm.own;
+          },
+          refl,
+        ),
       ))
       (λ ne.
       let miss : either (eqb y old) (old + 1) y ≡ y = rw (ne_eqb y old ne) refl in
@@ -465,34 +487,42 @@ module _ {T E : Type 0} (history : T → List (ℕ × E)) (may : ℕ → E → B
         (refl, sm.met, all_front (λ e. may e.0 e.1 ≡ true) m.0.seen sm.past.rest (subst (λ h. All (λ e. may e.0 e.1 ≡ true) h) sm.past.whole l.allowed)),
       )
 
-  pub splits : (id : ℕ) (v : View T E) → v.holds ≡ false → v.spent ≡ false → Splits (IsLock history may follows) id v (old_half v) (new_half v)
-  splits id v idle here s l at =
-      let old : View T E = old_half v in
-      let new : View T E = new_half v in
-      let sv = l.each id v at in
-      let changed : IsLock history may follows record { words = s.words; homes = s.homes; views = set s.views id old } =
-      replaced s id v old l l.made s.words at l.words l.begun l.fresh idle idle
-      record {
-        past = sv.past;
-        below = sv.below;
-        own = sv.own;
+  -- a view that was given a number is split: the new half has the number
+  pub splits : (id n : ℕ) (v : View T E) → v.holds ≡ false → v.spent ≡ false → IsGiven v n
+      → Splits (IsLock history may follows) id (numbered v n) (old_half (numbered v n)) (new_half (numbered v n))
+  splits id n v idle here given s l at =
+      let both : View T E = numbered v n in
+      let old : View T E = old_half both in
+      let new : View T E = new_half both in
+      let sv = l.each id both at in
+      let stands : Stands l.opening l.log l.made old = record {
+        past = record { rest = sv.past.rest; whole = sv.past.whole; quiet = quiet_later n v.known sv.past.rest sv.past.quiet };
+        below = λ k h. sv.below k (or_right (eqb k n) (has k v.known) h);
+        given = sv.given;
+        own = given.own;
         turn = sv.turn;
         named = sv.named;
         alone = λ h. absurd (false≢true h);
         all_given = sv.all_given;
         opened = sv.opened;
         met = record { mine = sv.met.mine; other = sv.met.other; apart = sv.met.apart };
-      }
+      } in
+      let changed : IsLock history may follows record { words = s.words; homes = s.homes; views = set s.views id old } =
+      replaced s id both old l l.made s.words at l.words l.begun l.fresh idle idle stands
       (λ j u ne a.
-      let p = l.apart id j v u at a (λ e. ne (sym e)) in
-      let q = l.apart j id u v a at ne in (
+      let p = l.apart id j both u at a (λ e. ne (sym e)) in
+      let q = l.apart j id u both a at ne in (
         l.each j u a,
-        record { numbers = p.numbers; turn = p.turn; alone = λ h. absurd (false≢true h) },
-        record { numbers = q.numbers; turn = q.turn; alone = q.alone },
+        record { numbers = λ k h. p.numbers k (or_right (eqb k n) (has k v.known) h); turn = p.turn; alone = λ h. absurd (false≢true h) },
+        record { numbers = λ k h. has_later k n v.known (q.numbers k h); turn = q.turn; alone = q.alone },
       )) in
       -- nobody is alone
       let many : (j : ℕ) (u : View T E) → get_elem? (set s.views id old) j ≡ some u → u.alone ≡ true → ⊥ =
-      each_set (λ (u : View T E). u.alone ≡ true → ⊥) s.views id old (λ h. false≢true h) (λ j u ne a h. both_ways ⊥ v.spent here ((l.apart j id u v a at ne).alone h)) in
+      each_set (λ (u : View T E). u.alone ≡ true → ⊥) s.views id old (λ h. false≢true h) (λ j u ne a h. both_ways ⊥ v.spent here ((l.apart j id u both a at ne).alone h)) in
+      -- nobody else knows the number
+      let nobody : (j : ℕ) (u : View T E) → get_elem? (set s.views id old) j ≡ some u → has n u.known ≡ false =
+      each_set (λ (u : View T E). has n u.known ≡ false) s.views id old (false_from_ne_true (has n v.known) (λ t. let b = given.fresh.known n t in absurd (omega arith)))
+      (λ j u ne a. (l.apart id j both u at a (λ e. ne (sym e))).numbers n (has_it n v.known)) in
       record {
         opening = l.opening;
         log = l.log;
@@ -516,7 +546,7 @@ module _ {T E : Type 0} (history : T → List (ℕ × E)) (may : ℕ → E → B
               record {
                 id = t.1.id;
                 view = t.1.view;
-                at = at_longer (set s.views id old) (new ∷ []) t.1.id t.1.view (set_else s.views id t.1.id old (differ s.views id t.1.id v t.1.view at t.1.at idle t.1.holds) ∙ t.1.at);
+                at = at_longer (set s.views id old) (new ∷ []) t.1.id t.1.view (set_else s.views id t.1.id old (differ s.views id t.1.id both t.1.view at t.1.at idle t.1.holds) ∙ t.1.at);
                 holds = t.1.holds;
               },
             ))
@@ -525,9 +555,10 @@ module _ {T E : Type 0} (history : T → List (ℕ × E)) (may : ℕ → E → B
         fresh = l.fresh;
         each = each_snoc (Stands l.opening l.log l.made) (set s.views id old) new
             record {
-              past = record { rest = sv.past.rest; whole = sv.past.whole; quiet = calls_none sv.past.rest };
-              below = λ k h. absurd (false≢true h);
-              own = λ k e. absurd (none_some k e);
+              past = record { rest = sv.past.rest; whole = sv.past.whole; quiet = quiet_less (n ∷ v.known) n sv.past.rest (has_it n v.known) sv.past.quiet };
+              below = λ k h. let e = has_one k n h in let b = sv.below n (has_it n v.known) in omega arith;
+              given = sv.given;
+              own = λ k e. let same : n ≡ k = cc in subst (λ j. has j (n ∷ []) ≡ true) same (has_it n []);
               turn = λ h. absurd (false≢true h);
               named = λ h. absurd (false≢true h);
               alone = λ h. absurd (false≢true h);
@@ -535,24 +566,15 @@ module _ {T E : Type 0} (history : T → List (ℕ × E)) (may : ℕ → E → B
               opened = λ h. sv.opened here;
               met = record { mine = past_nothing v.seen; other = past_nothing v.seen; apart = λ k h. refl };
             }
-            (each_set (Stands l.opening l.log l.made) s.views id old
-            record {
-              past = sv.past;
-              below = sv.below;
-              own = sv.own;
-              turn = sv.turn;
-              named = sv.named;
-              alone = λ h. absurd (false≢true h);
-              all_given = sv.all_given;
-              opened = sv.opened;
-              met = record { mine = sv.met.mine; other = sv.met.other; apart = sv.met.apart };
-            }
-            (λ j u ne a. l.each j u a));
+            (each_set (Stands l.opening l.log l.made) s.views id old stands (λ j u ne a. l.each j u a));
         apart = pairs_snoc Apart (set s.views id old) new
-            record { numbers = λ k h. absurd (false≢true h); turn = λ h. refl; alone = λ h. absurd (false≢true h) }
             (λ j u a. (
-              record { numbers = λ k h. absurd (false≢true h); turn = λ h. absurd (false≢true h); alone = λ h. absurd (false≢true h) },
-              record { numbers = λ k h. refl; turn = λ h. refl; alone = λ h. absurd (many j u a h) },
+              record { numbers = λ k h. subst (λ i. has i u.known ≡ false) (sym (has_one k n h)) (nobody j u a); turn = λ h. absurd (false≢true h); alone = λ h. absurd (false≢true h) },
+              record {
+                numbers = λ k h. has_else k n (not_it k n u.known (nobody j u a) h);
+                turn = λ h. refl;
+                alone = λ h. absurd (many j u a h);
+              },
             ))
             changed.apart;
       }
@@ -601,6 +623,7 @@ module _ {T E : Type 0} (history : T → List (ℕ × E)) (may : ℕ → E → B
             record {
               past = past_nothing l.log;
               below = λ k h. absurd (false≢true h);
+              given = omega arith;
               own = λ k e. absurd (none_some k e);
               turn = λ h. absurd (false≢true h);
               named = λ h. absurd (false≢true h);
@@ -614,6 +637,7 @@ module _ {T E : Type 0} (history : T → List (ℕ × E)) (may : ℕ → E → B
             record {
               past = both.past;
               below = λ k h. ⊎_elim (λ t. sv.below k t) (λ t. sw.below k t) (or_cases (has k v.known) (has k w.known) (sym (has_append k v.known w.known) ∙ h));
+              given = max-le sv.given sw.given;
               own = λ k e. has_append k v.known w.known ∙ or_left (has k v.known) (has k w.known) (sv.own k e);
               turn = λ h. both_ways (IsCurrent l.log u) v.holds idle h;
               named = sv.named;

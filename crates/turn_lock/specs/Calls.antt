@@ -1,5 +1,6 @@
 -- What a call, a split and a join of passes leave, as their callers are told.
-use Rattle.std.specs.Prelude.{◌≡◌, ◌⊎◌, ◌||◌, ◌∷◌, [], ◌++◌, ◌+◌, length, ℕ, List, Bool, true, false, Some}
+use Rattle.std.specs.Prelude.{◌≡◌, ◌<◌, ◌≤◌, ◌⊎◌, ◌||◌, ◌∷◌, [], ◌++◌, ◌+◌, length, max}
+use Rattle.std.specs.Prelude.{ℕ, List, Bool, true, false, Some}
 use Rattle.turn_lock.specs.Histories.{has, calls, grown, Past}
 use Rattle.turn_lock.specs.declared.view.View.{View}
 
@@ -14,6 +15,7 @@ module _ {T E : Type 0} where
     pub opening : w.opening ≡ v.opening
     pub number : w.number ≡ v.number
     pub known : w.known ≡ v.known
+    pub given : w.given ≡ v.given
     pub alone : w.alone ≡ v.alone
     pub all_given : w.all_given ≡ v.all_given
 
@@ -24,6 +26,13 @@ module _ {T E : Type 0} where
     pub known : w.known ≡ v.known
     pub seen : w.seen ≡ v.seen
     pub alone : w.alone ≡ false
+
+  -- a number that no pass had when it was given: it is above each that the pass knows, no entry is under it,
+  -- and as many were given as the pass knows of
+  pub record IsFresh (v : View T E) (n : ℕ) : Type 0 where
+    pub known : (k : ℕ) → has k v.known ≡ true → k < n
+    pub unused : calls (n ∷ []) v.seen ≡ []
+    pub given : v.given ≤ n
 
   -- One call of the pass `by`: the history begins with all that had been seen, goes on with entries under
   -- no known number, and ends with the entry where it was recorded. The reply is the value's in the state
@@ -59,6 +68,7 @@ module _ {T E : Type 0} where
         ≡ length (calls v.known v.seen) + length (calls w.known w.seen)
     pub known : u.known ≡ v.known ++ w.known
     pub number : u.number ≡ v.number
+    pub given : u.given ≡ max v.given w.given
     pub opening : u.opening ≡ v.opening
     pub alone : u.alone ≡ false
     pub all_given : u.all_given ≡ (v.all_given || w.all_given)

@@ -25,6 +25,7 @@ module _ {T E : Type 0} where
   pub record Stands (opening : T) (log : List (ℕ × E)) (made : ℕ) (v : View T E) : Type 0 where
     pub past : Past log v.seen v.known  -- it has seen a beginning, with all entries under its numbers
     pub below : (k : ℕ) → has k v.known ≡ true → k < made  -- the numbers that it knows were given
+    pub given : v.given ≤ made  -- as many as it knows of, at least
     pub own : (k : ℕ) → v.number ≡ Some k → has k v.known ≡ true  -- it knows its own
     pub turn : v.holds ≡ true → IsCurrent log v  -- with the turn it is current
     pub named : v.holds ≡ true → (k : ℕ) × (v.number ≡ Some k)  -- and has a number

@@ -2,6 +2,7 @@
 use Rattle.std.specs.Prelude.{◌≡◌, ◌≢◌, ◌⊎◌, ◌∷◌, [], ◌≤◌, ℕ, List, Bool, true, false, Option, Some, All}
 use Rattle.atomic_table.specs.Table.{Me, Step}
 use Rattle.turn_lock.specs.Histories.{has, grown, Past}
+use Rattle.turn_lock.specs.Calls.{IsFresh}
 use Rattle.turn_lock.specs.Rule.{Met}
 use Rattle.turn_lock.specs.Views.{most_numbers, seized, counted, released, numbered, filled}
 use Rattle.turn_lock.specs.declared.view.View.{View}
@@ -14,10 +15,16 @@ module _ {T E : Type 0} where
     pub spent : m.0.spent ≡ false
     pub number : m.0.number ≡ Some by
 
-  -- the word was what was sought: it is the seat's number
+  -- a number that a seat is given: nobody had it, and not all were given; the seat knows its own
+  pub record IsGiven (v : View T E) (n : ℕ) : Type 0 where
+    pub fresh : IsFresh v n
+    pub left : v.all_given ≡ false
+    pub own : (k : ℕ) → v.number ≡ Some k → has k v.known ≡ true
+
+  -- the word was what was sought: it is the seat's, for a pass to be split off
   abbrev pub GivesNumber : {S : Type 0} → Step S → Me S (View T E) → ℕ → Me S (View T E) → Type 0
   GivesNumber st m found n =
-      (found ≡ st.first) × (1 ≤ found) × (m.0.all_given ≡ false) × (n ≡ (numbered m.0 found, m.1))
+      (found ≡ st.first) × (1 ≤ found) × IsGiven m.0 found × (n ≡ (numbered m.0 found, m.1))
 
   -- all numbers were given
   abbrev pub HasGivenAll : {S : Type 0} → Step S → Me S (View T E) → ℕ → Me S (View T E) → Type 0

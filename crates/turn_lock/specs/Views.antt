@@ -1,5 +1,5 @@
 -- What a pass knows, and what each step of the lock makes of it.
-use Rattle.std.specs.Prelude.{◌≡◌, ◌||◌, ◌∷◌, [], ◌++◌, ℕ, List, true, false, Some, None}
+use Rattle.std.specs.Prelude.{◌||◌, ◌∷◌, [], ◌++◌, ◌+◌, max, ℕ, List, Option, true, false, Some, None}
 use Rattle.turn_lock.specs.Histories.{longer}
 use Rattle.turn_lock.specs.declared.view.View.{View}
 use Rattle.turn_lock.specs.declared.view.Part.{Part}
@@ -7,6 +7,21 @@ use Rattle.turn_lock.specs.declared.view.Part.{Part}
 -- how many pass numbers there are: 2^64 - 1 of them are given at most
 abbrev pub most_numbers : ℕ
 most_numbers = 18446744073709551615
+
+-- the first of the known numbers, as an own one
+abbrev pub first_number : List ℕ → Option ℕ
+first_number [] = None
+first_number (k ∷ ks) = Some k
+
+-- the first of the known numbers alone
+abbrev pub first_known : List ℕ → List ℕ
+first_known [] = []
+first_known (k ∷ ks) = k ∷ []
+
+-- the known numbers but the first
+abbrev pub later_known : List ℕ → List ℕ
+later_known [] = []
+later_known (k ∷ ks) = ks
 
 -- no two passes were joined
 abbrev pub no_part : {E : Type 0} → Part E
@@ -23,6 +38,7 @@ module _ {T E : Type 0} where
         spent = false;
         all_given = false;
         number = Some 0;
+        given = 1;
         known = 0 ∷ [];
         seen = [];
         mine = no_part;
@@ -39,6 +55,7 @@ module _ {T E : Type 0} where
         spent = true;
         all_given = false;
         number = None;
+        given = 0;
         known = [];
         seen = [];
         mine = no_part;
@@ -57,11 +74,15 @@ module _ {T E : Type 0} where
   abbrev pub released : View T E → View T E
   released v = record v { holds = false }
 
+  -- it was given a number, which comes first of those that it knows, for a pass to be split off
+  abbrev pub numbered : View T E → ℕ → View T E
+  numbered v n = record v { given = n + 1; known = n ∷ v.known }
+
   -- a pass of which another was split off
   abbrev pub old_half : View T E → View T E
-  old_half v = record v { alone = false }
+  old_half v = record v { alone = false; known = later_known v.known }
 
-  -- the pass that was split off, before it has a number: it has seen as much
+  -- the pass that was split off: it has seen as much, and the number is its own
   abbrev pub new_half : View T E → View T E
   new_half v =
       record {
@@ -70,20 +91,17 @@ module _ {T E : Type 0} where
         alone = false;
         spent = false;
         all_given = v.all_given;
-        number = None;
-        known = [];
+        number = first_number v.known;
+        given = v.given;
+        known = first_known v.known;
         seen = v.seen;
         mine = no_part;
         other = no_part;
       }
 
-  -- it has a number of its own
-  abbrev pub numbered : View T E → ℕ → View T E
-  numbered v n = record v { number = Some n; known = n ∷ v.known }
-
-  -- it found that all numbers were given
+  -- it found that all numbers were given; as after each split it counts as alone no more
   abbrev pub filled : View T E → View T E
-  filled v = record v { all_given = true }
+  filled v = record v { alone = false; all_given = true }
 
   -- the second was joined into the first: the longer history stays, and the numbers of both are known
   abbrev pub joined : View T E → View T E → View T E
@@ -91,6 +109,7 @@ module _ {T E : Type 0} where
       record v {
         alone = false;
         all_given = v.all_given || w.all_given;
+        given = max v.given w.given;
         known = v.known ++ w.known;
         seen = longer v.seen w.seen;
         mine = record { seen = v.seen; known = v.known };

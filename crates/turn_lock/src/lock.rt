@@ -1,9 +1,9 @@
 // What is done with a lock: it is made, called in turn by passes, and passes are split and joined.
-ghost use Rattle.std.specs.Prelude.{◌≡◌, ◌<◌, ◌↔◌, ◌∷◌, []};
+ghost use Rattle.std.specs.Prelude.{◌≡◌, ◌<◌, ◌↔◌, ◌∷◌, [], ◌+◌};
 ghost use Rattle.std.specs.Prelude.{All, IfErr, IfNone, IfOk, IfSome, IsErrOf, None, Some, false, true};
-ghost use Rattle.turn_lock.specs.Calls.{Called, Joined, SameKnower, SameSeen};
+ghost use Rattle.turn_lock.specs.Calls.{Called, IsFresh, Joined, SameKnower, SameSeen};
 ghost use Rattle.turn_lock.specs.Passes.{IsPassOf, pass_number, pass_view};
-ghost use Rattle.turn_lock.specs.Steps.{Grew, IsIdle, Settled, Took};
+ghost use Rattle.turn_lock.specs.Steps.{Grew, IsGiven, IsIdle, Settled, Took};
 ghost use Rattle.turn_lock.specs.Views.{counted, filled, first_view, most_numbers, new_half, numbered};
 
 use crate::keeps::Keeps;
@@ -126,7 +126,7 @@ impl<T: Keeps> TurnLock<T> {
         reply
     }
 
-    // The next number for a seat that has none, or None where all were given, which the seat then knows.
+    // The next number, for a pass to be split off, or None where all were given, which the seat then knows.
     fn give_number<R: Wait>(
         &self,
         rt: &R,
@@ -136,6 +136,7 @@ impl<T: Keeps> TurnLock<T> {
         requires idle { seat.old.me.0.holds ≡ false }
         ensures table { seat.new.table_id ≡ seat.old.table_id }
         ensures range { IfSome result (λ n. (0 < n) × (n < most_numbers)) }
+        ensures given { IfSome result (IsGiven seat.old.me.0) }
         ensures left { IfSome result (λ n. seat.old.me.0.all_given ≡ false) }
         ensures some { IfSome result (λ n. seat.new.me ≡ (numbered seat.old.me.0 n, seat.old.me.1)) }
         ensures none { IfNone result (seat.new.me ≡ (filled seat.old.me.0, seat.old.me.1)) }
@@ -158,9 +159,10 @@ impl<T: Keeps> TurnLock<T> {
     }
 
     /// Splits a pass of this lock off another: it has seen as much, and has a number of its own, which
-    /// nobody had before. [`SplitFault::Spent`] comes exactly where all numbers were given; the pass knows
-    /// that then, and is answered so again. It takes no memory; it waits only while other splits come
-    /// between.
+    /// nobody had before: it is above each number that the pass, or one that was joined into it, knows or
+    /// gave in an earlier split, and no entry that was seen is under it. [`SplitFault::Spent`] comes exactly
+    /// where all numbers were given; the pass knows that then, and is answered so again. It takes no memory;
+    /// it waits only while other splits come between.
     pub fn split<R: Wait>(
         &self,
         rt: &R,
@@ -172,26 +174,27 @@ impl<T: Keeps> TurnLock<T> {
         ensures number { pass_number pass.new ≡ pass_number pass.old }
         ensures same { SameSeen (pass_view pass.old) (pass_view pass.new) }
         ensures told { IfOk result
-            (λ p. pass_view p ≡ numbered (new_half (pass_view pass.old)) (pass_number p)) }
+            (λ p. pass_view p ≡ new_half (numbered (pass_view pass.old) (pass_number p))) }
+        ensures fresh { IfOk result (λ p. IsFresh (pass_view pass.old) (pass_number p)) }
+        ensures given { IfOk result (λ p. (pass_view pass.new).given ≡ pass_number p + 1) }
         ensures range { IfOk result (λ p. (0 < pass_number p) × (pass_number p < most_numbers)) }
         ensures spent { IsErrOf result SplitFault.Spent ↔ ((pass_view pass.new).all_given ≡ true) }
         ensures again { (pass_view pass.old).all_given ≡ true → IsErrOf result SplitFault.Spent }
     {
-        let shared = &self.table.shared;
-        let mut seat = shared.split_seat::<Halves>(&mut pass.seat);
-        match self.give_number(rt, &mut seat) {
-            Some(number) => Ok(Pass { seat, number }),
-            None => {
-                shared.join_seat::<Both>(&mut pass.seat, seat);
-                Err(SplitFault::Spent)
+        match self.give_number(rt, &mut pass.seat) {
+            Some(number) => {
+                let seat = self.table.shared.split_seat::<Halves>(&mut pass.seat);
+                Ok(Pass { seat, number })
             }
+            None => Err(SplitFault::Spent),
         }
     }
 
     /// Joins another pass of this lock into a pass. The history that one of them has seen begins the
     /// other's; the longer stays. The pass that remains knows the numbers of both, and past what either had
     /// seen the history has no entry under a number which that one knew: so it has all their entries, each
-    /// once. It takes no memory and doesn't wait.
+    /// once. A pass that is split off it later has a number above all that either knew or gave. It takes no
+    /// memory and doesn't wait.
     pub fn join(&self, into: &mut Pass<T, T::Entry>, other: Pass<T, T::Entry>)
         requires into { IsPassOf self.now into.old }
         requires other { IsPassOf self.now other }

@@ -13,5 +13,5 @@ mod tally;
 mod tests;
 
 pub use evens::Evens;
-pub use meet::{add, eight_hundred, four_hundred, hundred, two_hundred};
+pub use meet::{add, eight_hundred, four_hundred, hundred, two_between, two_hundred, two_more};
 pub use tally::{Ask, Tally};

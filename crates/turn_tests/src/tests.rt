@@ -27,17 +27,17 @@ fn eight_threads_meet_in_a_tree(rt: HostRuntime) -> Result<(), Fail> {
 #[test]
 fn numbers_rise(rt: HostRuntime) -> Result<(), Fail> {
     let (lock, mut pass) = TurnLock::new(rt.alloc(), Tally::with_room(rt.alloc(), 0, 4)?)?;
-    let Ok(mut one) = lock.split(&rt, &mut pass) else {
-        panic!(rt; "no number was left")
-    };
-    let Ok(mut other) = lock.split(&rt, &mut pass) else {
+    let Some((mut one, mut other)) = two_more(&rt, &lock, &mut pass) else {
         panic!(rt; "no number was left")
     };
     assert_eq!(rt; (pass.number(), one.number(), other.number()), (0, 1, 2));
     assert_eq!(rt; add(&rt, &lock, &mut one, 10), Some(0));
     assert_eq!(rt; add(&rt, &lock, &mut other, 20), Some(10));
     assert_eq!(rt; add(&rt, &lock, &mut one, 30), Some(30));
-    lock.join(&mut pass, one);
+    let Some((late, last)) = two_between(&rt, &lock, &mut pass, one) else {
+        panic!(rt; "no number was left")
+    };
+    assert_eq!(rt; (late.number(), last.number()), (3, 4));
     lock.join(&mut other, pass);
     assert_eq!(rt; lock.call(&rt, &mut other, Ask::Total), Some(60));
     Ok(())

@@ -13,11 +13,16 @@ use std::alloc::Global;
 use std::io::{Read, Write};
 use std::random::RandomSource;
 use std::sync::Wait;
+use std::thread;
+use std::time::{Clock, Duration};
 use tungstenite::handshake::client::request_of;
 use tungstenite::{
     Error, HandshakeError, MaskKeys, Message, NoMask, RandomKeys, WebSocket, WebSocketConfig,
     accept, client,
 };
+
+/// How long a client rests that was told there is nothing new, in milliseconds.
+const PAUSE_MILLIS: u64 = 50;
 
 /// What a client asks for at its handshake.
 const ADDRESS: &str = "ws://127.0.0.1/";
@@ -37,7 +42,8 @@ enum Socket<S: Drop, R: Drop> {
 }
 
 /// A link over a WebSocket, which it speaks over a stream as its server or as its client. It tells no
-/// messages. The runtime that it holds is the source of a client's random bytes, and what it waits by.
+/// messages. The runtime that it holds is the source of a client's random bytes, what it waits by, and the
+/// clock of its pauses.
 #[derive(Drop)]
 pub struct WsLink<S: Drop, R: Drop> {
     rt: R,
@@ -98,7 +104,7 @@ impl<S: Read + Write + Drop, R: RandomSource + Wait + Copy + Drop> WsLink<S, R> 
     }
 }
 
-impl<S: Read + Write + Drop, R: RandomSource + Wait + Copy + Drop> Link for WsLink<S, R> {
+impl<S: Read + Write + Drop, R: RandomSource + Clock + Wait + Copy + Drop> Link for WsLink<S, R> {
     ghost phase = { λ link. link.phase };
 
     ghost faults = { λ link. link.faults };
@@ -147,6 +153,10 @@ impl<S: Read + Write + Drop, R: RandomSource + Wait + Copy + Drop> Link for WsLi
             Ok(got) => Ok(got),
             Err(fault) => Err(self.count(fault)),
         }
+    }
+
+    fn pause(&self) {
+        thread::sleep(&self.rt, Duration::from_millis(PAUSE_MILLIS));
     }
 
     fn close(&mut self) {

@@ -3,9 +3,10 @@ use Rattle.folder_watch.specs.Edits.{AreEdits}
 use Rattle.folder_server.specs.Rounds.{Files}
 use Rattle.std.proofs.lemmas.Result.{err_from_is_err_and}
 use Rattle.hub_editor.specs.Edits.{edits_in}
-use Rattle.folder_server.specs.Causes.{IsEditCause}
+use Rattle.folder_server.specs.Causes.{IsFirstCause}
 use Rattle.folder_server.specs.Stops.{stop_of_edit, stop_of_scan}
-use Rattle.folder_server.proofs.Causes.{came_none, edit_cause, passed, scan_cause, stopped_then, tree_of_edit, tree_of_scan}
+use Rattle.folder_server.proofs.Causes.{came_none, first_edit, first_scan, passed, tree_of_edit, tree_of_scan}
+use Rattle.folder_server.proofs.Makings.{scan_stops}
 use Rattle.folder_server.proofs.Shortness.{short_rows}
 use Rattle.folder_server.proofs.opening.open_folder.Goals as goal
 
@@ -13,8 +14,8 @@ pub returns-in_err-listing-clause-cause : goal.returns-in_err-listing-clause-cau
 returns-in_err-listing-clause-cause g c =
     let coming = g.T.Tree.coming c.args.tree.now in
     let stop = c.in_err-listing.field-0.0 in
-    passed (IsEditCause coming c.args.pass.now) c.from_residual.result (stop_of_scan stop) (err_from_is_err_and c.from_residual.result c.from_residual.ensures.1)
-    (scan_cause coming c.args.pass.now stop (stopped_then 0 coming coming stop (came_none coming) c.in_err-listing.ensures.limits))
+    passed (IsFirstCause coming c.args.pass.now) c.from_residual.result (stop_of_scan stop) (err_from_is_err_and c.from_residual.result c.from_residual.ensures.1)
+    (first_scan coming c.args.pass.now stop c.requires.fresh (scan_stops 0 coming coming stop (came_none coming) c.in_err-listing.ensures.limits))
 
 pub returns-in_err-listing-clause-tree_fault : goal.returns-in_err-listing-clause-tree_fault
 returns-in_err-listing-clause-tree_fault g c =
@@ -24,8 +25,17 @@ pub returns-in_err-open_sources-clause-cause : goal.returns-in_err-open_sources-
 returns-in_err-open_sources-clause-cause g c =
     let coming = g.T.Tree.coming c.args.tree.now in
     let stop = c.in_err-open_sources.field-0.0 in
-    passed (IsEditCause coming c.open_sources.new.pass) c.from_residual-in_err-open_sources.result (stop_of_edit stop) (err_from_is_err_and c.from_residual-in_err-open_sources.result c.from_residual-in_err-open_sources.ensures.1)
-    (edit_cause coming c.open_sources.new.pass stop c.in_err-open_sources.ensures.cause)
+    let first = edits_in c.in_ok-edits.edits.items in
+    passed (IsFirstCause coming c.open_sources.new.pass) c.from_residual-in_err-open_sources.result (stop_of_edit stop) (err_from_is_err_and c.from_residual-in_err-open_sources.result c.from_residual-in_err-open_sources.ensures.1)
+    (first_edit coming c.open_sources.new.pass stop
+    (record {
+      listing = c.in_ok-listing.listing;
+      first = first;
+      round = record { scanned = c.in_ok-listing.ensures.told; edits_are = subst (λ (old : Files). AreEdits old c.in_ok-listing.listing first) c.new-none.ensures c.in_ok-edits.ensures.are; rising = c.in_ok-edits.ensures.rising };
+      begins = c.in_err-open_sources.ensures.front;
+      stops = c.in_err-open_sources.ensures.stopped;
+    })
+    c.in_err-open_sources.ensures.cause)
 
 pub returns-in_err-open_sources-clause-tree_fault : goal.returns-in_err-open_sources-clause-tree_fault
 returns-in_err-open_sources-clause-tree_fault g c =
@@ -35,6 +45,7 @@ pub returns-clause-opens : goal.returns-clause-opens
 returns-clause-opens g c = record {
   first = edits_in c.in_ok-edits.edits.items;
   round = record { scanned = c.in_ok-listing.ensures.told; edits_are = subst (λ (old : Files). AreEdits old c.in_ok-listing.listing (edits_in c.in_ok-edits.edits.items)) c.new-none.ensures c.in_ok-edits.ensures.are; rising = c.in_ok-edits.ensures.rising };
+  accepted = c.in_ok-open_sources.ensures.accepted;
   opening_is = c.in_ok-open_sources.ensures.opened;
 }
 

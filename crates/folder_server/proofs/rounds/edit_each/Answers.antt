@@ -1,14 +1,13 @@
-use Rattle.std.proofs.Common.{rules, ◌≡◌, ◌≤◌, ◌++◌, ◌∷◌, map, ap, sym, ◌∙◌, subst}
-use Rattle.std.specs.Prelude.{All}
+use Rattle.std.proofs.Common.{rules, ◌≡◌, ◌≤◌, ◌++◌, ◌∷◌, [], ap, sym, ◌∙◌, subst}
+use Rattle.std.specs.Prelude.{All, Err}
 use Rattle.std.specs.Vec.Iter.{into_iter_items}
-use Rattle.std.proofs.lemmas.List.{append-nil}
 use Rattle.std.proofs.lemmas.List.Elements.{All-head, All-rest, All-same}
 use Rattle.std.proofs.lemmas.Result.{err_from_is_err_and}
 use Rattle.folder_server.specs.Rounds.{MakesEach}
 use Rattle.hmr_types.specs.declared.limits.TheConstants.{MESSAGE_BYTES}
-use Rattle.hub_editor.specs.Edits.{Edit, edit_of, edits_in, length_of, text_in}
+use Rattle.hub_editor.specs.Edits.{Edit, edits_in, length_of, text_in}
 use Rattle.hub_editor.proofs.Calls.{knower_self, knower_then}
-use Rattle.folder_server.proofs.Makings.{each_all, each_stopped, edits_push, edits_then, left_then, made_one, made_then, none_left}
+use Rattle.folder_server.proofs.Makings.{all_as, all_none, all_one, all_then, each_all, each_stopped, edits_push, edits_then, left_then, none_left}
 use Rattle.folder_server.proofs.rounds.edit_each.Goals as goal
 
 abbrev IsShort : Edit → Type 0
@@ -21,7 +20,7 @@ loop-name-init g c = record {
   transcript = λ h. h;
   edited = λ p x. x;
   going = c.requires.going;
-  made = sym (append-nil (map edit_of c.args.editor.now.works.items));
+  made = all_none c.args.editor.now.works.items;
   all = ap edits_in c.into_iter-name-iterator.ensures.into_iter_gives.0;
   left = search rules;
   short = All-same IsShort (edits_in (into_iter_items c.into_iter-name-iterator.result)) (edits_in c.args.edits.items) (ap edits_in c.into_iter-name-iterator.ensures.into_iter_gives.0) c.requires.short;
@@ -50,9 +49,10 @@ loop-name-preserved g c =
       edited = λ p x. c.edit.ensures.edited p (i.edited p x);
       going = c.edit.ensures.going;
       made =
-          made_then c.args.editor.now.works.items old new (edits_in done) (c.in-Some.name, text_in c.in-Some.text) i.made
-          (made_one old new added.one (c.in-Some.name, text_in c.in-Some.text) added.whole added.edit_is)
-          ∙ ap (λ es. map edit_of c.args.editor.now.works.items ++ es) (sym (edits_push done (c.in-Some.name, c.in-Some.text)));
+          all_as (edits_in done ++ (c.in-Some.name, text_in c.in-Some.text) ∷ []) (edits_in (done ++ (c.in-Some.name, c.in-Some.text) ∷ [])) c.args.editor.now.works.items new
+          (sym (edits_push done (c.in-Some.name, c.in-Some.text)))
+          (all_then (edits_in done) ((c.in-Some.name, text_in c.in-Some.text) ∷ []) c.args.editor.now.works.items old new i.made
+          (all_one old new added.one (c.in-Some.name, text_in c.in-Some.text) added.whole added.edit_is added.accepted));
       all =
           edits_then done (c.in-Some.name, c.in-Some.text) (into_iter_items c.next.new.self)
           ∙ (ap (λ es. edits_in done ++ edits_in es) (sym steps) ∙ i.all);
@@ -75,15 +75,14 @@ returns-in_err-edit-clause-edited g c = λ p x. c.edit.ensures.edited p (c.loop-
 pub returns-in_err-edit-clause-makes : goal.returns-in_err-edit-clause-makes
 returns-in_err-edit-clause-makes g c =
     let i = c.loop-name.invariant in
-    let front = c.edit.ensures.front in
     let told = err_from_is_err_and c.from_residual.result c.from_residual.ensures.1 in
-    subst (λ r. MakesEach (edits_in c.args.edits.items) c.args.editor.now.works.items c.edit.new.self.works.items r) (sym told.1)
-    (each_stopped c.args.editor.now.works.items c.loop-name.editor.works.items c.edit.new.self.works.items (edits_in c.loop-name.yielded) (edits_in (into_iter_items c.next.new.self)) (edits_in c.args.edits.items)
-    front.rest (c.in-Some.name, text_in c.in-Some.text) told.0 i.made
-    (ap (λ es. edits_in c.loop-name.yielded ++ edits_in es) (sym c.in-Some.ensures.steps.0) ∙ i.all) front.whole)
+    let stop = c.in_err-edit.field-0.0 in
+    subst (λ r. MakesEach (edits_in c.args.edits.items) c.args.editor.now.works.items c.edit.new.self.works.items r) (sym (told.1 ∙ ap Err told.2))
+    (each_stopped (edits_in c.loop-name.yielded) (edits_in (into_iter_items c.next.new.self)) (edits_in c.args.edits.items) c.args.editor.now.works.items c.loop-name.editor.works.items c.edit.new.self.works.items
+    (c.in-Some.name, text_in c.in-Some.text) stop i.made (ap (λ es. edits_in c.loop-name.yielded ++ edits_in es) (sym c.in-Some.ensures.steps.0) ∙ i.all) c.in_err-edit.ensures.stopped)
 
 pub returns-clause-makes : goal.returns-clause-makes
 returns-clause-makes g c =
     let i = c.loop-name.invariant in
-    each_all c.args.editor.now.works.items c.loop-name.editor.works.items (edits_in c.loop-name.yielded) (edits_in (into_iter_items c.loop-name.name-iterator)) (edits_in c.args.edits.items)
+    each_all (edits_in c.loop-name.yielded) (edits_in (into_iter_items c.loop-name.name-iterator)) (edits_in c.args.edits.items) c.args.editor.now.works.items c.loop-name.editor.works.items
     i.made i.all (ap edits_in (none_left (into_iter_items c.loop-name.name-iterator) (sym i.left ∙ c.in-None.ensures.steps.0)))

@@ -1,4 +1,4 @@
-use Rattle.std.proofs.Common.{◌≡◌, ◌≤◌, ◌++◌, true, false, length, map}
+use Rattle.std.proofs.Common.{◌≡◌, ◌≤◌, ◌++◌, true, false, length}
 use Rattle.std.specs.Prelude.{All}
 use Rattle.std.specs.Vec.Iter.{into_iter_items, into_iter_len}
 use Rattle.hmr_types.specs.declared.limits.TheConstants.{MESSAGE_BYTES}
@@ -6,8 +6,9 @@ use Rattle.transform_pool.specs.Passes as pool
 use Rattle.hmr_hub.specs.Calls.{SameKnower}
 use Rattle.hmr_hub.specs.Passes.{HasTranscript, IsPassOf}
 use Rattle.hmr_hub.specs.declared.pass.Pass.{Pass}
-use Rattle.hub_editor.specs.Edits.{edit_of, edits_in, length_of}
+use Rattle.hub_editor.specs.Edits.{edits_in, length_of}
 use Rattle.hub_editor.specs.Editing.{Edited, IsGoing}
+use Rattle.folder_server.proofs.Makings.{AllMade}
 use Rattle.folder_server.proofs.rounds.edit_each.Given as goal
 
 -- the edits so far were made
@@ -18,7 +19,7 @@ invariant-loop-name g l = record {
   transcript : HasTranscript l.fn.pass → HasTranscript l.pass;
   edited : (p : Pass) → Edited p l.fn.pass l.fn.editor.works.items → Edited p l.pass l.editor.works.items;
   going : IsGoing l.editor.works.items;
-  made : map edit_of l.editor.works.items ≡ map edit_of l.fn.editor.works.items ++ edits_in l.yielded;
+  made : AllMade (edits_in l.yielded) l.fn.editor.works.items l.editor.works.items;
   all : edits_in l.yielded ++ edits_in (into_iter_items l.name-iterator) ≡ edits_in l.fn.edits.items;
   left : into_iter_len l.name-iterator ≡ length (into_iter_items l.name-iterator);
   short : All (λ e. length_of e ≤ MESSAGE_BYTES) (edits_in (into_iter_items l.name-iterator));

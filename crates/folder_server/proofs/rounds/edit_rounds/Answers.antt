@@ -1,12 +1,13 @@
-use Rattle.std.proofs.Common.{arith, ◌+◌, [], sym, subst}
+use Rattle.std.proofs.Common.{arith, ◌+◌, [], ap, sym, ◌∙◌, subst}
+use Rattle.std.specs.Prelude.{Err}
 use Rattle.hub_editor.specs.Edits.{edits_in}
 use Rattle.hub_editor.proofs.Calls.{knower_self, knower_then}
 use Rattle.std.proofs.lemmas.Result.{err_from_is_err_and}
 use Rattle.folder_server.specs.Causes.{IsEditCause}
 use Rattle.folder_server.specs.Rounds.{MakesEdits}
 use Rattle.folder_server.specs.Stops.{stop_of_edit, stop_of_scan}
-use Rattle.folder_server.proofs.Causes.{came_more, came_none, edit_cause, passed, scan_cause, stopped_then, tree_of_edit, tree_of_scan}
-use Rattle.folder_server.proofs.Makings.{Rounds, each_made, round_stopped, rounds_all, rounds_more, rounds_none, rounds_stopped}
+use Rattle.folder_server.proofs.Causes.{came_more, came_none, edit_cause, passed, scan_cause, tree_of_edit, tree_of_scan}
+use Rattle.folder_server.proofs.Makings.{Rounds, each_made, round_stopped, rounds_all, rounds_memory, rounds_more, rounds_none, rounds_scan, scan_stops}
 use Rattle.folder_server.proofs.rounds.edit_rounds.Goals as goal
 
 pub loop-init : goal.loop-init
@@ -59,15 +60,16 @@ loop-preserved g c =
 pub returns-in_err-next-clause-makes : goal.returns-in_err-next-clause-makes
 returns-in_err-next-clause-makes g c =
     let told = err_from_is_err_and c.from_residual.result c.from_residual.ensures.1 in
-    subst (λ r. MakesEdits (g.T.Tree.coming c.args.tree.now) c.args.listing [] c.args.rounds c.args.editor.now.works.items c.loop.editor.works.items r) (sym told.1)
-    (rounds_stopped (g.T.Tree.coming c.args.tree.now) (g.T.Tree.coming c.loop.tree) c.args.listing c.loop.listing c.loop.counter c.args.rounds c.args.editor.now.works.items c.loop.editor.works.items told.0 c.loop.invariant.rounds)
+    let coming = g.T.Tree.coming c.args.tree.now in
+    let stop = c.in_err-next.field-0.0 in
+    subst (λ r. MakesEdits coming c.args.listing [] c.args.rounds c.args.editor.now.works.items c.loop.editor.works.items r) (sym (told.1 ∙ ap Err told.2))
+    (rounds_scan coming (g.T.Tree.coming c.loop.tree) c.args.listing c.loop.listing c.loop.counter c.args.rounds c.args.editor.now.works.items c.loop.editor.works.items stop c.loop.invariant.rounds
+    (omega (arith, c.loop-test.true)) (scan_stops c.loop.counter coming (g.T.Tree.coming c.loop.tree) stop c.loop.invariant.came c.in_err-next.ensures.limits))
 
 pub returns-in_err-next-clause-cause : goal.returns-in_err-next-clause-cause
 returns-in_err-next-clause-cause g c =
-    let coming = g.T.Tree.coming c.args.tree.now in
     let stop = c.in_err-next.field-0.0 in
-    passed (IsEditCause coming c.loop.pass) c.from_residual.result (stop_of_scan stop) (err_from_is_err_and c.from_residual.result c.from_residual.ensures.1)
-    (scan_cause coming c.loop.pass stop (stopped_then c.loop.counter coming (g.T.Tree.coming c.loop.tree) stop c.loop.invariant.came c.in_err-next.ensures.limits))
+    passed (IsEditCause c.loop.pass) c.from_residual.result (stop_of_scan stop) (err_from_is_err_and c.from_residual.result c.from_residual.ensures.1) (scan_cause c.loop.pass stop)
 
 pub returns-in_err-next-clause-tree_fault : goal.returns-in_err-next-clause-tree_fault
 returns-in_err-next-clause-tree_fault g c =
@@ -76,15 +78,19 @@ returns-in_err-next-clause-tree_fault g c =
 pub returns-in_err-edits-clause-makes : goal.returns-in_err-edits-clause-makes
 returns-in_err-edits-clause-makes g c =
     let told = err_from_is_err_and c.from_residual-in_err-edits.result c.from_residual-in_err-edits.ensures.1 in
-    subst (λ r. MakesEdits (g.T.Tree.coming c.args.tree.now) c.args.listing [] c.args.rounds c.args.editor.now.works.items c.loop.editor.works.items r) (sym told.1)
-    (rounds_stopped (g.T.Tree.coming c.args.tree.now) (g.T.Tree.coming c.loop.tree) c.args.listing c.loop.listing c.loop.counter c.args.rounds c.args.editor.now.works.items c.loop.editor.works.items told.0 c.loop.invariant.rounds)
+    let coming = g.T.Tree.coming c.args.tree.now in
+    subst (λ r. MakesEdits coming c.args.listing [] c.args.rounds c.args.editor.now.works.items c.loop.editor.works.items r) (sym (told.1 ∙ ap Err told.2))
+    (rounds_memory coming (g.T.Tree.coming c.loop.tree) c.args.listing c.loop.listing c.loop.counter c.args.rounds c.args.editor.now.works.items c.loop.editor.works.items c.loop.invariant.rounds
+    (omega (arith, c.loop-test.true)))
 
 pub returns-in_err-edit_each-clause-makes : goal.returns-in_err-edit_each-clause-makes
 returns-in_err-edit_each-clause-makes g c =
     let told = err_from_is_err_and c.from_residual-in_err-edit_each.result c.from_residual-in_err-edit_each.ensures.1 in
-    subst (λ r. MakesEdits (g.T.Tree.coming c.args.tree.now) c.args.listing [] c.args.rounds c.args.editor.now.works.items c.edit_each.new.editor.works.items r) (sym told.1)
-    (round_stopped (g.T.Tree.coming c.args.tree.now) (g.T.Tree.coming c.loop.tree) c.args.listing c.loop.listing c.in_ok-next.next c.loop.counter c.args.rounds
-    c.args.editor.now.works.items c.loop.editor.works.items c.edit_each.new.editor.works.items (edits_in c.in_ok-edits.edits.items) c.in_err-edit_each.field-0.0 told.0 c.loop.invariant.rounds
+    let coming = g.T.Tree.coming c.args.tree.now in
+    subst (λ r. MakesEdits coming c.args.listing [] c.args.rounds c.args.editor.now.works.items c.edit_each.new.editor.works.items r) (sym (told.1 ∙ ap Err told.2))
+    (round_stopped coming (g.T.Tree.coming c.loop.tree) c.args.listing c.loop.listing c.in_ok-next.next c.loop.counter c.args.rounds
+    c.args.editor.now.works.items c.loop.editor.works.items c.edit_each.new.editor.works.items (edits_in c.in_ok-edits.edits.items) c.in_err-edit_each.field-0.0 c.loop.invariant.rounds
+    (omega (arith, c.loop-test.true))
     (record { scanned = c.in_ok-next.ensures.told; edits_are = c.in_ok-edits.ensures.are; rising = c.in_ok-edits.ensures.rising })
     c.in_err-edit_each.ensures.makes)
 
@@ -96,10 +102,9 @@ returns-in_err-edit_each-clause-same g c = knower_then c.args.pass.now c.loop.pa
 
 pub returns-in_err-edit_each-clause-cause : goal.returns-in_err-edit_each-clause-cause
 returns-in_err-edit_each-clause-cause g c =
-    let coming = g.T.Tree.coming c.args.tree.now in
     let stop = c.in_err-edit_each.field-0.0 in
-    passed (IsEditCause coming c.edit_each.new.pass) c.from_residual-in_err-edit_each.result (stop_of_edit stop) (err_from_is_err_and c.from_residual-in_err-edit_each.result c.from_residual-in_err-edit_each.ensures.1)
-    (edit_cause coming c.edit_each.new.pass stop c.in_err-edit_each.ensures.cause)
+    passed (IsEditCause c.edit_each.new.pass) c.from_residual-in_err-edit_each.result (stop_of_edit stop) (err_from_is_err_and c.from_residual-in_err-edit_each.result c.from_residual-in_err-edit_each.ensures.1)
+    (edit_cause c.edit_each.new.pass stop c.in_err-edit_each.ensures.cause)
 
 pub returns-in_err-edit_each-clause-tree_fault : goal.returns-in_err-edit_each-clause-tree_fault
 returns-in_err-edit_each-clause-tree_fault g c = tree_of_edit c.from_residual-in_err-edit_each.result c.in_err-edit_each.field-0.0 (err_from_is_err_and c.from_residual-in_err-edit_each.result c.from_residual-in_err-edit_each.ensures.1)

@@ -6,7 +6,7 @@ use Rattle.hmr_hub.specs.Calls.{SameKnower}
 use Rattle.hmr_hub.specs.Passes.{HasTranscript, IsPassOf}
 use Rattle.hmr_hub.specs.declared.pass.Pass.{Pass}
 use Rattle.hub_editor.specs.Editing.{Edited, IsGoing}
-use Rattle.folder_server.specs.Causes.{after_scans}
+use Rattle.folder_server.specs.Rounds.{after_scans}
 use Rattle.folder_server.proofs.Makings.{Rounds}
 use Rattle.folder_server.proofs.rounds.edit_rounds.Given as goal
 

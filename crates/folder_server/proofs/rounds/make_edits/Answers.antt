@@ -1,4 +1,5 @@
-use Rattle.std.proofs.Common.{sym, subst}
+use Rattle.std.proofs.Common.{ap, sym, ◌∙◌, subst}
+use Rattle.std.specs.Prelude.{Err}
 use Rattle.std.proofs.lemmas.Result.{err_from_is_err_and}
 use Rattle.hub_editor.specs.Edits.{edits_in}
 use Rattle.hub_editor.proofs.Calls.{knower_then}
@@ -12,9 +13,9 @@ use Rattle.folder_server.proofs.rounds.make_edits.Goals as goal
 pub returns-in_err-edit_rounds-clause-makes : goal.returns-in_err-edit_rounds-clause-makes
 returns-in_err-edit_rounds-clause-makes g c =
     let told = err_from_is_err_and c.from_residual.result c.from_residual.ensures.1 in
-    subst (λ r. MakesEdits (g.T.Tree.coming c.args.tree.now) c.args.listing (edits_in c.args.script.items) c.args.rounds c.args.editor.now.works.items c.edit_rounds.new.editor.works.items r) (sym told.1)
+    subst (λ r. MakesEdits (g.T.Tree.coming c.args.tree.now) c.args.listing (edits_in c.args.script.items) c.args.rounds c.args.editor.now.works.items c.edit_rounds.new.editor.works.items r) (sym (told.1 ∙ ap Err told.2))
     (script_stopped (g.T.Tree.coming c.args.tree.now) c.args.listing (edits_in c.args.script.items) c.args.rounds c.args.editor.now.works.items c.edit_rounds.new.editor.works.items
-    c.in_err-edit_rounds.field-0.0 told.0 c.in_err-edit_rounds.ensures.makes)
+    c.in_err-edit_rounds.field-0.0 c.in_err-edit_rounds.ensures.makes)
 
 pub returns-in_err-edit_each-clause-same : goal.returns-in_err-edit_each-clause-same
 returns-in_err-edit_each-clause-same g c = knower_then c.args.pass.now c.edit_rounds.new.pass c.edit_each.new.pass c.edit_rounds.ensures.same c.edit_each.ensures.same
@@ -25,16 +26,15 @@ returns-in_err-edit_each-clause-edited g c = λ p x. c.edit_each.ensures.edited 
 pub returns-in_err-edit_each-clause-makes : goal.returns-in_err-edit_each-clause-makes
 returns-in_err-edit_each-clause-makes g c =
     let told = err_from_is_err_and c.from_residual-in_err-edit_each.result c.from_residual-in_err-edit_each.ensures.1 in
-    subst (λ r. MakesEdits (g.T.Tree.coming c.args.tree.now) c.args.listing (edits_in c.args.script.items) c.args.rounds c.args.editor.now.works.items c.edit_each.new.editor.works.items r) (sym told.1)
+    subst (λ r. MakesEdits (g.T.Tree.coming c.args.tree.now) c.args.listing (edits_in c.args.script.items) c.args.rounds c.args.editor.now.works.items c.edit_each.new.editor.works.items r) (sym (told.1 ∙ ap Err told.2))
     (script_stops (g.T.Tree.coming c.args.tree.now) c.args.listing (edits_in c.args.script.items) c.args.rounds c.args.editor.now.works.items c.edit_rounds.new.editor.works.items c.edit_each.new.editor.works.items
-    c.in_err-edit_each.field-0.0 told.0 c.in_ok-edit_rounds.ensures.makes c.in_err-edit_each.ensures.makes)
+    c.in_err-edit_each.field-0.0 c.in_ok-edit_rounds.ensures.makes c.in_err-edit_each.ensures.makes)
 
 pub returns-in_err-edit_each-clause-cause : goal.returns-in_err-edit_each-clause-cause
 returns-in_err-edit_each-clause-cause g c =
-    let coming = g.T.Tree.coming c.args.tree.now in
     let stop = c.in_err-edit_each.field-0.0 in
-    passed (IsEditCause coming c.edit_each.new.pass) c.from_residual-in_err-edit_each.result (stop_of_edit stop) (err_from_is_err_and c.from_residual-in_err-edit_each.result c.from_residual-in_err-edit_each.ensures.1)
-    (edit_cause coming c.edit_each.new.pass stop c.in_err-edit_each.ensures.cause)
+    passed (IsEditCause c.edit_each.new.pass) c.from_residual-in_err-edit_each.result (stop_of_edit stop) (err_from_is_err_and c.from_residual-in_err-edit_each.result c.from_residual-in_err-edit_each.ensures.1)
+    (edit_cause c.edit_each.new.pass stop c.in_err-edit_each.ensures.cause)
 
 pub returns-in_err-edit_each-clause-tree_fault : goal.returns-in_err-edit_each-clause-tree_fault
 returns-in_err-edit_each-clause-tree_fault g c = tree_of_edit c.from_residual-in_err-edit_each.result c.in_err-edit_each.field-0.0 (err_from_is_err_and c.from_residual-in_err-edit_each.result c.from_residual-in_err-edit_each.ensures.1)

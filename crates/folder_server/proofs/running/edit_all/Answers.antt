@@ -16,15 +16,16 @@ returns-in_err-begun-clause-edited g c = λ p x. subst (λ ms. Edited p c.args.p
 pub returns-in_err-begun-clause-makes : goal.returns-in_err-begun-clause-makes
 returns-in_err-begun-clause-makes g c =
     let told = err_from_is_err_and c.from_residual.result c.from_residual.ensures.1 in
-    subst (λ r. MakesEdits (g.T.Tree.coming c.args.tree.now) c.args.listing (edits_in c.args.script.items) c.args.rounds [] c.args.editor.now.works.items r) (sym told.1)
-    (subst (λ ms. MakesEdits (g.T.Tree.coming c.args.tree.now) c.args.listing (edits_in c.args.script.items) c.args.rounds [] ms (Err told.0)) (sym c.requires.none)
-    (makes_nothing (g.T.Tree.coming c.args.tree.now) c.args.listing (edits_in c.args.script.items) c.args.rounds [] told.0))
+    let cause = c.in_err-begun.field-0.0 in
+    subst (λ r. MakesEdits (g.T.Tree.coming c.args.tree.now) c.args.listing (edits_in c.args.script.items) c.args.rounds [] c.args.editor.now.works.items r) (sym (told.1 ∙ ap Err told.2))
+    (subst (λ ms. MakesEdits (g.T.Tree.coming c.args.tree.now) c.args.listing (edits_in c.args.script.items) c.args.rounds [] ms (Err (stop_by cause))) (sym c.requires.none)
+    (makes_nothing (g.T.Tree.coming c.args.tree.now) c.args.listing (edits_in c.args.script.items) c.args.rounds [] cause))
 
 pub returns-in_err-begun-clause-cause : goal.returns-in_err-begun-clause-cause
 returns-in_err-begun-clause-cause g c =
     let cause = c.in_err-begun.field-0.0 in
-    passed (IsWorkCause (g.T.Tree.coming c.args.tree.now) c.args.pass.now) c.from_residual.result (stop_by cause) (err_from_is_err_and c.from_residual.result c.from_residual.ensures.1)
-    (begun_work (g.T.Tree.coming c.args.tree.now) c.args.pass.now cause (λ e. c.requires.spent (c.in_err-begun.was ∙ ap Err e)))
+    passed (IsWorkCause c.args.pass.now) c.from_residual.result (stop_by cause) (err_from_is_err_and c.from_residual.result c.from_residual.ensures.1)
+    (begun_work c.args.pass.now cause (λ e. c.requires.spent (c.in_err-begun.was ∙ ap Err e)))
 
 pub returns-in_err-begun-clause-fault : goal.returns-in_err-begun-clause-fault
 returns-in_err-begun-clause-fault g c = λ e.
@@ -41,7 +42,7 @@ returns-clause-makes g c =
     subst (λ ms. MakesEdits (g.T.Tree.coming c.args.tree.now) c.args.listing (edits_in c.args.script.items) c.args.rounds ms c.make_edits.new.editor.works.items c.make_edits.result) c.requires.none c.make_edits.ensures.makes
 
 pub returns-clause-cause : goal.returns-clause-cause
-returns-clause-cause g c = edits_work (g.T.Tree.coming c.args.tree.now) c.make_edits.new.pass c.make_edits.result c.make_edits.ensures.cause
+returns-clause-cause g c = edits_work c.make_edits.new.pass c.make_edits.result c.make_edits.ensures.cause
 
 pub returns-clause-fault : goal.returns-clause-fault
-returns-clause-fault g c = λ e. absurd (no_fault (g.T.Tree.coming c.args.tree.now) c.make_edits.new.pass c.make_edits.result c.make_edits.ensures.cause e)
+returns-clause-fault g c = λ e. absurd (no_fault c.make_edits.new.pass c.make_edits.result c.make_edits.ensures.cause e)

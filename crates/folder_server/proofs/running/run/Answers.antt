@@ -2,7 +2,7 @@ use Rattle.std.proofs.Common.{◌+◌, ◌∷◌, [], ap, ◌∙◌}
 use Rattle.hmr_hub.specs.Passes.{all_given}
 use Rattle.hub_moves.proofs.Moves.{knows_moved}
 use Rattle.hub_editor.proofs.Calls.{knows_same}
-use Rattle.folder_server.proofs.Works.{begun_all, cause_all, edited_fault, edited_tree, finds_all, later_all, on_ok, spent_given}
+use Rattle.folder_server.proofs.Works.{begun_all, cause_all, edited_fault, edited_tree, ends_all, finds_all, goes_all, later_all, on_ok, spent_given}
 use Rattle.folder_server.proofs.running.run.Goals as goal
 
 pub returns-clause-later : goal.returns-clause-later
@@ -13,12 +13,12 @@ returns-clause-later g c =
       ended.new.editor.works.items,
       later_all _ _ _ _ c.args.pass.now begun.new.pass edited.new.pass ended.new.pass edited.new.editor.works.items ended.new.editor.works.items edited.result ended.result
           c.requires.number (begun.ensures.divided.transcript c.requires.transcript) begun.ensures.divided.moved edited.ensures.edited edited.ensures.makes ended.ensures.edited ended.ensures.edits
-          ended.ensures.well ended.ensures.results,
+          ended.ensures.well ended.ensures.cause ended.ensures.results,
     )
 
 pub returns-clause-cause : goal.returns-clause-cause
 returns-clause-cause g c =
-    cause_all _ c.edit_to_the_end-edited.new.pass c.settle_after-ended.new.pass c.edit_to_the_end-edited.result c.settle_after-ended.result c.edit_to_the_end-edited.ensures.cause c.settle_after-ended.ensures.cause
+    cause_all c.edit_to_the_end-edited.new.pass c.settle_after-ended.new.pass c.edit_to_the_end-edited.result c.settle_after-ended.result c.edit_to_the_end-edited.ensures.cause c.settle_after-ended.ensures.cause
 
 pub edit_to_the_end-edited-requires-clause-spent : goal.edit_to_the_end-edited-requires-clause-spent
 edit_to_the_end-edited-requires-clause-spent g c = λ e. spent_given (all_given c.args.pass.now) (all_given c.begin_all-begun.new.pass) c.begin_all-begun.result c.requires.given c.begin_all-begun.ensures.spent e
@@ -50,6 +50,19 @@ returns-clause-finds g c =
     c.new-crew.ensures.well.1 c.begin_all-begun.ensures.gathers c.finish_all-gathered.ensures.gathers
     (λ e. c.begin_all-begun.ensures.failed (c.edit_to_the_end-edited.ensures.fault
     (edited_fault c.edit_to_the_end-edited.new.pass c.settle_after-ended.new.pass c.edit_to_the_end-edited.result c.settle_after-ended.result c.settle_after-ended.ensures.cause e)))
+
+pub returns-clause-ends : goal.returns-clause-ends
+returns-clause-ends g c =
+    ends_all _ _ _ _ _ c.new-crew.ensures.no_ends c.begin_all-begun.ensures.ends c.finish_all-gathered.ensures.ends
+
+pub returns-clause-stops : goal.returns-clause-stops
+returns-clause-stops g c = λ well. c.finish_all-gathered.ensures.unasked.1 ∙ c.begin_all-begun.ensures.stops well
+
+pub returns-clause-goes : goal.returns-clause-goes
+returns-clause-goes g c =
+    on_ok c.settle_after-ended.result (λ goes. c.finish_all-gathered.ensures.unasked.0 ∙ goes)
+    (goes_all _ c.begin_all-begun.result c.edit_to_the_end-edited.result c.settle_after-ended.result
+    c.begin_all-begun.ensures.goes c.edit_to_the_end-edited.ensures.begun c.settle_after-ended.ensures.well)
 
 pub returns-clause-tree_fault : goal.returns-clause-tree_fault
 returns-clause-tree_fault g c = λ e.

@@ -1,39 +1,47 @@
 use Rattle.std.proofs.Common.{rules, arith, ◌≡◌, refl, ap, ◌∙◌, subst, inl, inr}
-use Rattle.std.specs.Prelude.{Err, IfErr}
+use Rattle.std.specs.Prelude.{Err}
 use Rattle.std.specs.Io.KnownBytes.{Appends}
 use Rattle.std.proofs.lemmas.Result.{err_from_is_err_and}
 use Rattle.hmr_base.specs.Fronts.{WritesFront}
 use Rattle.hub_editor.specs.Edits.{edits_in}
-use Rattle.folder_server.specs.Causes.{IsWorkCause}
 use Rattle.folder_server.specs.Running.{Later}
-use Rattle.folder_server.specs.Serving.{header, status_after}
+use Rattle.folder_server.specs.Serving.{header, job_ends, status_after}
 use Rattle.folder_server.specs.declared.stop.ServeStop.TheVariants.{NoMemory, Unwritten}
 use Rattle.folder_server.proofs.Causes.{either_later, rose_later}
-use Rattle.folder_server.proofs.Serving.{end_as, served_early, served_end, status_cause, status_fault, status_ok, status_tree, status_well, stops_edit, stops_memory, stops_outside, wrote_report}
+use Rattle.folder_server.proofs.Serving.{end_as, served_early, served_end, status_cause, status_fault, status_tree, status_well, stops_first, stops_memory, stops_outside, wrote_report}
+use Rattle.folder_server.proofs.Works.{on_ok}
 use Rattle.folder_server.proofs.top.serve_folder.Goals as goal
 
 pub returns-in_err-listing-clause-wrote : goal.returns-in_err-listing-clause-wrote
 returns-in_err-listing-clause-wrote g c =
-    inr (stops_edit (g.T.Tree.coming c.args.tree.now) c.open_folder.new.pass c.from_residual-in_err-listing.result c.in_err-listing.field-0.0 (err_from_is_err_and c.from_residual-in_err-listing.result c.from_residual-in_err-listing.ensures.1) c.in_err-listing.ensures.cause, refl)
+    inr (
+      stops_first c.args.roots.items (g.T.Tree.coming c.args.tree.now) c.in_ok-hub.pass c.open_folder.new.pass c.from_residual-in_err-listing.result c.in_err-listing.field-0.0 (err_from_is_err_and c.from_residual-in_err-listing.result c.from_residual-in_err-listing.ensures.1)
+          c.in_ok-hub.ensures.first c.open_folder.ensures.same c.open_folder.ensures.transcript c.in_err-listing.ensures.cause,
+      refl,
+    )
 
 pub returns-in_err-queue-clause-wrote : goal.returns-in_err-queue-clause-wrote
 returns-in_err-queue-clause-wrote g c =
     let told = err_from_is_err_and c.from_residual-in_err-queue.result c.from_residual-in_err-queue.ensures.1 in
-    inr (stops_memory (g.T.Tree.coming c.args.tree.now) c.from_residual-in_err-queue.result (told.1 ∙ ap Err told.2), refl)
+    inr (stops_memory c.args.roots.items (g.T.Tree.coming c.args.tree.now) c.from_residual-in_err-queue.result (told.1 ∙ ap Err told.2), refl)
 
 pub returns-in_err-queue-2-clause-wrote : goal.returns-in_err-queue-2-clause-wrote
 returns-in_err-queue-2-clause-wrote g c =
     let told = err_from_is_err_and c.from_residual-in_err-queue-2.result c.from_residual-in_err-queue-2.ensures.1 in
-    inr (stops_memory (g.T.Tree.coming c.args.tree.now) c.from_residual-in_err-queue-2.result (told.1 ∙ ap Err told.2), refl)
+    inr (stops_memory c.args.roots.items (g.T.Tree.coming c.args.tree.now) c.from_residual-in_err-queue-2.result (told.1 ∙ ap Err told.2), refl)
 
 pub returns-in_err-line-clause-wrote : goal.returns-in_err-line-clause-wrote
 returns-in_err-line-clause-wrote g c =
     let told = err_from_is_err_and c.from_residual-in_err-line.result c.from_residual-in_err-line.ensures.1 in
-    inr (stops_memory (g.T.Tree.coming c.args.tree.now) c.from_residual-in_err-line.result (told.1 ∙ ap Err told.2), refl)
+    inr (stops_memory c.args.roots.items (g.T.Tree.coming c.args.tree.now) c.from_residual-in_err-line.result (told.1 ∙ ap Err told.2), refl)
 
 pub returns-in_err-port-clause-wrote : goal.returns-in_err-port-clause-wrote
 returns-in_err-port-clause-wrote g c =
-    inr (stops_outside (g.T.Tree.coming c.args.tree.now) c.open_folder.new.pass c.from_residual-in_err-port.result c.in_err-port.field-0.0 (err_from_is_err_and c.from_residual-in_err-port.result c.from_residual-in_err-port.ensures.1), refl)
+    inr (
+      stops_outside c.args.roots.items (g.T.Tree.coming c.args.tree.now) c.in_ok-listing.listing c.in_ok-hub.pass c.open_folder.new.pass c.from_residual-in_err-port.result c.in_err-port.field-0.0 (err_from_is_err_and c.from_residual-in_err-port.result c.from_residual-in_err-port.ensures.1)
+          c.in_ok-hub.ensures.first c.open_folder.ensures.same c.open_folder.ensures.transcript c.in_ok-listing.ensures.opens,
+      refl,
+    )
 
 pub returns-in_err-write_all-clause-wrote : goal.returns-in_err-write_all-clause-wrote
 returns-in_err-write_all-clause-wrote g c =
@@ -43,7 +51,7 @@ returns-in_err-write_all-clause-wrote g c =
     let all =
     served_early c.args.roots.items (g.T.Tree.coming c.args.tree.now) c.in_ok-listing.listing (edits_in c.args.script.items) c.args.plan.now.rounds port Unwritten c.from_residual-in_err-write_all.result
     c.in_ok-hub.pass c.open_folder.new.pass (g.K.Sink.written c.args.out.now) (g.K.Sink.written c.write_all.new.sink) (told.1 ∙ ap Err told.2) c.in_ok-hub.ensures.first c.open_folder.ensures.same c.in_ok-listing.ensures.opens
-    c.open_folder.ensures.transcript tt (λ h. h) (subst (WritesFront (g.K.Sink.written c.args.out.now) (g.K.Sink.written c.write_all.new.sink)) text c.write_all.ensures.front) in
+    c.open_folder.ensures.transcript (inl refl) (λ h. h) (subst (WritesFront (g.K.Sink.written c.args.out.now) (g.K.Sink.written c.write_all.new.sink)) text c.write_all.ensures.front) in
     inl (port, c.open_folder.new.pass, c.in_ok-port.ensures.heard, all.0, all.1)
 
 pub returns-in_err-left-clause-wrote : goal.returns-in_err-left-clause-wrote
@@ -54,7 +62,7 @@ returns-in_err-left-clause-wrote g c =
     let all =
     served_early c.args.roots.items (g.T.Tree.coming c.args.tree.now) c.in_ok-listing.listing (edits_in c.args.script.items) c.args.plan.now.rounds port NoMemory c.from_residual-in_err-left.result
     c.in_ok-hub.pass c.open_folder.new.pass (g.K.Sink.written c.args.out.now) (g.K.Sink.written c.write_all.new.sink) (told.1 ∙ ap Err (told.2 ∙ c.in_err-left.ensures.memory)) c.in_ok-hub.ensures.first c.open_folder.ensures.same c.in_ok-listing.ensures.opens
-    c.open_folder.ensures.transcript tt (λ h. h) (subst (WritesFront (g.K.Sink.written c.args.out.now) (g.K.Sink.written c.write_all.new.sink)) text c.write_all.ensures.front) in
+    c.open_folder.ensures.transcript (inr refl) (λ h. h) (subst (WritesFront (g.K.Sink.written c.args.out.now) (g.K.Sink.written c.write_all.new.sink)) text c.write_all.ensures.front) in
     inl (port, c.open_folder.new.pass, c.run.ensures.same_asked.1 ∙ c.in_ok-port.ensures.heard, all.0, all.1)
 
 pub returns-clause-wrote : goal.returns-clause-wrote
@@ -76,11 +84,10 @@ returns-clause-wrote g c =
       port,
       last,
       c.run.ensures.same_asked.1 ∙ c.in_ok-port.ensures.heard,
-      served_end c.args.roots.items coming listing script many later.0 left.ended result c.in_ok-hub.pass opened worked last c.in_ok-hub.ensures.first c.open_folder.ensures.same c.in_ok-listing.ensures.opens
+      served_end c.args.roots.items coming listing script many later.0 (job_ends left.gathered) left.ended result c.in_ok-hub.pass opened worked last c.in_ok-hub.ensures.first c.open_folder.ensures.same c.in_ok-listing.ensures.opens
           (subst (λ x. Later x listing script many opened worked later.0 left.ended) c.in_ok-listing.ensures.coming later.1)
-          (status_ok left.gathered left.ended result end) c.write_end.ensures.own c.write_end.ensures.transcript
-          (status_cause coming worked last left.gathered left.ended result end (subst (λ x. IfErr left.ended (IsWorkCause x worked)) c.in_ok-listing.ensures.coming c.in_ok-left.ensures.cause)
-          c.write_end.ensures.own c.write_end.ensures.given c.write_end.ensures.full),
+          end c.write_end.ensures.own c.write_end.ensures.transcript
+          (status_cause worked last left.gathered left.ended result end c.in_ok-left.ensures.cause c.write_end.ensures.own c.write_end.ensures.given c.write_end.ensures.full),
       wrote_report port last result (g.K.Sink.written c.args.out.now) (g.K.Sink.written c.write_all.new.sink) (g.K.Sink.written c.write_end.new.out)
           (subst (Appends (g.K.Sink.written c.args.out.now) (g.K.Sink.written c.write_all.new.sink)) text c.in_ok-write_all.ensures.done) c.write_end.ensures.reported,
     )
@@ -108,3 +115,15 @@ returns-clause-begun g c =
     let left = c.in_ok-left.left in
     let end = end_as c.write_end.result c.end_of-ended.result (status_after left.gathered left.ended) c.write_end.ensures.end c.end_of-ended.ensures in
     status_well _ left.gathered left.ended c.write_end.result end c.in_ok-left.ensures.begun
+
+pub returns-in_err-left-clause-stops : goal.returns-in_err-left-clause-stops
+returns-in_err-left-clause-stops g c = λ well. c.run.ensures.stops (c.listen.ensures.refused ∙ well) ∙ c.listen.ensures.late
+
+pub returns-clause-stops : goal.returns-clause-stops
+returns-clause-stops g c = λ well. c.run.ensures.stops (c.listen.ensures.refused ∙ well) ∙ c.listen.ensures.late
+
+pub returns-clause-goes : goal.returns-clause-goes
+returns-clause-goes g c =
+    let left = c.in_ok-left.left in
+    let end = end_as c.write_end.result c.end_of-ended.result (status_after left.gathered left.ended) c.write_end.ensures.end c.end_of-ended.ensures in
+    status_well _ left.gathered left.ended c.write_end.result end (on_ok left.ended (λ goes none. goes ∙ c.listen.ensures.refused) c.in_ok-left.ensures.goes)

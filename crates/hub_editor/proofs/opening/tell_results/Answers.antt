@@ -4,8 +4,8 @@ use Rattle.std.proofs.lemmas.List.{append-nil, length-append}
 use Rattle.hmr_hub.specs.Passes.{seen_of}
 use Rattle.hub_editor.specs.Editing.{Settled}
 use Rattle.hub_editor.specs.Openings.{job_at}
-use Rattle.hub_editor.proofs.Calls.{knower_self, knower_then}
-use Rattle.hub_editor.proofs.Openings.{told_then}
+use Rattle.hub_editor.proofs.Calls.{knower_self, knower_then, on_err}
+use Rattle.hub_editor.proofs.Openings.{results_stopped, still_alone, told_then}
 use Rattle.hub_editor.proofs.opening.tell_results.Goals as goal
 
 pub loop-done-init : goal.loop-done-init
@@ -35,3 +35,10 @@ loop-done-preserved g c =
       seen = told_then c.args.pass.now c.loop-done.pass pass done (done ++ c.in-Some.done ∷ []) c.in-Some.done c.args.versions.now 0 few refl (i.same.alone ∙ c.requires.alone) i.seen
           (subst (λ k. Settled (job_at c.in-Some.done (get_or c.args.versions.now k 0)) c.loop-done.pass pass) i.count c.in_ok-tell_result.ensures.settled);
     }
+
+pub returns-in_err-tell_result-clause-front : goal.returns-in_err-tell_result-clause-front
+returns-in_err-tell_result-clause-front g c =
+    let i = c.loop-done.invariant in
+    on_err c.from_residual.result
+    (results_stopped c.args.pass.now c.loop-done.pass c.tell_result.new.pass c.loop-done.yielded (into_iter_items c.loop-done.done-iterator) c.args.done.items c.args.versions.now i.all i.seen
+    (still_alone c.loop-done.pass c.tell_result.new.pass (i.same.alone ∙ c.requires.alone) c.in_err-tell_result.ensures.unsettled))

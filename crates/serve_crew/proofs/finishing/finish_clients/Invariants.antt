@@ -1,7 +1,8 @@
-use Rattle.std.proofs.Common.{◌≡◌}
+use Rattle.std.proofs.Common.{◌≡◌, length}
 use Rattle.std.specs.Prelude.{vec_len}
 use Rattle.serve_crew.specs.Crews.{logs_due}
 use Rattle.serve_crew.specs.Gathers.{Gathers, HasRoom}
+use Rattle.serve_crew.specs.Lendings.{Lends}
 use Rattle.serve_crew.proofs.finishing.finish_clients.Given as goal
 
 -- there is room for what those that are left leave
@@ -17,6 +18,8 @@ invariant-loop-client g l =
       gathers : Gathers l.fn.gathered l.gathered (faults l.fn.net) (faults l.net) (starts l.fn.spawner) (starts l.spawner);
       asked : (g.N.Net.asked l.net ≡ g.N.Net.asked l.fn.net) × (g.N.Net.heard l.net ≡ g.N.Net.heard l.fn.net);
       begun : g.P.Spawner.begun l.spawner ≡ g.P.Spawner.begun l.fn.spawner;
+      ends : Lends (length l.fn.clients.items) (length l.clients.items) (g.N.Net.lent l.fn.net) (g.N.Net.lent l.net);
+      unasked : (g.N.Net.refused l.net ≡ g.N.Net.refused l.fn.net) × (g.N.Net.late l.net ≡ g.N.Net.late l.fn.net);
     }
 
 abbrev pub decreases-loop-client : goal.decreases-loop-client

@@ -1,8 +1,9 @@
 use Rattle.std.proofs.Common.{◌≡◌}
 use Rattle.std.specs.Prelude.{vec_len}
-use Rattle.std.specs.List.{All}
-use Rattle.serve_crew.specs.Crews.{RunsOn, passes_due}
+use Rattle.std.specs.List.{All, sum_by}
+use Rattle.serve_crew.specs.Crews.{RunsOn, ends_held, passes_due}
 use Rattle.serve_crew.specs.Gathers.{Gathers, HasRoom, IsGathered}
+use Rattle.serve_crew.specs.Lendings.{Lends}
 use Rattle.serve_crew.proofs.finishing.finish_jobs.Given as goal
 
 -- those that are left run on, and there is room for what they leave
@@ -19,6 +20,8 @@ invariant-loop-job g l =
       begun : g.P.Spawner.begun l.spawner ≡ g.P.Spawner.begun l.fn.spawner;
       kept : passes_due l.running l.gathered ≡ passes_due l.fn.running l.fn.gathered;
       logs : l.gathered.logs ≡ l.fn.gathered.logs;
+      ends : Lends (sum_by ends_held l.fn.running.items) (sum_by ends_held l.running.items) (g.N.Net.lent l.fn.net) (g.N.Net.lent l.net);
+      unasked : (g.N.Net.refused l.net ≡ g.N.Net.refused l.fn.net) × (g.N.Net.late l.net ≡ g.N.Net.late l.fn.net);
     }
 
 abbrev pub decreases-loop-job : goal.decreases-loop-job

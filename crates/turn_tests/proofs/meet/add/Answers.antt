@@ -1,4 +1,4 @@
-use Rattle.std.proofs.Common.{◌≡◌, ◌∙◌, ap, length, true, ℕ, List, ◌∷◌, ◌++◌, []}
+use Rattle.std.proofs.Common.{◌≡◌, ◌∙◌, ap, length, ℕ, List, ◌∷◌, ◌++◌, []}
 use Rattle.std.proofs.lemmas.List.{length-append}
 use Rattle.turn_lock.specs.Histories.{calls, grown}
 use Rattle.turn_lock.specs.Passes.{pass_view}

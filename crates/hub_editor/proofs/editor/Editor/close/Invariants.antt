@@ -4,7 +4,7 @@ use Rattle.hmr_hub.specs.Calls.{SameKnower}
 use Rattle.hmr_hub.specs.Passes.{HasTranscript, IsPassOf}
 use Rattle.transform_pool.specs.Passes as pool
 use Rattle.transform_pool.specs.Roles.{SamePuts}
-use Rattle.hub_editor.specs.Causes.{IsCause}
+use Rattle.hub_editor.specs.Causes.{IsCause, IsRoomStop}
 use Rattle.hub_editor.specs.Editing.{Edited, SameEdits}
 use Rattle.hub_editor.proofs.editor.Editor.close.Given as goal
 
@@ -19,4 +19,5 @@ invariant-loop g l =
     × SameEdits l.fn.self.works.items l.self.works.items
     × pool.IsPassOf l.queue l.jobs
     × SamePuts (pool.role_of l.fn.jobs) (pool.role_of l.jobs)
+    × IfErr l.ended IsRoomStop
     × IfErr l.ended (IsCause l.pass)

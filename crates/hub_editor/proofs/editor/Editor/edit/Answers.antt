@@ -1,6 +1,6 @@
-use Rattle.std.proofs.Common.{◌≡◌, ◌++◌, ◌∷◌, [], ap, sym, ◌∙◌, subst}
+use Rattle.std.proofs.Common.{rules, ◌≡◌, ◌++◌, ◌∷◌, [], ap, sym, ◌∙◌, subst}
 use Rattle.hub_editor.specs.Editing.{Edited}
-use Rattle.hub_editor.proofs.Steps.{edited_placed, edited_went, fronted_none, fronted_one, step_edit}
+use Rattle.hub_editor.proofs.Steps.{edited_placed, edited_went, fronted_none, fronted_one, step_edit, stopped_none, stopped_one}
 use Rattle.hub_editor.proofs.editor.Editor.edit.Goals as goal
 
 pub returns-in_err-reserve-clause-front : goal.returns-in_err-reserve-clause-front
@@ -25,3 +25,14 @@ pub returns-clause-front : goal.returns-clause-front
 returns-clause-front g c =
     fronted_one _ _ c.place-placed.new.self _ (c.push_reserved.ensures.items ∙ ap (λ ms. ms ++ c.place-placed.new.self ∷ []) c.reserve.ensures.items)
     ((step_edit c.place-placed.ensures.steps).0 ∙ c.in_ok-work.ensures.edit)
+
+pub returns-in_err-reserve-clause-stopped : goal.returns-in_err-reserve-clause-stopped
+returns-in_err-reserve-clause-stopped g c = stopped_none c.from_residual.result _ _ _ c.reserve.ensures.items (search rules)
+
+pub returns-in_err-work-clause-stopped : goal.returns-in_err-work-clause-stopped
+returns-in_err-work-clause-stopped g c = stopped_none c.from_residual-in_err-work.result _ _ _ c.reserve.ensures.items (search rules)
+
+pub returns-clause-stopped : goal.returns-clause-stopped
+returns-clause-stopped g c =
+    stopped_one c.place-placed.result _ _ c.place-placed.new.self _ (c.push_reserved.ensures.items ∙ ap (λ ms. ms ++ c.place-placed.new.self ∷ []) c.reserve.ensures.items)
+    ((step_edit c.place-placed.ensures.steps).0 ∙ c.in_ok-work.ensures.edit) c.place-placed.ensures.stopped

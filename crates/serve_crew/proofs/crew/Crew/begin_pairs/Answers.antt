@@ -29,8 +29,19 @@ loop-place-preserved g c =
       few = omega (arith, i.few, b.few);
       kept = omega (arith, i.kept, ok.kept);
       logs = omega (arith, i.logs, ok.logs);
+      ends = λ others h. b.ends others (i.ends others h);
+      goes = ok.goes ∙ i.goes;
+      stops = λ h. b.stops (i.goes ∙ h) ∙ i.stops h;
     }
 
 pub begin_pair-requires-clause-ready : goal.begin_pair-requires-clause-ready
 begin_pair-requires-clause-ready g c κs within =
     subst (λ shelf. IsReady {F = g.row.F.Denot} _ _ shelf) (sym c.new-opening.ensures.shelf) (record { hosts = c.take_shelf-shelf.ensures.taken c.loop-place.invariant.hosts; call = c.requires.callable })
+
+pub returns-in_err-begin_pair-clause-ends : goal.returns-in_err-begin_pair-clause-ends
+returns-in_err-begin_pair-clause-ends g c = λ others h. c.begin_pair.ensures.ends others (c.loop-place.invariant.ends others h)
+
+pub returns-in_err-begin_pair-clause-stops : goal.returns-in_err-begin_pair-clause-stops
+returns-in_err-begin_pair-clause-stops g c =
+    let i = c.loop-place.invariant in
+    λ h. c.begin_pair.ensures.stops (i.goes ∙ h) ∙ i.stops h

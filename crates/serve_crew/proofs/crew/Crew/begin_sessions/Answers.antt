@@ -27,4 +27,15 @@ loop-preserved g c =
       few = omega (arith, i.few, b.few);
       kept = omega (arith, i.kept, ok.kept);
       logs = b.logs ∙ i.logs;
+      ends = λ others h. b.ends others (i.ends others h);
+      goes = ok.goes ∙ i.goes;
+      stops = λ h. b.stops (i.goes ∙ h) ∙ i.stops h;
     }
+
+pub returns-in_err-begin_outside-clause-ends : goal.returns-in_err-begin_outside-clause-ends
+returns-in_err-begin_outside-clause-ends g c = λ others h. c.begin_outside.ensures.ends others (c.loop.invariant.ends others h)
+
+pub returns-in_err-begin_outside-clause-stops : goal.returns-in_err-begin_outside-clause-stops
+returns-in_err-begin_outside-clause-stops g c =
+    let i = c.loop.invariant in
+    λ h. c.begin_outside.ensures.stops (i.goes ∙ h) ∙ i.stops h

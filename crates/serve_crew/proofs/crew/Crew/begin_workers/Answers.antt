@@ -37,6 +37,8 @@ loop-jobs-preserved g c =
       few = omega (arith, i.few, b.few);
       kept = omega (arith, i.kept, ok.kept);
       logs = b.logs ∙ i.logs;
+      ends = λ others h. b.ends others (i.ends others h);
+      unasked = (b.unasked.0 ∙ i.unasked.0, b.unasked.1 ∙ i.unasked.1);
     }
 
 pub begin_worker-requires-clause-of_queue : goal.begin_worker-requires-clause-of_queue
@@ -51,3 +53,6 @@ pub begin_worker-requires-clause-few : goal.begin_worker-requires-clause-few
 begin_worker-requires-clause-few g c =
     let i = c.loop-jobs.invariant in
     omega (arith, c.requires.few, i.few, i.all, ap (λ xs. length xs) c.in-Some.ensures.items, length-append c.pop.new.self.items (c.in-Some.jobs ∷ []))
+
+pub returns-in_err-begin_worker-clause-ends : goal.returns-in_err-begin_worker-clause-ends
+returns-in_err-begin_worker-clause-ends g c = λ others h. c.begin_worker.ensures.ends others (c.loop-jobs.invariant.ends others h)

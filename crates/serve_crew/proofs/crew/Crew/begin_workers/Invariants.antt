@@ -6,8 +6,9 @@ use Rattle.transform_pool.specs.Passes.{role_of}
 use Rattle.transform_pool.specs.Roles.{taking}
 use Rattle.hmr_hub.specs.Passes.{IsPassOf, all_given}
 use Rattle.serve_crew.specs.Begun.{HasBegun}
-use Rattle.serve_crew.specs.Crews.{IsCrew, logs_due, passes_due}
+use Rattle.serve_crew.specs.Crews.{IsCrew, ends_due, logs_due, passes_due}
 use Rattle.serve_crew.specs.Gathers.{Gathers}
+use Rattle.serve_crew.specs.Lendings.{Lends}
 use Rattle.serve_crew.specs.Splits.{Divided}
 use Rattle.serve_crew.proofs.crew.Crew.begin_workers.Given as goal
 
@@ -33,6 +34,8 @@ invariant-loop-jobs g l =
       few : sum (count l.spawner) ≤ sum (count l.fn.spawner) + made;
       kept : passes_due l.self.running l.self.gathered ≡ passes_due l.fn.self.running l.fn.self.gathered + made;
       logs : logs_due l.self.clients l.self.gathered ≡ logs_due l.fn.self.clients l.fn.self.gathered;
+      ends : Lends (ends_due l.fn.self.running l.fn.self.clients) (ends_due l.self.running l.self.clients) (g.N.Net.lent l.fn.net) (g.N.Net.lent l.net);
+      unasked : (g.N.Net.refused l.net ≡ g.N.Net.refused l.fn.net) × (g.N.Net.late l.net ≡ g.N.Net.late l.fn.net);
     }
 
 abbrev pub decreases-loop-jobs : goal.decreases-loop-jobs

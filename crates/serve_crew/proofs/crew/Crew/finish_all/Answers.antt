@@ -1,4 +1,4 @@
-use Rattle.std.proofs.Common.{◌≡◌, rules, ap, sym, subst}
+use Rattle.std.proofs.Common.{◌≡◌, ◌+◌, arith, length, rules, ap, sym, subst}
 use Rattle.std.specs.List.{All}
 use Rattle.std.specs.Arc.{arc_value}
 use Rattle.serve_crew.specs.Crews.{RunsOn}
@@ -21,3 +21,9 @@ returns-clause-gathered g c =
 
 pub returns-clause-gathers : goal.returns-clause-gathers
 returns-clause-gathers g c = gathers_then _ _ _ _ _ _ _ _ _ c.finish_jobs.ensures.gathers c.finish_clients.ensures.gathers
+
+pub returns-clause-ends : goal.returns-clause-ends
+returns-clause-ends g c =
+    λ others h.
+    let clients = length c.args.self.clients.items in
+    c.finish_clients.ensures.ends others (omega (arith, c.finish_jobs.ensures.ends (clients + others) (omega (arith, h))))

@@ -1,8 +1,7 @@
 use Rattle.std.proofs.Common.{◌≡◌, false, true, sym, subst}
 use Rattle.std.specs.Prelude.{Some}
-use Rattle.sessions.specs.declared.ended.Ended.TheVariants.{LinkFault, Stopped}
-use Rattle.hub_desks.specs.Desks.{SameDesk}
-use Rattle.serve_jobs.specs.Outs.{HasLeft, IsShut, OutOf}
+use Rattle.sessions.specs.declared.ended.Ended.TheVariants.{LinkFault}
+use Rattle.serve_jobs.specs.Outs.{HasLeft, IsServed, IsShut, OutOf}
 use Rattle.serve_jobs.specs.declared.job.ServeOut.TheVariants as outs
 use Rattle.serve_jobs.proofs.Clients.{rose_some}
 use Rattle.serve_jobs.proofs.Outs.{session_served}
@@ -15,8 +14,15 @@ returns-in-Session g c =
     let link = c.serve_session-ended.new.link in
     let ended = c.serve_session-ended.result in
     let out = outs.Session c.leave.new.self link (Some ended) in
-    let same : SameDesk j.desk served = c.serve_session-ended.ensures.stays in
-    let stopped : ended ≡ Stopped → served.full ≡ true = c.serve_session-ended.ensures.stopped.0 in
+    let e = c.serve_session-ended.ensures in
+    let how : IsServed g.L.Link j.link j.desk ended link served = record {
+      same = e.stays;
+      course = e.course;
+      shut = e.shut;
+      later = e.later;
+      failed = e.failed;
+      stopped = e.stopped;
+    } in
     let shut : IsShut g.L.Link link (Some ended) =
     record { shut = c.serve_session-ended.ensures.shut; faulty = λ e. let failed : ended ≡ LinkFault = cc in rose_some _ _ (c.serve_session-ended.ensures.failed failed) } in
-    subst (λ job. OutOf g.L.Link job out × (false ≡ false) × HasLeft g.L.Link job out) (sym c.in-Session.is) (session_served g.row.G.Denot g.L.Link j served c.leave.new.self link ended same c.leave.ensures.left stopped shut)
+    subst (λ job. OutOf g.L.Link job out × (false ≡ false) × HasLeft g.L.Link job out) (sym c.in-Session.is) (session_served g.row.G.Denot g.L.Link j served c.leave.new.self link ended how c.leave.ensures.left shut)

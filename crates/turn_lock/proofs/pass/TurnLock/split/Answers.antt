@@ -1,23 +1,16 @@
-use Rattle.std.proofs.Common.{arith, ap, ◌∙◌}
-use Rattle.turn_lock.proofs.Steps.{splits, joins}
+use Rattle.std.proofs.Common.{arith, ap, ◌∙◌, subst, sym}
+use Rattle.atomic_table.specs.Table.{Splits}
+use Rattle.turn_lock.specs.Rule.{IsLock}
+use Rattle.turn_lock.specs.Views.{old_half, new_half}
+use Rattle.turn_lock.proofs.Steps.{splits}
 use Rattle.turn_lock.proofs.pass.TurnLock.split.Goals as goal
 
 pub split_seat-seat-requires : goal.split_seat-seat-requires
-split_seat-seat-requires g c = (
-  c.requires,
-  omega (arith, c.args.self.now.sized.0),
-  splits g.T.Keeps.history g.T.Keeps.may g.T.Keeps.follows _ _ c.args.pass.now.idle.holds c.args.pass.now.idle.spent,
-)
-
-pub join_seat-requires : goal.join_seat-requires
-join_seat-requires g c =
-    let h = c.split_seat-seat.ensures in
-    let n = c.give_number.ensures in
-    let e = c.in-None.ensures.none in (
-      h.0 ∙ c.requires,
-      n.table ∙ (h.3 ∙ c.requires),
-      ap (λ m. m.1) e ∙ ap (λ m. m.1) h.4,
+split_seat-seat-requires g c =
+    let n = c.in-Some.ensures in
+    let seat = c.give_number.new.seat in (
+      n.table ∙ c.requires,
       omega (arith, c.args.self.now.sized.0),
-      joins g.T.Keeps.history g.T.Keeps.may g.T.Keeps.follows _ _ _ _ (ap (λ m. m.0.holds) h.2 ∙ c.args.pass.now.idle.holds) (ap (λ m. m.0.spent) h.2 ∙ c.args.pass.now.idle.spent)
-          (ap (λ m. m.0.holds) e ∙ ap (λ m. m.0.holds) h.4),
+      subst (λ v. Splits (IsLock g.T.Keeps.history g.T.Keeps.may g.T.Keeps.follows) seat.id v (old_half v) (new_half v)) (sym (ap (λ m. m.0) n.some))
+          (splits g.T.Keeps.history g.T.Keeps.may g.T.Keeps.follows seat.id c.in-Some.number c.args.pass.now.seat.me.0 c.args.pass.now.idle.holds c.args.pass.now.idle.spent n.given),
     )
