@@ -122,6 +122,16 @@ def both():
     yield play(script, told + "1 reload root /m.js\n1 reloaded\n")
 
 
+def two():
+    """Two modules invalidate themselves in one update: both are sent, in that order, before the client asks again."""
+    gives_up = ["import.meta.hot.accept(() => { import.meta.hot.invalidate() });"]
+    texts = [text_of("m:ab:ab", []), text_of("a", gives_up), text_of("b", gives_up)]
+    script = "root /m.js\nquiet\n" + "".join(edit(name_of(letter), text) for letter, text in texts)
+    script += "settle\nopen\nturns 1 99\n" + saved(["a:::s", "b:::s"], 2)
+    told = "1 loaded\n" + spread("ab|aabbmamb") + "1 invalidated /a.js\n1 invalidated /b.js\n" + spread("|mamb")
+    yield play(script, told)
+
+
 def errors():
     """Of two faults of one module a client is told the last, and of those of several each, the first to come first."""
     script = opened("m")
@@ -144,4 +154,5 @@ def runs():
     for row, want in rows_of(STEPS, "="):
         yield steps(row, want)
     yield from both()
+    yield from two()
     yield from errors()
