@@ -1,0 +1,9 @@
+pub mod Events
+pub mod Answers
+pub mod Bounds
+pub mod Tellable
+pub mod Resting
+pub mod Course
+pub mod Sound
+pub mod Told
+pub mod Written
