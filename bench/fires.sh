@@ -1,17 +1,23 @@
 #!/usr/bin/env bash
 # What it costs a client to run a handler, as its page grows: instructions, counted by valgrind's callgrind.
 #
-#     bench/fires.sh [PROGRAM]
+#     bench/fires.sh [PROGRAM [HMR]]
 #
 # A small program over hot_runtime loads a page of one module with so many variables, and fires 1,000 events at
 # it. One callback hears each: it sets one variable and logs it. The program is proved before it is built, in a copy of the
 # crates; PROGRAM, where one is given, is that small program, built before. Told are the instructions of a load,
 # and those of an event, without the load, for 27, 270 and 2,700 variables, and how many times those of 27 they
 # are.
+#
+# Behind that come the instructions of a `hear` while 1, 100 and 1,000 events wait, reading its line and writing
+# what the listener logs included: `play` plays hears, each behind an emission, and the same emissions alone. HMR
+# is the built program (crates/dev_program/out/dev_program where none is given; ./hmr --prove builds it), and
+# where it isn't there these are left out.
 set -eu
 source "$(dirname "${BASH_SOURCE[0]}")/small_program.sh"
 
 program=${1-}
+hmr=${2:-$top/crates/dev_program/out/dev_program}
 if [ -z "$program" ]; then
   begin fire_bench hmr_types update_msgs retained_data const_eval handler_table hot_runtime message_json
   mkdir -p "$own/proofs/fires/fire_all"
@@ -218,20 +224,47 @@ fi
 [ -x "$program" ] || { echo "no program at $program" >&2; exit 1; }
 command -v valgrind > /dev/null || { echo 'bench: valgrind is not installed' >&2; exit 1; }
 
-python3 - "$program" "$work" << 'END'
-import re, subprocess, sys
+python3 - "$program" "$work" "$hmr" << 'END'
+import os, re, subprocess, sys
 
-program, work = sys.argv[1:]
+program, work, hmr = sys.argv[1:]
 EVENTS = 1000
+HEARS = 20
+PAGE = """root /m.js
+quiet
+edit /m.js
+|let seen = 0;
+|import.meta.hot.on("x", (e) => { seen = e.data; console.log("seen", seen); });
+settle
+open
+turns 1 9
+"""
+
+
+def calls(words, given=""):
+    """What a program writes, and its instructions."""
+    counted = ["valgrind", "--tool=callgrind", f"--callgrind-out-file={work}/calls", *words]
+    ran = subprocess.run(counted, input=given, capture_output=True, text=True)
+    if ran.returncode:
+        sys.exit(f"{' '.join(words)}: status {ran.returncode}\n{ran.stdout}{ran.stderr}")
+    return ran.stdout, int(re.search(r"Collected : (\d+)", ran.stderr)[1])
 
 
 def counted(variables, events):
     """The instructions of a run, which tells a line for each event."""
-    words = ["valgrind", "--tool=callgrind", f"--callgrind-out-file={work}/calls", program, str(variables), str(events)]
-    ran = subprocess.run(words, capture_output=True, text=True)
-    if ran.returncode or int(ran.stdout) != events:
-        sys.exit(f"{' '.join(words[3:])}: status {ran.returncode}\n{ran.stdout}{ran.stderr}")
-    return int(re.search(r"Collected : (\d+)", ran.stderr)[1])
+    told, instructions = calls([program, str(variables), str(events)])
+    if int(told) != events:
+        sys.exit(f"{program} {variables} {events} told {told}")
+    return instructions
+
+
+def played(waiting, hears):
+    """The instructions of a script in which so many events wait, and as many more as there are hears."""
+    more = "emit x news\n" + ("hear 1\n" if hears else "")
+    told, instructions = calls([hmr, "play"], PAGE + "emit x news\n" * waiting + more * HEARS)
+    if told.count("1 event x\n1 log /m.js seen news\n") != hears:
+        sys.exit(f"play told\n{told}")
+    return instructions
 
 
 least = None
@@ -240,4 +273,13 @@ for variables in (27, 270, 2700):
     each = (counted(variables, EVENTS) - load) / EVENTS
     least = least or each
     print(f"{variables:>5} variables: load {load:,}, event {each:,.0f} instructions, {each / least:.1f} times that on 27", flush=True)
+
+if not os.access(hmr, os.X_OK):
+    print(f"no program at {hmr}: ./hmr --prove builds it; no hear is counted", file=sys.stderr)
+    sys.exit()
+least = None
+for waiting in (1, 100, 1000):
+    each = (played(waiting, HEARS) - played(waiting, 0)) / HEARS
+    least = least or each
+    print(f"{waiting:>5} waiting: a hear {each:,.0f} instructions, {each / least:.2f} times that where 1 waits", flush=True)
 END

@@ -7,7 +7,7 @@ import re
 
 from rows import Run
 
-USAGE = b"usage: hmr play | check NAME | make N SEED | serve FOLDER ROOT.. | join PORT [ROOT..]\n"
+USAGE = b"usage: hmr play | check NAME | make N SEED | serve FOLDER ROOT.. | join PORT [ROOT..] | page FOLDER\n"
 SIXTEEN = "/a /b /c /d /e /f /g /h /i /j /k /l /m /n /o /p"
 
 # Words that are no command.
@@ -62,6 +62,10 @@ join 80 {SIXTEEN} /q
 join 80 --turns 400001
 join 80 --turns 1 --turns 1
 join 80 --edits
+page
+page . /m.js
+page . --port 80
+page --help
 """
 
 # The first fault of what `serve --edits` reads: its line and its word, and the input, where `~` stands for LF. Edits are

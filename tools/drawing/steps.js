@@ -13,6 +13,7 @@ const CLIENTS = 32;
 const ROOTS = 16;
 const FETCHED_NAMED = 8;
 const PLAN_OF = { loaded: 'load', reloaded: 'reload', updated: 'update' };
+const HEAR_WORDS = new Set(['quiet', 'busy', 'event']);
 const BODY_WORDS = new Set(['log', 'fault', 'unrun', 'nohost']);
 
 class Player {
@@ -103,6 +104,12 @@ class Player {
       case 'turns':
         this.turns(index, Number(first), Number(command.rest[1]));
         return;
+      case 'emit':
+        this.emit(index, first ?? '');
+        return;
+      case 'hear':
+        this.hear(index, Number(first));
+        return;
       case 'show':
       case 'values':
       case 'fates':
@@ -187,6 +194,29 @@ class Player {
     this.addItem(index, line === undefined ? [] : [line]);
   }
 
+  // Events
+
+  /** An event waits for each open client, but for those of which a line says that as many wait as may. */
+  emit(index, event) {
+    const lines = this.lines.takeAll((line) => /^[0-9]+ full /.test(line) && line.endsWith(` full ${event}`));
+    const waits = this.clients.size - lines.length;
+    const note = `${event} waits for ${waits === 1 ? 'one client' : `${waits} clients`}`;
+    this.addItem(index, lines, { note, marks: { emitted: event } });
+  }
+
+  /** A client hears the event that has waited longest for it: its line, and those of its listeners. */
+  hear(index, id) {
+    const own = (words) => (line) => {
+      const [client, word] = line.split(' ');
+      return client === String(id) && words.has(word);
+    };
+    const answer = this.lines.takeWhere((line) => line === `unknown ${id}` || own(HEAR_WORDS)(line));
+    const lines = answer === undefined ? [] : [answer];
+    const heard = /^[0-9]+ event (.*)$/.exec(answer ?? '');
+    if (heard !== null) lines.push(...this.lines.takeAll(own(BODY_WORDS)));
+    this.addItem(index, lines, { client: id, marks: heard === null ? {} : { heard: heard[1] } });
+  }
+
   // Turns
 
   turns(index, id, most) {
@@ -227,10 +257,10 @@ class Player {
     return { lines: [], idle: true };
   }
 
-  /** The word of the next line, where it is of this client. */
+  /** The word of the next line, where it is of a turn of this client. */
   wordOf(client) {
     const [first, word] = (this.lines.peek() ?? '').split(' ');
-    return first === String(client.id) ? word : undefined;
+    return first === String(client.id) && !HEAR_WORDS.has(word) && word !== 'full' ? word : undefined;
   }
 
   fetch(client, name, word) {

@@ -166,7 +166,7 @@ is_listening() {
 # input_size: the bytes of the input, where it is a file.
 input_size() { [ -f /dev/stdin ] && stat -L -c %s /dev/stdin 2> /dev/null; }
 
-# folder_limit FOLDER: which limit the modules of a folder pass, as far as it can be seen.
+# folder_limit FOLDER: which limit the modules of a folder pass, as far as it can be seen; nothing where they pass none.
 folder_limit() {
   local files large
   files=$(find -L "$1" -mindepth 1 -type d \( -name '.*' -o -name node_modules \) -prune -o -type f -name '*.js' \
@@ -179,19 +179,24 @@ folder_limit() {
     echo "$1 has $(wc -l <<< "$files") modules, and at most $SOURCE_NAMES are served: serve a smaller folder"
   elif [ "$(awk '{ sum += $1 } END { print sum + 0 }' <<< "$files")" -gt "$SOURCE_BYTES" ]; then
     echo "the modules of $1 have more than $SOURCE_BYTES bytes together: serve a smaller folder"
-  else
-    echo "the last line of the output names a limit of docs/LIMITS.md that was passed: make fewer or smaller edits"
   fi
 }
 
 # limit_cause COMMAND WORDS..: which limit was passed.
 limit_cause() {
-  local command=$1 most size
+  local command=$1 most size limit
   shift
   case $command in
-    serve)
-      read_words serve "$@"
-      folder_limit "${places[0]-.}"
+    serve | page)
+      read_words "$command" "$@"
+      limit=$(folder_limit "${places[0]-.}")
+      if [ -n "$limit" ]; then
+        echo "$limit"
+      elif [ "$command" = serve ]; then
+        echo "the last line of the output names a limit of docs/LIMITS.md that was passed: make fewer or smaller edits"
+      else
+        echo "the last line of the output names the limit that was passed, as that on the answers of a connection: connect again"
+      fi
       ;;
     play | check)
       most=$SCRIPT_BYTES
@@ -208,10 +213,10 @@ limit_cause() {
   esac
 }
 
-# folder_cause WORDS..: why the folder failed.
+# folder_cause COMMAND WORDS..: why the folder failed.
 folder_cause() {
   local folder
-  read_words serve "$@"
+  read_words "$@"
   folder=${places[0]-}
   if [ ! -e "$folder" ]; then
     echo "there is no folder $folder: name one that is there"
@@ -257,7 +262,7 @@ cause_of() {
     3) echo "the input is no script, by the fault that the output names with its line: see docs/SCRIPT.md" ;;
     4) echo "the input couldn't be read: give a file or a pipe that can be" ;;
     5) echo "the output couldn't be written to its end, as to a full disk or a pipe that is closed: see where it goes" ;;
-    6) folder_cause "${@:2}" ;;
+    6) folder_cause "$@" ;;
     7) net_cause "$@" ;;
     8) limit_cause "$@" ;;
     9) echo "memory ran out: give it more, as by a higher ulimit -v, or less to do" ;;

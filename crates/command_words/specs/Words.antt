@@ -14,14 +14,15 @@ use Rattle.clap.specs.declared.builder.value_parser.ValueParser.TheVariants as v
 use Rattle.hmr_types.specs.ModName.{is_name, is_text}
 use Rattle.core_model.specs.Roots.{AreRoots, are_bad}
 use Rattle.command_words.specs.declared.command.Command.{Command}
-use Rattle.command_words.specs.declared.command.Command.TheVariants.{Play, Check, Make, Serve, Join}
+use Rattle.command_words.specs.declared.command.Command.TheVariants.{Play, Check, Make, Serve, Join, Page}
 use Rattle.command_words.specs.declared.command.ServePlan.{ServePlan}
 use Rattle.command_words.specs.declared.command.WordsFault.{WordsFault}
 use Rattle.command_words.specs.declared.command.WordsFault.TheVariants.{NotACommand, NoMemory}
 
 -- the line for words that are no command
 abbrev pub usage_line : List ℕ
-usage_line = codes "usage: hmr play | check NAME | make N SEED | serve FOLDER ROOT.. | join PORT [ROOT..]\n"
+usage_line =
+    codes "usage: hmr play | check NAME | make N SEED | serve FOLDER ROOT.. | join PORT [ROOT..] | page FOLDER\n"
 
 -- a command without help and version, of whose words the first is no name of a program
 abbrev pub bare : Text → App
@@ -60,7 +61,7 @@ numbered id least most = record (new_rule id) {
   parser = Some (vp.Signed (pos least) (pos most));
 }
 
--- the folder of `serve`, its roots and its options
+-- the folder of `serve` and `page`, the roots of `serve` and its options
 abbrev pub folder_rule : Rule
 folder_rule = wanted (codes "FOLDER")
 
@@ -95,7 +96,7 @@ join_port_rule = record (wanted (codes "PORT")) { parser = Some (vp.Signed (pos 
 abbrev pub join_roots_rule : Rule
 join_roots_rule = repeated (codes "ROOT")
 
--- the five commands
+-- the six commands
 abbrev pub play_app : App
 play_app = bare (codes "play")
 
@@ -116,6 +117,9 @@ serve_app = with_rules (bare (codes "serve"))
 
 abbrev pub join_app : App
 join_app = with_rules (bare (codes "join")) (join_port_rule ∷ join_roots_rule ∷ turns_rule ∷ [])
+
+abbrev pub page_app : App
+page_app = with_rule (bare (codes "page")) folder_rule
 
 -- what is wrong with the words of a command, and what is found in them, by clap's meaning of a simple
 -- command
@@ -209,6 +213,11 @@ joining rows (Some port) (Some roots) = Some (Join port roots (number_or 1000 (c
 joining rows (Some port) None = None
 joining rows None roots = None
 
+-- the command that answers requests for the modules of a folder
+abbrev pub paging : Option Text → Option Command
+paging (Some folder) = Some (Page folder)
+paging None = None
+
 -- the command of the words behind each name
 abbrev pub play_of : List Text → Option Command
 play_of words = unless (faults_of play_app words) (Some Play)
@@ -235,6 +244,11 @@ join_of words =
     unless (faults_of join_app words)
     (joining rows (number_of (codes "PORT") rows) (any_roots (words_of (codes "ROOT") rows)))
 
+abbrev pub page_of : List Text → Option Command
+page_of words =
+    let rows = found_in page_app words in
+    unless (faults_of page_app words) (paging (word_of (codes "FOLDER") rows))
+
 -- the command of a name and the words behind it
 abbrev pub named_command : Text → List Text → Option Command
 named_command name words =
@@ -243,6 +257,7 @@ named_command name words =
     else if is_text name (codes "make") then make_of words
     else if is_text name (codes "serve") then serve_of words
     else if is_text name (codes "join") then join_of words
+    else if is_text name (codes "page") then page_of words
     else None
 
 -- the command that words are, where they are one
@@ -279,6 +294,7 @@ HasRanges (Check name) = is_name name ≡ true
 HasRanges (Make count seed) = (1 ≤ count) × (count ≤ 4096) × (seed < 2 ^ 31)
 HasRanges (Serve plan) = IsServable plan
 HasRanges (Join port roots turns) = IsJoinable port roots turns
+HasRanges (Page folder) = Unit {0}
 
 -- the text that was found is that of a word which writes a number in a range
 pub record Writes (least most : ℕ) (text : Text) : Type 0 where

@@ -29,6 +29,8 @@ pub enum Command {
         /// How many requests the client makes, up to 400,000.
         turns: u32,
     },
+    /// `page FOLDER`: answers HTTP requests of the input by the modules of this folder.
+    Page(Text),
 }
 
 /// What `serve` is asked to do.

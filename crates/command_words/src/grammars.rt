@@ -5,9 +5,9 @@ ghost use Rattle.clap.specs.Words.{app_of, new_rule, rule_of};
 ghost use Rattle.clap.specs.declared.builder.action.ArgAction.TheVariants.{Set};
 ghost use Rattle.command_words.specs.Words.{bare, check_app, clients_rule, count_rule, edits_rule};
 ghost use Rattle.command_words.specs.Words.{folder_rule, join_app, join_port_rule, make_app, name_rule};
-ghost use Rattle.command_words.specs.Words.{outside_rule, play_app, port_rule, repeated, roots_rule};
-ghost use Rattle.command_words.specs.Words.{rounds_rule, seed_rule, serve_app, turns_rule, wanted};
-ghost use Rattle.command_words.specs.Words.{with_rules, workers_rule};
+ghost use Rattle.command_words.specs.Words.{outside_rule, page_app, play_app, port_rule, repeated};
+ghost use Rattle.command_words.specs.Words.{roots_rule, rounds_rule, seed_rule, serve_app, turns_rule};
+ghost use Rattle.command_words.specs.Words.{wanted, with_rules, workers_rule};
 
 use clap::{Arg, ArgAction, Command};
 use std::alloc::{AllocError, Global};
@@ -77,6 +77,13 @@ pub(crate) fn join_grammar<'a>(alloc: Global) -> Result<Command<'a>, AllocError>
         .arg(join_port_arg(alloc))?
         .arg(repeated(alloc, "ROOT"))?
         .arg(turns_arg(alloc))
+}
+
+/// `page FOLDER`
+pub(crate) fn page_grammar<'a>(alloc: Global) -> Result<Command<'a>, AllocError>
+    ensures { IfOk result (λ c. app_of c ≡ page_app) }
+{
+    bare(alloc, "page").arg(folder_arg(alloc))
 }
 
 /// A command without help and version, of whose words the first is no name of a program.

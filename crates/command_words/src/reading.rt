@@ -9,7 +9,7 @@ use crate::command::{Command, WordsFault};
 use crate::found::{is_text, number_in, taken, word_in};
 use crate::grammars::{check_grammar, make_grammar, play_grammar};
 use crate::roots::read_name;
-use crate::serving::{read_join, read_serve};
+use crate::serving::{read_join, read_page, read_serve};
 use clap::ArgMatches;
 use std::alloc::Global;
 
@@ -43,6 +43,9 @@ fn read_named(alloc: Global, name: &[u8], words: &[String]) -> Result<Command, W
     }
     if is_text(name, b"join") {
         return read_join(alloc, words);
+    }
+    if is_text(name, b"page") {
+        return read_page(alloc, words);
     }
     Err(WordsFault::NotACommand)
 }

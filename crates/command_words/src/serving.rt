@@ -1,16 +1,17 @@
-// The words of `serve` and `join`, read: a folder or a port, roots, and options with their standard values.
+// The words of `serve`, `join` and `page`, read: a folder or a port, roots, and options with their standard
+// values.
 ghost use Rattle.std.specs.Prelude.{◌≡◌, ◌≢◌, ◌≤◌, []};
 ghost use Rattle.std.specs.Prelude.{false, IfOk, IfSome, IsErrOf, codes, map, string_bytes};
 ghost use Rattle.clap.specs.Words.{found_of, rows_of};
 ghost use Rattle.core_model.specs.Roots.{AreRoots, are_bad};
 ghost use Rattle.command_words.specs.Words.{Between, Gives, HasJoinNumbers, HasRanges, HasServeNumbers};
 ghost use Rattle.command_words.specs.Words.{IsServable, any_roots, faults_of, found_in, join_app, join_of};
-ghost use Rattle.command_words.specs.Words.{joining, number_of, number_or, plan_of, serve_app, serve_of};
-ghost use Rattle.command_words.specs.Words.{serving, some_roots, word_of, words_of};
+ghost use Rattle.command_words.specs.Words.{joining, number_of, number_or, page_app, page_of, plan_of};
+ghost use Rattle.command_words.specs.Words.{serve_app, serve_of, serving, some_roots, word_of, words_of};
 
 use crate::command::{Command, ServePlan, WordsFault};
 use crate::found::{flag_in, number_or, port_in, taken, word_in, words_in};
-use crate::grammars::{join_grammar, serve_grammar};
+use crate::grammars::{join_grammar, page_grammar, serve_grammar};
 use crate::roots::read_roots;
 use clap::ArgMatches;
 use hmr_types::{ModName, Sequence, Text};
@@ -127,4 +128,25 @@ fn any_roots_in(alloc: Global, matches: &ArgMatches<'_>) -> Result<Sequence<ModN
         Some(words) => read_roots(alloc, words),
         None => Ok(Sequence::new(alloc)),
     }
+}
+
+pub(crate) fn read_page(alloc: Global, words: &[String]) -> Result<Command, WordsFault>
+    ensures exact { Gives result (page_of (map string_bytes words.now)) }
+    ensures ranges { IfOk result HasRanges }
+{
+    let matches = page_matches(alloc, words)?;
+    let folder = folder_in(alloc, &matches)?;
+    Ok(Command::Page(folder))
+}
+
+/// What `clap` finds in the words of `page`.
+fn page_matches<'a>(alloc: Global, words: &'a [String]) -> Result<ArgMatches<'a>, WordsFault>
+    ensures taken { IfOk result (λ _. faults_of page_app (map string_bytes words.entry.now) ≡ []) }
+    ensures rows { IfOk result (λ m.
+        rows_of (found_of m) ≡ found_in page_app (map string_bytes words.entry.now)) }
+    ensures refused { IsErrOf result WordsFault.NotACommand
+        → faults_of page_app (map string_bytes words.entry.now) ≢ [] }
+{
+    let command = page_grammar(alloc)?;
+    taken(command, words)
 }

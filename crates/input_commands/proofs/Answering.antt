@@ -1,11 +1,9 @@
 -- What is written of an output, by what is written of its parts.
-use Rattle.std.proofs.Common.{◌≡◌, ℕ, Bool, true, false, List, [], ◌++◌, append-nil, ap, arith, sym, refl, ◌∙◌}
-use Rattle.std.specs.Prelude.{◌≤◌, Option, Some, None, IfSome, OnErr, OnOk, Result, Ok, Err}
-use Prim.{⊥}
+use Rattle.std.proofs.Common.{◌≡◌, ℕ, Bool, true, false, List, [], ◌++◌, append-nil, ap, sym, refl, ◌∙◌}
+use Rattle.std.specs.Prelude.{Option, Some, None, IfSome, Result, Ok}
 use Rattle.std.specs.Io.KnownBytes.{Appends}
 use Rattle.std.proofs.KnownBytes.{Appends-nil, Appends-trans}
 use Rattle.std.proofs.Math.Path.{subst}
-use Rattle.hmr_base.specs.Causes.{Rose}
 use Rattle.hmr_base.specs.Fronts.{WritesFront}
 use Rattle.hmr_base.proofs.Fronts.{front_more, front_none}
 use Rattle.core_model.specs.Sources.{Text}
@@ -32,43 +30,20 @@ script_front shelves meant script a b is w =
     subst IsFront (sym is) (run_front a b (lines_text played.lines) played.over w)
 
 -- a front of the last line is written behind all before it: that is a front of the whole output
-front_by : (o : Output) (status : ℕ) (last : List ℕ) (a b c : Option (List ℕ))
+pub front_by : (o : Output) (status : ℕ) (last : List ℕ) (a b c : Option (List ℕ))
     → EndsBefore o status last a b → WritesFront b c last → WritesFront a c (whole o)
 front_by o status last a b c h w =
     let rest = append-nil last ∙ sym h.last_is in
     front_more a b c o.lines last [] (whole o) h.out w (ap (λ t. o.lines ++ t) rest)
 
--- the same of an output that is told
-pub ended_front : (told : Option Output) (status : ℕ) (last : List ℕ)
-    (a b c : Option (List ℕ)) → IfSome told (λ o. EndsBefore o status last a b)
-    → WritesFront b c last → IfSome told (λ o. WritesFront a c (whole o))
-ended_front None status last a b c h w = tt
-ended_front (Some o) status last a b c h w = front_by o status last a b c h w
-
-whole_by : (o : Output) (status : ℕ) (last : List ℕ) (a b c : Option (List ℕ))
+-- all of it is: that is the whole output
+pub whole_by : (o : Output) (status : ℕ) (last : List ℕ) (a b c : Option (List ℕ))
     → EndsBefore o status last a b → Appends b c last → Appends a c (whole o)
 whole_by o status last a b c h k =
     subst (λ t. Appends a c (o.lines ++ t)) (sym h.last_is) (Appends-trans a b c o.lines last h.out k)
 
--- all of the last line is written: that is the whole output
-ended_whole : (told : Option Output) (status : ℕ) (last : List ℕ)
-    (a b c : Option (List ℕ)) → IfSome told (λ o. EndsBefore o status last a b)
-    → Appends b c last → IfSome told (λ o. Appends a c (whole o))
-ended_whole None status last a b c h k = tt
-ended_whole (Some o) status last a b c h k = whole_by o status last a b c h k
-
--- so it is unless the output failed
-pub whole_unless : {X E : Type 0} (told : Option Output) (status : ℕ) (last : List ℕ)
-    (a b c : Option (List ℕ)) (before between now : ℕ) (result : Result X E)
-    → IfSome told (λ o. EndsBefore o status last a b) → OnOk result (Appends b c last)
-    → OnErr result (Rose between now) → before ≤ between → (Rose before now → ⊥)
-    → IfSome told (λ o. Appends a c (whole o))
-whole_unless told status last a b c before between now (Ok x) h done failed later well =
-    ended_whole told status last a b c h done
-whole_unless told status last a b c before between now (Err e) h done failed later well =
-    absurd (well (omega (arith, failed, later)))
-
-behind_by : (o : Output) (status : ℕ) (last : List ℕ) (a b c : Option (List ℕ))
+-- a front of the last line is written behind all before it
+pub behind_by : (o : Output) (status : ℕ) (last : List ℕ) (a b c : Option (List ℕ))
     → EndsBefore o status last a b → WritesFront b c last → WritesBehind a c o.lines o.last
 behind_by o status last a b c h w = record {
   front = w.front;
@@ -76,13 +51,6 @@ behind_by o status last a b c h w = record {
   whole = w.whole ∙ sym h.last_is;
   out = Appends-trans a b c o.lines w.front h.out w.out;
 }
-
--- a front of the last line is written behind all before it
-pub ended_behind : (told : Option Output) (status : ℕ) (last : List ℕ)
-    (a b c : Option (List ℕ)) → IfSome told (λ o. EndsBefore o status last a b)
-    → WritesFront b c last → IfSome told (λ o. WritesBehind a c o.lines o.last)
-ended_behind None status last a b c h w = tt
-ended_behind (Some o) status last a b c h w = behind_by o status last a b c h w
 
 -- nothing is written yet, whatever there is to write
 pub nothing_yet : {X : Type 0} (told : Option X) (text : X → List ℕ) (a : Option (List ℕ))

@@ -2,7 +2,6 @@
 -- of it.
 use Rattle.std.proofs.Common.{◌≡◌, ℕ, zero, suc, Bool, true, false, List, [], ◌∷◌, map, fold, reverse, refl, ap, sym, ◌∙◌}
 use Rattle.std.specs.Prelude.{Option, Some, None, IfSome, Result, Ok, Err, is_some, if◌then◌else◌}
-use Rattle.std.proofs.Math.Path.{subst}
 use Rattle.std.proofs.lemmas.Bool.{false≢true}
 use Rattle.output_lines.specs.declared.out_line.OutLine.{OutLine}
 use Rattle.output_lines.specs.declared.out_line.OutLine.TheVariants as line
@@ -11,11 +10,16 @@ use Rattle.core_model.specs.Sources.{Text}
 use Rattle.core_model.specs.FreshLoad.{FreshLoad}
 use Rattle.core_model.specs.Core.{client_at}
 use Rattle.client_model.specs.Runtime.{Runtime}
-use Rattle.world_model.specs.World.{World, Step, turn, show, fresh_of, new_world}
-use Rattle.world_model.specs.Turning.{shown}
-use Rattle.world_model.specs.Steps.{world_step, world_after, fresh_of_lines, loaded_anew}
+use Rattle.client_model.specs.Firing.{Firing}
+use Rattle.world_model.specs.World.{World, turn, show, fresh_of}
+use Rattle.world_model.specs.Turning as turning
+use Rattle.world_model.specs.Turning.{fired_by, heard_at, shown}
+use Rattle.world_model.specs.Steps.{fresh_of_lines, loaded_anew}
 use Rattle.world_model.specs.Ties.{WentOn}
-use Rattle.world_model.specs.Playing.{Command, step, settle_all, turns, Stage, Played, is_up_in, play_step, play_turns, play_turns_of, settle_of, stepped_on}
+use Rattle.world_model.specs.Playing.{Stage, settle_of}
+use Rattle.hot_events.specs.Calls.{Event, first}
+use Rattle.event_world.specs.Courses.{Course, EventStep, emits, event_step, fired_at, hear_step, hears, new_course, plain, world_in}
+use Rattle.event_world.specs.Playing.{Command, step, settle_all, turns, Played, client_in, is_up_at, play_step, play_turns, play_turns_of, stepped_on}
 use Rattle.world_laws.specs.Fresh as laws
 use Rattle.world_laws.proofs.Freshness.{up_shows}
 use Rattle.play_script.specs.declared.fault.ScriptFault.{ScriptFault}
@@ -25,35 +29,51 @@ use Rattle.input_commands.specs.Headline.{IsFreshWhereUp, ShowsAreFresh, ShowsFr
 use Rattle.input_commands.specs.Playing.{command_of, commanded, line_played, nothing, perform, quieted, stage_on, unless}
 
 module _ (stage : Stage) where
-  -- some list of steps makes the world
-  pub record Reached (w : World) : Type 0 where
-    past : List Step
-    went : WentOn stage.language stage.roots stage.shelves past
-    is : world_after stage.language stage.roots stage.shelves past ≡ w
+  -- the steps of the world in the course went on
+  abbrev pub Reached : Course → Type 0
+  Reached c = WentOn stage.language stage.roots stage.shelves c.steps
 
   -- unless the run is over
   abbrev Reaches : Played → Type 0
-  Reaches p = p.over ≡ false → Reached p.world
+  Reaches p = p.over ≡ false → Reached p.course
 
-  made_reaches : (w : World) (s : Step) (before : List OutLine) (made : Option (List OutLine)) →
-      lines_at stage w s ≡ made → Reached w →
-      Reaches (stepped_on before (world_step stage.language stage.roots stage.shelves w s).world made)
-  made_reaches w s before None e h = λ on. absurd (false≢true (sym on))
-  made_reaches w s before (Some lines) e h = λ on. record {
-    past = s ∷ h.past;
-    went = (ap (λ v. is_some (lines_at stage v s)) h.is ∙ ap is_some e, h.went);
-    is = ap (λ v. (world_step stage.language stage.roots stage.shelves v s).world) h.is;
-  }
+  -- an event that is fired makes no instance
+  fire_goes_on : (i : ℕ) (w : World) (lines : Option (List OutLine)) (f : Option Firing) → is_some (fired_by i w lines f).lines ≡ true
+  fire_goes_on i w lines None = refl
+  fire_goes_on i w lines (Some f) = refl
 
-  step_reaches : (w : World) (lines : List OutLine) (over : Bool) (s : Step) →
-      let p : Played = record { world = w; lines = lines; over = over } in
+  fired_reaches : (c : Course) (i : ℕ) (e : Event) (lines : Option (List OutLine)) → Reached c → Reached (fired_at c i e lines).course
+  fired_reaches c i e None h = h
+  fired_reaches c i e (Some lines) h =
+      let w = world_in stage c in
+      let r = client_at w.clients i in
+      (fire_goes_on i w (heard_at stage.language e.0 e.1 r) (turning.fired_at stage.language e.0 e.1 r), h)
+
+  hear_reaches : (c : Course) (i : ℕ) (r : Option Runtime) (e : Option Event) → Reached c → Reached (hear_step stage c i r e).course
+  hear_reaches c i None e h = h
+  hear_reaches c i (Some r) None h = h
+  hear_reaches c i (Some r) (Some e) h = fired_reaches c i e (heard_at stage.language e.0 e.1 (Some r)) h
+
+  moved_reaches : (c : Course) (s : EventStep) (lines : List OutLine) → (event_step stage c s).lines ≡ Some lines → Reached c → Reached (event_step stage c s).course
+  moved_reaches c (plain s) lines e h = (ap is_some e, h)
+  moved_reaches c (emits n v) lines e h = h
+  moved_reaches c (hears i) lines e h = hear_reaches c i (client_at (world_in stage c).clients i) (first c.calls i) h
+
+  made_reaches : (c : Course) (s : EventStep) (before : List OutLine) (made : Option (List OutLine)) →
+      (event_step stage c s).lines ≡ made → Reached c →
+      Reaches (stepped_on before (event_step stage c s).course made)
+  made_reaches c s before None e h = λ on. absurd (false≢true (sym on))
+  made_reaches c s before (Some lines) e h = λ on. moved_reaches c s lines e h
+
+  step_reaches : (c : Course) (lines : List OutLine) (over : Bool) (s : EventStep) →
+      let p : Played = record { course = c; lines = lines; over = over } in
       Reaches p → Reaches (play_step stage p s)
-  step_reaches w lines true s h = h
-  step_reaches w lines false s h = made_reaches w s lines (lines_at stage w s) refl (h refl)
+  step_reaches c lines true s h = h
+  step_reaches c lines false s h = made_reaches c s lines (event_step stage c s).lines refl (h refl)
 
-  steps_reach : (ss : List Step) (p : Played) → Reaches p → Reaches (fold (play_step stage) p ss)
+  steps_reach : (ss : List EventStep) (p : Played) → Reaches p → Reaches (fold (play_step stage) p ss)
   steps_reach [] p h = h
-  steps_reach (s ∷ ss) p h = steps_reach ss (play_step stage p s) (step_reaches p.world p.lines p.over s h)
+  steps_reach (s ∷ ss) p h = steps_reach ss (play_step stage p s) (step_reaches p.course p.lines p.over s h)
 
   either_reaches : (up : Bool) (p next : Played) → Reaches p → Reaches next → Reaches (if up then p else next)
   either_reaches true p next h k = h
@@ -62,41 +82,38 @@ module _ (stage : Stage) where
   turns_reach : (i k : ℕ) (p : Played) → Reaches p → Reaches (play_turns stage i k p)
   turns_reach i zero p h = h
   turns_reach i (suc k) p h =
-      let next = play_step stage p (turn i) in
-      either_reaches (is_up_in stage p.world i (client_at p.world.clients i)) p (play_turns stage i k next) h
-      (turns_reach i k next (step_reaches p.world p.lines p.over (turn i) h))
+      let next = play_step stage p (plain (turn i)) in
+      either_reaches (is_up_at stage p.course i) p (play_turns stage i k next) h
+      (turns_reach i k next (step_reaches p.course p.lines p.over (plain (turn i)) h))
 
   turns_of_reach : (i k : ℕ) (r : Option Runtime) (p : Played) →
       Reaches p → Reaches (play_turns_of stage i k r p)
-  turns_of_reach i k None p h = step_reaches p.world p.lines p.over (turn i) h
+  turns_of_reach i k None p h = step_reaches p.course p.lines p.over (plain (turn i)) h
   turns_of_reach i k (Some r) p h = turns_reach i k p h
 
-  command_reaches : (command : Command) (w : World) → Reached w → Reaches (commanded stage command w)
-  command_reaches (step s) w h = step_reaches w [] false s (λ on. h)
-  command_reaches settle_all w h = steps_reach (map settle_of (reverse w.issued)) (nothing w) (λ on. h)
-  command_reaches (turns i k) w h = turns_of_reach i k (client_at w.clients i) (nothing w) (λ on. h)
+  command_reaches : (command : Command) (c : Course) → Reached c → Reaches (commanded stage command c)
+  command_reaches (step s) c h = step_reaches c [] false s (λ on. h)
+  command_reaches settle_all c h = steps_reach (map (λ j. plain (settle_of j)) (reverse (world_in stage c).issued)) (nothing c) (λ on. h)
+  command_reaches (turns i k) c h = turns_of_reach i k (client_in stage c i) (nothing c) (λ on. h)
 
-  then_reaches : (over : Bool) (part : Played) (after : World → Played) → part.over ≡ over → Reaches part →
-      ((w : World) → Reached w → Reaches (after w)) → Reaches (unless over part after)
+  then_reaches : (over : Bool) (part : Played) (after : Course → Played) → part.over ≡ over → Reaches part →
+      ((c : Course) → Reached c → Reaches (after c)) → Reaches (unless over part after)
   then_reaches true part after e h f = λ on. absurd (false≢true (sym on ∙ e))
-  then_reaches false part after e h f = λ on. f part.world (h e) on
+  then_reaches false part after e h f = λ on. f part.course (h e) on
 
-  line_reaches : (quiet : Bool) (command : Option Command) (after : Bool → World → Played) (w : World) →
-      Reached w → ((q : Bool) (v : World) → Reached v → Reaches (after q v)) →
-      Reaches (line_played stage quiet command after w)
-  line_reaches quiet None after w h f = f true w h
-  line_reaches quiet (Some command) after w h f =
-      let part = commanded stage command w in
-      then_reaches part.over (quieted quiet part) (after quiet) refl (command_reaches command w h) (f quiet)
+  line_reaches : (quiet : Bool) (command : Option Command) (after : Bool → Course → Played) (c : Course) →
+      Reached c → ((q : Bool) (v : Course) → Reached v → Reaches (after q v)) →
+      Reaches (line_played stage quiet command after c)
+  line_reaches quiet None after c h f = f true c h
+  line_reaches quiet (Some command) after c h f =
+      let part = commanded stage command c in
+      then_reaches part.over (quieted quiet part) (after quiet) refl (command_reaches command c h) (f quiet)
 
-  lines_reach : (lines : List ScriptLine) (quiet : Bool) (w : World) →
-      Reached w → Reaches (perform stage lines quiet w)
-  lines_reach [] quiet w h = λ on. h
-  lines_reach (l ∷ more) quiet w h =
-      line_reaches quiet (command_of l) (perform stage more) w h (λ q v k. lines_reach more q v k)
-
-  first_reached : Reached new_world
-  first_reached = record { past = []; went = tt; is = refl }
+  lines_reach : (lines : List ScriptLine) (quiet : Bool) (c : Course) →
+      Reached c → Reaches (perform stage lines quiet c)
+  lines_reach [] quiet c h = λ on. h
+  lines_reach (l ∷ more) quiet c h =
+      line_reaches quiet (command_of l) (perform stage more) c h (λ q v k. lines_reach more q v k)
 
   -- what a client shows and what a fresh load of its roots writes
   fresh_by : (w : World) (i : ℕ) (lines : List OutLine) (r : Option Runtime) → client_at w.clients i ≡ r →
@@ -116,19 +133,17 @@ module _ (stage : Stage) where
             ∙ ap (λ names. Some (written (record load { missing = names }))) h.nothing_missing;
       }
 
-  fresh_where_up : (w : World) (i : ℕ) → Reached w → IsFreshWhereUp stage w i
-  fresh_where_up w i h = λ lines shows.
-      let shown_there = ap (λ v. lines_at stage v (show i)) h.is ∙ shows in
-      let law = up_shows stage.language stage.roots stage.shelves h.past i i lines h.went shown_there in
-      let IsFresh : World → Type 0 = λ v.
-      laws.ShowsFresh v.core.sources.served lines (client_at v.clients i) in
-      fresh_by w i lines (client_at w.clients i) refl shows (subst IsFresh h.is law)
+  fresh_where_up : (c : Course) (i : ℕ) → Reached c → IsFreshWhereUp stage (world_in stage c) i
+  fresh_where_up c i h = λ lines shows.
+      let w = world_in stage c in
+      fresh_by w i lines (client_at w.clients i) refl shows
+      (up_shows stage.language stage.roots stage.shelves c.steps i i lines h shows)
 
-  pub fresh_at : (before : List ScriptLine) (i : ℕ) → (perform stage before false new_world).over ≡ false →
-      IsFreshWhereUp stage (perform stage before false new_world).world i
+  pub fresh_at : (before : List ScriptLine) (i : ℕ) → (perform stage before false new_course).over ≡ false →
+      IsFreshWhereUp stage (world_in stage (perform stage before false new_course).course) i
   fresh_at before i on =
-      fresh_where_up (perform stage before false new_world).world i
-      (lines_reach before false new_world first_reached on)
+      fresh_where_up (perform stage before false new_course).course i
+      (lines_reach before false new_course tt on)
 
 pub shows_are_fresh : (shelves : List (List (Text × ℕ))) (script : Result Contents ScriptFault) →
     ShowsAreFresh shelves script

@@ -8,3 +8,4 @@ pub mod Summing
 pub mod Roots
 pub mod Ending
 pub mod Headline
+pub mod Telling

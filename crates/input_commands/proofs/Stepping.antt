@@ -7,16 +7,15 @@ use Rattle.std.proofs.Math.Path.{subst}
 use Rattle.std.proofs.lemmas.Bool.{false≢true}
 use Rattle.hmr_base.proofs.Fronts.{front_none}
 use Rattle.output_lines.specs.declared.out_line.OutLine.{OutLine}
-use Rattle.module_language.specs.ModuleLanguage.{module_language}
-use Rattle.world_model.specs.World as model
-use Rattle.world_model.specs.World.{Step}
-use Rattle.world_model.specs.Steps.{world_step}
-use Rattle.world_model.specs.Playing.{Stage, Played, joined, stepped_on, play_step}
-use Rattle.hmr_world.specs.Standing.{StandsFor, run_on, step_in}
+use Rattle.world_model.specs.Playing.{Stage}
+use Rattle.event_world.specs.Courses.{Course, EventStep, event_step}
+use Rattle.event_world.specs.Playing.{Played, joined, stepped_on, play_step}
+use Rattle.event_world.specs.Runs.{run_on, stage_of, step_in}
+use Rattle.event_world.specs.Standing.{StandsFor}
 use Rattle.hmr_world.specs.Stops.{AreLines}
 use Rattle.hmr_world.specs.declared.stop.WorldStop.{WorldStop}
 use Rattle.hmr_world.specs.declared.stop.WorldStop.TheVariants as worlds
-use Rattle.hmr_world.specs.declared.world.World.{World}
+use Rattle.event_world.specs.declared.event_world.EventWorld.{EventWorld}
 use Rattle.input_commands.specs.declared.stop.Stop.{Stop}
 use Rattle.input_commands.specs.declared.stop.Stop.TheVariants.{InstancesFull}
 use Rattle.input_commands.specs.Ends.{stop_of_world}
@@ -36,24 +35,24 @@ pub on_ok : {X E P : Type 0} (result : Result X E) → P → OnOk result P
 on_ok (Ok x) p = p
 on_ok (Err e) p = tt
 
-module _ {F : Type 0} (stage : Stage) (w : model.World) (old : World F) (h : IsAt stage w old) where
-  -- what the step makes of the definitions' world
-  pub same_step : (s : Step) → world_step stage.language stage.roots stage.shelves w s ≡ step_in h.run s
+module _ {F : Type 0} (stage : Stage) (w : Course) (old : EventWorld F) (h : IsAt stage w old) where
+  -- what the step makes of the course
+  pub same_step : (s : EventStep) → event_step stage w s ≡ step_in h.run s
   same_step s =
-      ap (λ (st : Stage). world_step st.language st.roots st.shelves w s) (sym h.stage_is)
-      ∙ ap (λ v. world_step module_language h.run.roots h.run.shelves v s) (sym h.is)
+      ap (λ st. event_step st w s) (sym h.stage_is)
+      ∙ ap (λ c. event_step (stage_of h.run) c s) (sym h.is)
 
   -- the world stands where the step leads
-  pub stands_on : (s : Step) (after : World F) → StandsFor (run_on h.run s) after →
-      IsAt stage (step_in h.run s).world after
+  pub stands_on : (s : EventStep) (after : EventWorld F) → StandsFor (run_on h.run s) after →
+      IsAt stage (step_in h.run s).course after
   stands_on s after k = record { run = run_on h.run s; stands = k; stage_is = h.stage_is; is = refl }
 
-  part_is : (s : Step) (made : Option (List OutLine)) → (step_in h.run s).lines ≡ made →
-      play_step stage (nothing w) s ≡ stepped_on [] (step_in h.run s).world made
-  part_is s made e = ap (joined []) (same_step s) ∙ ap (stepped_on [] (step_in h.run s).world) e
+  part_is : (s : EventStep) (made : Option (List OutLine)) → (step_in h.run s).lines ≡ made →
+      play_step stage (nothing w) s ≡ stepped_on [] (step_in h.run s).course made
+  part_is s made e = ap (joined []) (same_step s) ∙ ap (stepped_on [] (step_in h.run s).course) e
 
   -- the step went on, and its lines are taken
-  pub step_plays : (s : Step) (quiet : Bool) (lines : Vec OutLine) (after : World F) (a b : Taken)
+  pub step_plays : (s : EventStep) (quiet : Bool) (lines : Vec OutLine) (after : EventWorld F) (a b : Taken)
       (result : Result (Unit {0}) Stop) →
       AreLines (step_in h.run s).lines (Ok lines) → StandsFor (run_on h.run s) after →
       TakesFront a b (plays.shown quiet lines.items) →
@@ -74,7 +73,7 @@ module _ {F : Type 0} (stage : Stage) (w : model.World) (old : World F) (h : IsA
       })
 
   -- the step ended the run, or there was no memory for it
-  pub step_stops : (s : Step) (quiet : Bool) (e : WorldStop) (after : World F) (a : Taken)
+  pub step_stops : (s : EventStep) (quiet : Bool) (e : WorldStop) (after : EventWorld F) (a : Taken)
       (stop : Stop) →
       AreLines (step_in h.run s).lines (Err e) → stop ≡ stop_of_world e →
       Plays stage a a (quieted quiet (play_step stage (nothing w) s)) after (Err stop)
@@ -112,7 +111,7 @@ pub without_fault : (e : WorldStop) (stop : Stop) (faults : ℕ) → stop ≡ st
 without_fault worlds.InstancesFull stop faults e = record { later = omega arith; unwritten = λ out. absurd (cc) }
 without_fault worlds.NoMemory stop faults e = record { later = omega arith; unwritten = λ out. absurd (cc) }
 
-pub quiet_nothing : (quiet : Bool) (w : model.World) → quieted quiet (nothing w) ≡ nothing w
+pub quiet_nothing : (quiet : Bool) (w : Course) → quieted quiet (nothing w) ≡ nothing w
 quiet_nothing true w = refl
 quiet_nothing false w = refl
 

@@ -10,9 +10,10 @@ use Rattle.std.proofs.lemmas.Grind.{flat_map-append}
 use Rattle.hmr_base.proofs.Fronts.{front_all, front_more}
 use Rattle.output_lines.specs.declared.out_line.OutLine.{OutLine}
 use Rattle.play_text.specs.Lines.{line_text}
-use Rattle.world_model.specs.World as model
-use Rattle.world_model.specs.Playing.{Stage, Played}
-use Rattle.hmr_world.specs.declared.world.World.{World}
+use Rattle.world_model.specs.Playing.{Stage}
+use Rattle.event_world.specs.Courses.{Course}
+use Rattle.event_world.specs.Playing.{Played}
+use Rattle.event_world.specs.declared.event_world.EventWorld.{EventWorld}
 use Rattle.input_commands.specs.declared.stop.Stop.{Stop}
 use Rattle.input_commands.specs.declared.stop.Stop.TheVariants.{InstancesFull}
 use Rattle.input_commands.specs.Outputs.{lines_text}
@@ -53,34 +54,34 @@ pub record IsTakenUpTo (old now : Taken) (left whole : Played) : Type 0 where
   pub out : Takes old now front
   pub rest : front ++ left.lines ≡ whole.lines
   pub over : left.over ≡ whole.over
-  pub world : left.world ≡ whole.world
+  pub course : left.course ≡ whole.course
 
 -- the world stands where this is left of the whole, and all before it is taken
-pub record IsUpTo {F : Type 0} (stage : Stage) (old now : Taken) (left : model.World → Played)
-    (whole : Played) (world : World F) : Type 0 where
-  pub w : model.World
+pub record IsUpTo {F : Type 0} (stage : Stage) (old now : Taken) (left : Course → Played)
+    (whole : Played) (world : EventWorld F) : Type 0 where
+  pub w : Course
   pub here : IsAt stage w world
   pub taken : IsTakenUpTo old now (left w) whole
 
-goes_on_by : (part : Played) (after : model.World → Played) → part.over ≡ false →
-    then_on part after ≡ behind part.lines (after part.world)
+goes_on_by : (part : Played) (after : Course → Played) → part.over ≡ false →
+    then_on part after ≡ behind part.lines (after part.course)
 goes_on_by part after e = ap (λ over. unless over part after) e
 
-ends_by : (part : Played) (after : model.World → Played) → part.over ≡ true → then_on part after ≡ part
+ends_by : (part : Played) (after : Course → Played) → part.over ≡ true → then_on part after ≡ part
 ends_by part after e = ap (λ over. unless over part after) e
 
 -- one part more
-part_more : (a b c : Taken) (part : Played) (after : model.World → Played) (whole : Played) →
+part_more : (a b c : Taken) (part : Played) (after : Course → Played) (whole : Played) →
     part.over ≡ false → IsTakenUpTo a b (then_on part after) whole → Takes b c part.lines →
-    IsTakenUpTo a c (after part.world) whole
+    IsTakenUpTo a c (after part.course) whole
 part_more a b c part after whole e h out =
     let k = subst (λ p. IsTakenUpTo a b p whole) (goes_on_by part after e) h in
     record {
       front = k.front ++ part.lines;
       out = takes_both a b c k.front part.lines k.out out;
-      rest = append_assoc k.front part.lines (after part.world).lines ∙ k.rest;
+      rest = append_assoc k.front part.lines (after part.course).lines ∙ k.rest;
       over = k.over;
-      world = k.world;
+      course = k.course;
     }
 
 -- the lines of a part come first
@@ -88,13 +89,13 @@ record Begins (part whole : Played) : Type 0 where
   left : List OutLine
   is : part.lines ++ left ≡ whole.lines
 
-begins_by : (part : Played) (after : model.World → Played) (over : Bool) →
+begins_by : (part : Played) (after : Course → Played) (over : Bool) →
     Begins part (unless over part after)
 begins_by part after true = record { left = []; is = append-nil part.lines }
-begins_by part after false = record { left = (after part.world).lines; is = refl }
+begins_by part after false = record { left = (after part.course).lines; is = refl }
 
 -- a front of a part is a front of the whole
-part_front : (a b c : Taken) (part : Played) (after : model.World → Played) (whole : Played) →
+part_front : (a b c : Taken) (part : Played) (after : Course → Played) (whole : Played) →
     IsTakenUpTo a b (then_on part after) whole → TakesFront b c part.lines → TakesFront a c whole.lines
 part_front a b c part after whole h w =
     let begins = begins_by part after part.over in
@@ -105,18 +106,18 @@ part_front a b c part after whole h w =
     ∙ (sym (both_lines h.front (then_on part after).lines) ∙ ap lines_text h.rest))
 
 -- a part that ends the run is the last
-part_last : (a b c : Taken) (part : Played) (after : model.World → Played) (whole : Played) →
+part_last : (a b c : Taken) (part : Played) (after : Course → Played) (whole : Played) →
     part.over ≡ true → IsTakenUpTo a b (then_on part after) whole → Takes b c part.lines →
     Takes a c whole.lines
 part_last a b c part after whole e h out =
     let k = subst (λ p. IsTakenUpTo a b p whole) (ends_by part after e) h in
     subst (Takes a c) k.rest (takes_both a b c k.front part.lines k.out out)
 
-ends_over : (a b : Taken) (part : Played) (after : model.World → Played) (whole : Played) →
+ends_over : (a b : Taken) (part : Played) (after : Course → Played) (whole : Played) →
     part.over ≡ true → IsTakenUpTo a b (then_on part after) whole → whole.over ≡ true
 ends_over a b part after whole e h = sym h.over ∙ (ap (λ (p : Played). p.over) (ends_by part after e) ∙ e)
 
-nil_taken : (a b : Taken) (w : model.World) (whole : Played) →
+nil_taken : (a b : Taken) (w : Course) (whole : Played) →
     IsTakenUpTo a b (nothing w) whole → Takes a b whole.lines
 nil_taken a b w whole h = subst (Takes a b) (sym (append-nil h.front) ∙ h.rest) h.out
 
@@ -124,23 +125,23 @@ ok_other : (u : Unit {0}) (stop : Stop) → (let r : Result (Unit {0}) Stop = Ok
 ok_other u stop e = false≢true (ap is_err e)
 
 module _ {F : Type 0} (stage : Stage) where
-  module _ (a b c : Taken) (left part after : model.World → Played) (whole : Played) (world next : World F)
-      (splits : (w : model.World) → IsAt stage w world → left w ≡ then_on (part w) after) where
+  module _ (a b c : Taken) (left part after : Course → Played) (whole : Played) (world next : EventWorld F)
+      (splits : (w : Course) → IsAt stage w world → left w ≡ then_on (part w) after) where
     -- a part went on
-    went_on : ((w : model.World) → IsAt stage w world → Plays stage b c (part w) next (Ok tt)) →
+    went_on : ((w : Course) → IsAt stage w world → Plays stage b c (part w) next (Ok tt)) →
         IsUpTo stage a b left whole world → IsUpTo stage a c after whole next
     went_on plays h =
         let k = plays h.w h.here in
         let so_far = subst (λ p. IsTakenUpTo a b p whole) (splits h.w h.here) h.taken in
         record {
-          w = (part h.w).world;
+          w = (part h.w).course;
           here = k.state;
           taken = part_more a b c (part h.w) after whole k.performs.goes_on so_far k.performs.done;
         }
 
     -- a part stopped
     stopped : (stop : Stop) →
-        ((w : model.World) → IsAt stage w world → Plays stage b c (part w) next (Err stop)) →
+        ((w : Course) → IsAt stage w world → Plays stage b c (part w) next (Err stop)) →
         IsUpTo stage a b left whole world → Plays stage a c whole next (Err stop)
     stopped stop plays h =
         let k = plays h.w h.here in
@@ -158,20 +159,20 @@ module _ {F : Type 0} (stage : Stage) where
         }
 
     pub more : (result : Result (Unit {0}) Stop) → is_err result ≡ false →
-        ((w : model.World) → IsAt stage w world → Plays stage b c (part w) next result) →
+        ((w : Course) → IsAt stage w world → Plays stage b c (part w) next result) →
         IsUpTo stage a b left whole world → IsUpTo stage a c after whole next
     more (Ok u) e plays h = went_on plays h
     more (Err stop) e plays h = absurd (false≢true (sym e))
 
     pub stops : (result : Result (Unit {0}) Stop) → is_err result ≡ true →
-        ((w : model.World) → IsAt stage w world → Plays stage b c (part w) next result) →
+        ((w : Course) → IsAt stage w world → Plays stage b c (part w) next result) →
         IsUpTo stage a b left whole world → Plays stage a c whole next result
     stops (Ok u) e plays h = absurd (false≢true e)
     stops (Err stop) e plays h = stopped stop plays h
 
   -- all of the whole is left
-  pub begins : (a : Taken) (left : model.World → Played) (whole : Played) (w : model.World)
-      (world : World F) →
+  pub begins : (a : Taken) (left : Course → Played) (whole : Played) (w : Course)
+      (world : EventWorld F) →
       IsAt stage w world → left w ≡ whole → IsUpTo stage a a left whole world
   begins a left whole w world h e = record {
     w = w;
@@ -181,13 +182,13 @@ module _ {F : Type 0} (stage : Stage) where
       out = takes_none a;
       rest = ap (λ (p : Played). p.lines) e;
       over = ap (λ (p : Played). p.over) e;
-      world = ap (λ (p : Played). p.world) e;
+      course = ap (λ (p : Played). p.course) e;
     };
   }
 
   -- the same is left, in other words
-  pub likewise : (a b : Taken) (left after : model.World → Played) (whole : Played) (world : World F) →
-      ((w : model.World) → left w ≡ after w) → IsUpTo stage a b left whole world →
+  pub likewise : (a b : Taken) (left after : Course → Played) (whole : Played) (world : EventWorld F) →
+      ((w : Course) → left w ≡ after w) → IsUpTo stage a b left whole world →
       IsUpTo stage a b after whole world
   likewise a b left after whole world same h = record {
     w = h.w;
@@ -196,9 +197,9 @@ module _ {F : Type 0} (stage : Stage) where
   }
 
   -- nothing is left
-  pub finishes : (a b : Taken) (left : model.World → Played) (whole : Played) (world : World F)
+  pub finishes : (a b : Taken) (left : Course → Played) (whole : Played) (world : EventWorld F)
       (u : Unit {0}) →
-      ((w : model.World) → IsAt stage w world → left w ≡ nothing w) →
+      ((w : Course) → IsAt stage w world → left w ≡ nothing w) →
       IsUpTo stage a b left whole world → Plays stage a b whole world (Ok u)
   finishes a b left whole world u none h =
       let end = subst (λ p. IsTakenUpTo a b p whole) (none h.w h.here) h.taken in
@@ -211,5 +212,5 @@ module _ {F : Type 0} (stage : Stage) where
           ended = λ full. absurd (ok_other u InstancesFull full);
           all = λ full. absurd (ok_other u InstancesFull full);
         };
-        state = subst (λ w. IsAt stage w world) end.world h.here;
+        state = subst (λ w. IsAt stage w world) end.course h.here;
       }

@@ -1,13 +1,13 @@
 -- The program's commands, as the definitions have them.
 use Rattle.std.specs.Prelude.{⊤}
-use Rattle.world_model.specs.Playing as model
-use Rattle.hmr_world.specs.Steps.{HasFormat, step_of}
+use Rattle.event_world.specs.Playing as model
+use Rattle.event_world.specs.Steps.{HasFormat, event_step_of}
 use Rattle.input_commands.specs.declared.command.Command.{Command}
 use Rattle.input_commands.specs.declared.command.Command.TheVariants as commands
 
 -- a command, as the definitions have it
 abbrev pub command_seen : Command → model.Command
-command_seen (commands.Step s) = model.step (step_of s)
+command_seen (commands.Step s) = model.step (event_step_of s)
 command_seen commands.SettleAll = model.settle_all
 command_seen (commands.Turns i k) = model.turns i k
 

@@ -1,5 +1,5 @@
 -- How a command ends, and what is known then.
-use Rattle.std.specs.Prelude.{◌≡◌, ◌≤◌, ℕ, List, ⊤, true, Option, Result, Ok, Err, length}
+use Rattle.std.specs.Prelude.{◌≡◌, ◌≤◌, ℕ, List, [], ⊤, true, Option, Result, Ok, Err, length}
 use Prim.{⊥}
 use Rattle.std.specs.Io.KnownBytes.{Appends, Keeps}
 use Rattle.hmr_types.specs.declared.limits.TheConstants.{ROOTS}
@@ -92,3 +92,39 @@ IsFaultStop fault Unread = ⊥
 IsFaultStop fault Unwritten = ⊥
 IsFaultStop fault InstancesFull = ⊥
 IsFaultStop fault NoMemory = ⊤
+
+-- the exit status of an end
+abbrev pub status_of : Result (Unit {0}) Stop → ℕ
+status_of (Ok u) = 0
+status_of (Err NotACommand) = 2
+status_of (Err TooLong) = 8
+status_of (Err TextTooLong) = 8
+status_of (Err (Faulty line)) = 3
+status_of (Err Unread) = 4
+status_of (Err Unwritten) = 5
+status_of (Err InstancesFull) = 8
+status_of (Err NoMemory) = 9
+
+-- the line that is written at an end
+abbrev pub last_of : Result (Unit {0}) Stop → List ℕ
+last_of (Ok u) = []
+last_of (Err NotACommand) = usage_line
+last_of (Err TooLong) = input_limit
+last_of (Err TextTooLong) = limit_line
+last_of (Err (Faulty line)) = line.items
+last_of (Err Unread) = []
+last_of (Err Unwritten) = []
+last_of (Err InstancesFull) = instances_limit
+last_of (Err NoMemory) = []
+
+-- the ends without a line
+abbrev pub IsSilent : Result (Unit {0}) Stop → Type 0
+IsSilent (Ok u) = ⊤
+IsSilent (Err NotACommand) = ⊥
+IsSilent (Err TooLong) = ⊥
+IsSilent (Err TextTooLong) = ⊥
+IsSilent (Err (Faulty line)) = ⊥
+IsSilent (Err Unread) = ⊤
+IsSilent (Err Unwritten) = ⊤
+IsSilent (Err InstancesFull) = ⊥
+IsSilent (Err NoMemory) = ⊤

@@ -6,9 +6,10 @@ use Rattle.output_lines.specs.declared.words.ClientState.TheVariants.{Up}
 use Rattle.core_model.specs.Names.{Name}
 use Rattle.core_model.specs.Sources.{Text}
 use Rattle.client_model.specs.Printing.{module_line, stale_line}
-use Rattle.world_model.specs.World.{World, Step, show, fresh_of, new_world}
+use Rattle.world_model.specs.World.{World, Step, show, fresh_of}
 use Rattle.world_model.specs.Steps.{world_step, unlinked_line}
 use Rattle.world_model.specs.Playing.{Stage}
+use Rattle.event_world.specs.Courses.{new_course, world_in}
 use Rattle.play_script.specs.declared.fault.ScriptFault.{ScriptFault}
 use Rattle.play_script.specs.declared.script_line.ScriptLine.{ScriptLine}
 use Rattle.play_script.specs.declared.script_line.ScriptLine.TheVariants as says
@@ -39,5 +40,6 @@ abbrev pub ShowsAreFresh : List (List (Text × ℕ)) → Result Contents ScriptF
 ShowsAreFresh shelves (Err fault) = Unit {0}
 ShowsAreFresh shelves (Ok script) =
     (before after : List ScriptLine) (i : ℕ) → script.lines ≡ before ++ says.Show i ∷ after →
-    let so_far = perform (stage_on shelves script.roots) before false new_world in
-    so_far.over ≡ false → IsFreshWhereUp (stage_on shelves script.roots) so_far.world i
+    let stage = stage_on shelves script.roots in
+    let so_far = perform stage before false new_course in
+    so_far.over ≡ false → IsFreshWhereUp stage (world_in stage so_far.course) i

@@ -5,6 +5,9 @@ use Rattle.output_lines.specs.declared.out_line.OutLine.TheVariants as line
 use Rattle.core_model.specs.Core.{client_at}
 use Rattle.client_model.specs.Runtime.{Runtime}
 use Rattle.world_model.specs.World.{World}
+use Rattle.world_model.specs.Playing.{Stage}
+use Rattle.event_world.specs.Courses.{world_in}
+use Rattle.event_world.specs.Playing.{Played}
 
 -- the instances that a client made so far; none where it isn't open
 abbrev pub made_by : Option Runtime → ℕ
@@ -13,6 +16,10 @@ made_by (Some r) = length r.instances
 
 abbrev pub instances_made : World → ℕ → ℕ
 instances_made w i = made_by (client_at w.clients i)
+
+-- the instances that the first client made in what was played
+abbrev pub first_made : Stage → Played → ℕ
+first_made stage p = instances_made (world_in stage p.course) 1
 
 -- the line is that of an instance
 unfoldable pub is_instance : OutLine → Bool

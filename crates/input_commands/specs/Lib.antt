@@ -7,3 +7,4 @@ pub mod Writing
 pub mod Summing
 pub mod Ends
 pub mod Headline
+pub mod Runs

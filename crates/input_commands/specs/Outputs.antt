@@ -8,7 +8,8 @@ use Rattle.hmr_types.specs.declared.limits.TheConstants.{SCRIPT_BYTES, TEXT_BYTE
 use Rattle.output_lines.specs.declared.out_line.OutLine.{OutLine}
 use Rattle.core_model.specs.Names.{Name}
 use Rattle.core_model.specs.Sources.{Text}
-use Rattle.world_model.specs.Playing.{Played}
+use Rattle.world_model.specs.Playing.{Stage}
+use Rattle.event_world.specs.Playing.{Played}
 use Rattle.play_script.specs.declared.fault.ScriptFault.{ScriptFault}
 use Rattle.play_script.specs.Script.{Contents, kind_word, script_of}
 use Rattle.play_text.specs.Lines.{line_text}
@@ -18,8 +19,8 @@ use Rattle.command_words.specs.Words.{command_of, usage_line}
 use Rattle.text_check.specs.Checking.{limit_line, report}
 use Rattle.page_maker.specs.Making.{generated}
 use Rattle.page_maker.specs.Summary.{summary}
-use Rattle.input_commands.specs.Instances.{instances_made}
-use Rattle.input_commands.specs.Playing.{script_played}
+use Rattle.input_commands.specs.Instances.{first_made}
+use Rattle.input_commands.specs.Playing.{script_played, stage_on}
 
 -- the line for an input that is no script
 abbrev pub fault_line : ScriptFault → List ℕ
@@ -81,12 +82,14 @@ abbrev pub summed_up : Bool → List ℕ → Output
 summed_up false text = record { status = 0; lines = text; last = [] }
 summed_up true text = record { status = 8; lines = []; last = instances_limit }
 
-abbrev pub summary_of_run : ℕ → Played → Output
-summary_of_run count p = summed_up p.over (summary count (instances_made p.world 1) p.lines)
+abbrev pub summary_of_run : Stage → ℕ → Played → Output
+summary_of_run stage count p = summed_up p.over (summary count (first_made stage p) p.lines)
 
 -- the output of `make`: the summary of the run of the script that is generated
 abbrev pub output_of_make : List (List (Text × ℕ)) → ℕ → ℕ → Output
-output_of_make shelves count seed = summary_of_run count (script_played shelves (generated count seed))
+output_of_make shelves count seed =
+    summary_of_run (stage_on shelves (generated count seed).roots) count
+    (script_played shelves (generated count seed))
 
 -- the output where the words are no command
 abbrev pub usage : Output
@@ -101,6 +104,7 @@ output_meant shelves (Some (commands.Check name)) left = option_map (output_of_c
 output_meant shelves (Some (commands.Make count seed)) left = Some (output_of_make shelves count seed)
 output_meant shelves (Some (commands.Serve plan)) left = None
 output_meant shelves (Some (commands.Join port roots turns)) left = None
+output_meant shelves (Some (commands.Page folder)) left = None
 
 -- the output of these words, where the input tells the bytes that they read
 abbrev pub output_of : List (List (Text × ℕ)) → List (List ℕ) → Option (List ℕ) → Option Output
@@ -114,6 +118,17 @@ reads_input (Some (commands.Check name)) = true
 reads_input (Some (commands.Make count seed)) = false
 reads_input (Some (commands.Serve plan)) = plan.edits
 reads_input (Some (commands.Join port roots turns)) = false
+reads_input (Some (commands.Page folder)) = false
+
+-- the words are `page`, which reads its input request by request
+abbrev pub is_page : Option Command → Bool
+is_page None = false
+is_page (Some commands.Play) = false
+is_page (Some (commands.Check name)) = false
+is_page (Some (commands.Make count seed)) = false
+is_page (Some (commands.Serve plan)) = false
+is_page (Some (commands.Join port roots turns)) = false
+is_page (Some (commands.Page folder)) = true
 
 -- all of its bytes
 abbrev pub whole : Output → List ℕ
@@ -130,3 +145,4 @@ WorksAlone (commands.Check name) = ⊤
 WorksAlone (commands.Make count seed) = ⊤
 WorksAlone (commands.Serve plan) = ⊥
 WorksAlone (commands.Join port roots turns) = ⊥
+WorksAlone (commands.Page folder) = ⊥

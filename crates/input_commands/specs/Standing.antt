@@ -1,14 +1,14 @@
 -- Where a world stands in the play of a script.
 use Rattle.std.specs.Prelude.{◌≡◌}
-use Rattle.world_model.specs.World as model
 use Rattle.world_model.specs.Playing.{Stage}
-use Rattle.world_laws.specs.Runs.{Run, world_of}
-use Rattle.hmr_world.specs.Standing.{StandsFor, stage_of}
-use Rattle.hmr_world.specs.declared.world.World.{World}
+use Rattle.event_world.specs.Courses.{Course}
+use Rattle.event_world.specs.Runs.{EventRun, course_of, stage_of}
+use Rattle.event_world.specs.Standing.{StandsFor}
+use Rattle.event_world.specs.declared.event_world.EventWorld.{EventWorld}
 
--- the world stands for a run on the page that makes this of the definitions' world
-pub record IsAt {F : Type 0} (stage : Stage) (w : model.World) (world : World F) : Type 0 where
-  pub run : Run
+-- the world stands for a run on the page that makes this course
+pub record IsAt {F : Type 0} (stage : Stage) (c : Course) (world : EventWorld F) : Type 0 where
+  pub run : EventRun
   pub stands : StandsFor run world
   pub stage_is : stage_of run ≡ stage
-  pub is : world_of run ≡ w
+  pub is : course_of run ≡ c

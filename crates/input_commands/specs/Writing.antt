@@ -6,8 +6,9 @@ use Rattle.std.specs.Io.KnownBytes.{Appends}
 use Rattle.hmr_base.specs.Causes.{Rose}
 use Rattle.hmr_base.specs.Fronts.{WritesFront}
 use Rattle.output_lines.specs.declared.out_line.OutLine.{OutLine}
-use Rattle.world_model.specs.Playing.{Stage, Played}
-use Rattle.hmr_world.specs.declared.world.World.{World}
+use Rattle.world_model.specs.Playing.{Stage}
+use Rattle.event_world.specs.Playing.{Played}
+use Rattle.event_world.specs.declared.event_world.EventWorld.{EventWorld}
 use Rattle.input_commands.specs.declared.stop.Stop.{Stop}
 use Rattle.input_commands.specs.declared.stop.Stop.TheVariants.{NotACommand, TooLong, TextTooLong, Faulty}
 use Rattle.input_commands.specs.declared.stop.Stop.TheVariants.{Unread, Unwritten, InstancesFull, NoMemory}
@@ -61,9 +62,9 @@ pub record Performs (old new : Taken) (part : Played) (result : Result (Unit {0}
 
 -- and the world is where the part ends
 pub record Plays {F : Type 0} (stage : Stage) (old new : Taken) (part : Played)
-    (after : World F) (result : Result (Unit {0}) Stop) : Type 0 where
+    (after : EventWorld F) (result : Result (Unit {0}) Stop) : Type 0 where
   pub performs : Performs old new part result
-  pub state : OnOk result (IsAt stage part.world after)
+  pub state : OnOk result (IsAt stage part.course after)
 
 -- writing stops only at the output or for want of memory
 abbrev pub IsWriteStop : Stop → Type 0

@@ -1,18 +1,16 @@
 // The commands that work on their input alone, from the words that were read to a status and an output.
-ghost use Rattle.std.specs.Prelude.{◌≡◌, ◌⊎◌, ◌≤◌, Err, None, IfErr, IfOk, IfSome, IsErrOf};
-ghost use Rattle.std.specs.Prelude.{OnOk, false, map, string_bytes, true};
+ghost use Rattle.std.specs.Prelude.{◌≡◌, ◌≤◌, Err, None, IfErr, IfOk, IfSome, IsErrOf, OnOk, false, map};
+ghost use Rattle.std.specs.Prelude.{string_bytes, true};
 ghost use Rattle.std.specs.Io.KnownBytes.{Appends, IsAtEnd, Keeps};
 ghost use Rattle.handler_table.specs.Shelf.{marks_of};
 ghost use Rattle.hmr_base.specs.Causes.{Rose};
 ghost use Rattle.hmr_base.specs.Fronts.{WritesFront};
 ghost use Rattle.hmr_world.specs.Shelves.{AreHosts};
-ghost use Rattle.play_script.specs.Script.{script_of};
-ghost use Rattle.command_words.specs.Words.{Gives, HasRanges, command_of, usage_line};
+ghost use Rattle.command_words.specs.Words.{Gives, HasRanges, command_of};
 ghost use Rattle.input_commands.specs.declared.stop.Stop.TheVariants.{NotACommand, Unread, Unwritten};
-ghost use Rattle.input_commands.specs.Ends.{EndsAtWords, Finishes, StopsAt};
-ghost use Rattle.input_commands.specs.Headline.{ShowsAreFresh};
+ghost use Rattle.input_commands.specs.Ends.{EndsAtWords, Finishes, IsSilent, StopsAt, last_of, status_of};
 ghost use Rattle.input_commands.specs.Outputs.{IsOwnStatus, WorksAlone, output_of, reads_input, whole};
-ghost use Rattle.input_commands.specs.Writing.{WritesBehind};
+ghost use Rattle.input_commands.specs.Runs.{AnswersWords, IsComplete, ReadsInput, WritesOutput};
 
 use crate::check::check;
 use crate::make::make;
@@ -51,58 +49,35 @@ pub fn run_alone<F: FnOnce(Bag) -> Result<Ran, AllocError> + Drop, S: Source, K:
     requires alone { IfOk read WorksAlone }
     ensures known { IsOwnStatus result }
     ensures out_of_memory { read ≡ Err WordsFault.NoMemory → (result ≡ 9) × (out.new ≡ out.old) }
-    ensures words { result ≡ 2 → command_of (map string_bytes words.now) ≡ None }
-    ensures no_command { command_of (map string_bytes words.now) ≡ None → (result ≡ 2) ⊎ (result ≡ 9) }
-    ensures usage { result ≡ 2 → WritesFront (K.written out.old) (K.written out.new) usage_line }
-    ensures usage_whole { result ≡ 2 → ¬ Rose (K.faults out.old) (K.faults out.new)
-        → Appends (K.written out.old) (K.written out.new) usage_line }
-
-    ensures done { result ≡ 0 →
-        IfSome (output_of (map marks_of shelves.items) (map string_bytes words.now) (S.left input.old))
-        (λ output. Appends (K.written out.old) (K.written out.new) (whole output)) }
-    ensures end { result ≡ 0 → reads_input (command_of (map string_bytes words.now)) ≡ true
-        → IsAtEnd (S.left input.new) }
-    ensures played { result ≡ 0 →
-        IfSome (output_of (map marks_of shelves.items) (map string_bytes words.now) (S.left input.old))
-        (λ output. output.status ≡ 0) }
-    ensures front { IfSome (output_of (map marks_of shelves.items) (map string_bytes words.now)
-        (S.left input.old)) (λ output. WritesFront (K.written out.old) (K.written out.new) (whole output)) }
-
-    ensures no_script { result ≡ 3 →
-        IfSome (output_of (map marks_of shelves.items) (map string_bytes words.now) (S.left input.old))
-        (λ output. output.status ≡ 3) }
-    ensures fault_whole { result ≡ 3 → ¬ Rose (K.faults out.old) (K.faults out.new) →
-        IfSome (output_of (map marks_of shelves.items) (map string_bytes words.now) (S.left input.old))
-        (λ output. Appends (K.written out.old) (K.written out.new) (whole output)) }
-    ensures limit { result ≡ 8 →
-        IfSome (output_of (map marks_of shelves.items) (map string_bytes words.now) (S.left input.old))
-        (λ output. output.status ≡ 8) }
-    ensures limit_last { result ≡ 8 →
-        IfSome (output_of (map marks_of shelves.items) (map string_bytes words.now) (S.left input.old))
-        (λ output. WritesBehind (K.written out.old) (K.written out.new) output.lines output.last) }
-    ensures limit_whole { result ≡ 8 → ¬ Rose (K.faults out.old) (K.faults out.new) →
-        IfSome (output_of (map marks_of shelves.items) (map string_bytes words.now) (S.left input.old))
-        (λ output. Appends (K.written out.old) (K.written out.new) (whole output)) }
-
-    ensures unread { result ≡ 4 → Rose (S.faults input.old) (S.faults input.new) }
-    ensures unread_silent { result ≡ 4 → Keeps (K.written out.old) (K.written out.new) }
-    ensures unread_reads { result ≡ 4 → reads_input (command_of (map string_bytes words.now)) ≡ true }
-    ensures unwritten { result ≡ 5 → Rose (K.faults out.old) (K.faults out.new) }
+    ensures words { AnswersWords (command_of (map string_bytes words.now))
+        (K.written out.old) (K.written out.new) (K.faults out.old) (K.faults out.new) result }
+    ensures output { WritesOutput
+        (output_of (map marks_of shelves.items) (map string_bytes words.now) (S.left input.old))
+        (K.written out.old) (K.written out.new) (K.faults out.old) (K.faults out.new) result }
+    ensures complete { IsComplete
+        (output_of (map marks_of shelves.items) (map string_bytes words.now) (S.left input.old)) result }
+    ensures input { ReadsInput (command_of (map string_bytes words.now)) (S.left input.new)
+        (S.faults input.old) (S.faults input.new) (K.written out.old) (K.written out.new) result }
     ensures untouched { reads_input (command_of (map string_bytes words.now)) ≡ false
         → input.new ≡ input.old }
-    ensures complete { IfSome (output_of (map marks_of shelves.items) (map string_bytes words.now)
-        (S.left input.old)) (λ output. output.status ≡ 0
-        → (result ≡ 0) ⊎ (result ≡ 4) ⊎ (result ≡ 5) ⊎ (result ≡ 9)) }
-    ensures complete_faults { IfSome (output_of (map marks_of shelves.items) (map string_bytes words.now)
-        (S.left input.old)) (λ output. output.status ≡ 3
-        → (result ≡ 3) ⊎ (result ≡ 4) ⊎ (result ≡ 9)) }
-    ensures complete_limits { IfSome (output_of (map marks_of shelves.items) (map string_bytes words.now)
-        (S.left input.old)) (λ output. output.status ≡ 8
-        → (result ≡ 8) ⊎ (result ≡ 4) ⊎ (result ≡ 5) ⊎ (result ≡ 9)) }
-    ensures fresh_load { IfSome (S.left input.old) (λ bytes.
-        ShowsAreFresh (map marks_of shelves.items) (script_of bytes)) }
+    ensures unwritten { result ≡ 5 → Rose (K.faults out.old) (K.faults out.new) }
 {
-    match carry_out(alloc, words, read, input, out, shelves) {
+    let ended = carry_out(alloc, words, read, input, out, shelves);
+    tell_end(ended, out)
+}
+
+// Writes the line of an end, and answers its exit status.
+fn tell_end<K: Sink>(ended: Result<(), Stop>, out: &mut K) -> u8
+    ensures is { result ≡ status_of ended }
+    ensures known { IsOwnStatus result }
+    ensures front { WritesFront (K.written out.old) (K.written out.new) (last_of ended) }
+    ensures whole { ¬ Rose (K.faults out.old) (K.faults out.new)
+        → Appends (K.written out.old) (K.written out.new) (last_of ended) }
+    ensures silent { IsSilent ended → out.new ≡ out.old }
+    ensures unwritten { result ≡ 5 → ended ≡ Err Stop.Unwritten }
+    ensures later { K.faults out.old ≤ K.faults out.new }
+{
+    match ended {
         Ok(()) => 0,
         Err(Stop::NotACommand) => {
             let _ = write_all(out, usage().as_bytes());
@@ -176,7 +151,7 @@ fn carry_out<F: FnOnce(Bag) -> Result<Ran, AllocError> + Drop, S: Source, K: Sin
             check(alloc, &name, input, out)
         }
         Ok(Command::Make { count, seed }) => make(alloc, count, seed, out, shelves),
-        Ok(Command::Serve(_) | Command::Join { .. }) => unreachable!(),
+        Ok(Command::Serve(_) | Command::Join { .. } | Command::Page(_)) => unreachable!(),
         Err(fault) => {
             discard(shelves);
             Err(Stop::from(fault))

@@ -1,13 +1,17 @@
 // What a line of a script makes the program do.
 ghost use Rattle.std.specs.Prelude.{◌≡◌, IfSome, Some};
 ghost use Rattle.std.specs.Option.{option_map};
-ghost use Rattle.hmr_world.specs.Steps.{HasFormat, step_of};
+ghost use Rattle.event_world.specs.Steps.{HasFormat, event_step_of};
+ghost use Rattle.event_world.specs.Courses.{plain};
+ghost use Rattle.hmr_world.specs.Steps as plain_steps;
+ghost use Rattle.hmr_world.specs.Steps.{step_of};
 ghost use Rattle.play_script.specs.Asked as asked;
-ghost use Rattle.world_model.specs.Playing as model;
+ghost use Rattle.event_world.specs.Playing as model;
 ghost use Rattle.input_commands.specs.Commands.{FitsFormat, command_seen};
 ghost use Rattle.input_commands.specs.Playing.{command_of};
 
-use hmr_types::ClientId;
+use event_world::EventStep;
+use hmr_types::{ClientId, Value};
 use hmr_world::Step;
 use play_script::ScriptLine;
 
@@ -15,7 +19,7 @@ use play_script::ScriptLine;
 #[derive(Drop)]
 pub enum Command {
     /// One step.
-    Step(Step),
+    Step(EventStep),
     /// Settles all issued jobs whose result hasn't come yet, by rising version.
     SettleAll,
     /// Turns of a client until it is caught up, but at most so many.
@@ -38,6 +42,8 @@ pub fn command_of(line: ScriptLine) -> Option<Command>
         ScriptLine::Close(client) => step(Step::Close(client)),
         ScriptLine::Turn(client) => step(Step::Turn(client)),
         ScriptLine::Turns(client, most) => Some(Command::Turns(client, most)),
+        ScriptLine::Emit(event, text) => one(EventStep::Emit(event, Value::Str(text))),
+        ScriptLine::Hear(client) => one(EventStep::Hear(client)),
         ScriptLine::Show(client) => step(Step::Show(client)),
         ScriptLine::Values(client) => step(Step::Values(client)),
         ScriptLine::Fates(client) => step(Step::Fates(client)),
@@ -47,8 +53,16 @@ pub fn command_of(line: ScriptLine) -> Option<Command>
 }
 
 fn step(step: Step) -> Option<Command>
+    requires { plain_steps.HasFormat step }
+    ensures command { option_map command_seen result ≡ Some (model.step (plain (step_of step))) }
+    ensures format { IfSome result FitsFormat }
+{
+    one(EventStep::Plain(step))
+}
+
+fn one(step: EventStep) -> Option<Command>
     requires { HasFormat step }
-    ensures command { option_map command_seen result ≡ Some (model.step (step_of step)) }
+    ensures command { option_map command_seen result ≡ Some (model.step (event_step_of step)) }
     ensures format { IfSome result FitsFormat }
 {
     Some(Command::Step(step))

@@ -6,16 +6,16 @@ ghost use Rattle.handler_table.specs.Shelf.{marks_of};
 ghost use Rattle.hmr_base.specs.Causes.{Rose};
 ghost use Rattle.hmr_base.specs.Fronts.{WritesFront};
 ghost use Rattle.hmr_world.specs.Shelves.{AreHosts};
-ghost use Rattle.hmr_world.specs.Standing.{IsRunning, KeepsWords};
+ghost use Rattle.event_world.specs.Courses.{Course, world_in};
+ghost use Rattle.event_world.specs.Standing.{IsRunning, KeepsWords};
 ghost use Rattle.page_maker.specs.Making.{generated};
 ghost use Rattle.play_script.specs.Asked.{HasFormat};
 ghost use Rattle.world_model.specs.Playing.{Stage};
-ghost use Rattle.world_model.specs.World as worlds;
 ghost use Rattle.input_commands.specs.declared.stop.Stop.TheVariants.{Unread, Unwritten};
 ghost use Rattle.input_commands.specs.Ends.{Finishes, StopsAt};
 ghost use Rattle.input_commands.specs.Instances.{instances_made, is_instance};
 ghost use Rattle.input_commands.specs.Outputs.{output_of_make, whole};
-ghost use Rattle.input_commands.specs.Playing.{perform, script_played};
+ghost use Rattle.input_commands.specs.Playing.{perform, script_played, stage_on};
 ghost use Rattle.input_commands.specs.Standing.{IsAt};
 ghost use Rattle.input_commands.specs.Summing.{SumsUp};
 
@@ -24,6 +24,7 @@ use crate::play::play_all;
 use crate::shelves::discard;
 use crate::stop::Stop;
 use const_eval::Ran;
+use event_world::{EventStep, EventWorld};
 use handler_table::Shelf;
 use hmr_base::{Sink, write_all};
 use hmr_types::ClientId;
@@ -80,7 +81,8 @@ fn summary_of<F: FnOnce(Bag) -> Result<Ran, AllocError> + Drop>(
     requires few { count ≤ 4096 }
     requires callable { (f : F) → F.IsAlwaysCallable f }
     requires hosts { AreHosts F.post shelves.items }
-    ensures { SumsUp count (script_played (map marks_of shelves.items) (generated count seed)) result }
+    ensures { SumsUp (stage_on (map marks_of shelves.items) (generated count seed).roots) count
+        (script_played (map marks_of shelves.items) (generated count seed)) result }
 {
     let Ok(script) = generate(alloc, count, seed) else {
         discard(shelves);
@@ -88,7 +90,10 @@ fn summary_of<F: FnOnce(Bag) -> Result<Ran, AllocError> + Drop>(
     };
     let Generated { roots, lines } = script;
     match World::new(alloc, roots, shelves) {
-        Ok(world) => sum_up(alloc, world, count, lines),
+        Ok(world) => {
+            let events = EventWorld::new(alloc, world);
+            sum_up(alloc, events, count, lines)
+        }
         Err(NewFault::NoRoots) => unreachable!(),
         Err(NewFault::TooManyRoots) => unreachable!(),
         Err(NewFault::DuplicateRoot) => unreachable!(),
@@ -97,7 +102,7 @@ fn summary_of<F: FnOnce(Bag) -> Result<Ran, AllocError> + Drop>(
 
 fn sum_up<F: FnOnce(Bag) -> Result<Ran, AllocError> + Drop>(
     alloc: Global,
-    world: World<F>,
+    world: EventWorld<F>,
     count: u32,
     lines: Vec<ScriptLine>,
 ) -> Result<Vec<u8>, Stop>
@@ -105,8 +110,8 @@ fn sum_up<F: FnOnce(Bag) -> Result<Ran, AllocError> + Drop>(
     requires callable { (f : F) → F.IsAlwaysCallable f }
     requires words { KeepsWords F.post world }
     requires running { IsRunning world }
-    ensures { (stage : Stage) (w : worlds.World) → IsAt stage w world
-        → SumsUp count (perform stage lines.items false w) result }
+    ensures { (stage : Stage) (c : Course) → IsAt stage c world
+        → SumsUp stage count (perform stage lines.items false c) result }
 {
     let mut world = world;
     let summed = play_and_sum(alloc, &mut world, count, lines);
@@ -117,7 +122,7 @@ fn sum_up<F: FnOnce(Bag) -> Result<Ran, AllocError> + Drop>(
 /// Plays the commands, and sums up the lines that are shown.
 fn play_and_sum<F: FnOnce(Bag) -> Result<Ran, AllocError> + Drop>(
     alloc: Global,
-    world: &mut World<F>,
+    world: &mut EventWorld<F>,
     count: u32,
     lines: Vec<ScriptLine>,
 ) -> Result<Vec<u8>, Stop>
@@ -125,8 +130,8 @@ fn play_and_sum<F: FnOnce(Bag) -> Result<Ran, AllocError> + Drop>(
     requires callable { (f : F) → F.IsAlwaysCallable f }
     requires words { KeepsWords F.post world.old }
     requires running { IsRunning world.old }
-    ensures { (stage : Stage) (w : worlds.World) → IsAt stage w world.old
-        → SumsUp count (perform stage lines.items false w) result }
+    ensures { (stage : Stage) (c : Course) → IsAt stage c world.old
+        → SumsUp stage count (perform stage lines.items false c) result }
 {
     let mut kept = KeptLines {
         lines: Vec::new(alloc),
@@ -138,17 +143,17 @@ fn play_and_sum<F: FnOnce(Bag) -> Result<Ran, AllocError> + Drop>(
 
 /// How many instances a client made: its fates tell each of them.
 fn instances_made<F: FnOnce(Bag) -> Result<Ran, AllocError> + Drop>(
-    world: &mut World<F>,
+    world: &mut EventWorld<F>,
     client: ClientId,
 ) -> Result<u64, Stop>
     requires callable { (f : F) → F.IsAlwaysCallable f }
     requires words { KeepsWords F.post world.old }
     requires running { IsRunning world.old }
-    ensures made { (stage : Stage) (w : worlds.World) → IsAt stage w world.old
-        → IfOk result (λ made. made ≡ instances_made w client) }
+    ensures made { (stage : Stage) (c : Course) → IsAt stage c world.old
+        → IfOk result (λ made. made ≡ instances_made (world_in stage c) client) }
     ensures stops { IfErr result (λ stop. stop ≡ Stop.NoMemory) }
 {
-    match world.step(Step::Fates(client)) {
+    match world.step(EventStep::Plain(Step::Fates(client))) {
         Ok(lines) => Ok(count_instances(&lines)),
         Err(WorldStop::InstancesFull) => unreachable!(),
         Err(WorldStop::NoMemory) => Err(Stop::NoMemory),

@@ -1,12 +1,13 @@
 // Plays the commands of a script on a world. The lines of each step are shown as it is made.
 ghost use Rattle.std.specs.List.{All};
 ghost use Rattle.std.specs.Prelude.{◌≡◌, IfErr, IfOk, OnOk, false};
-ghost use Rattle.hmr_world.specs.Standing.{IsRunning, KeepsWords};
-ghost use Rattle.hmr_world.specs.Steps.{HasFormat, step_of};
+ghost use Rattle.event_world.specs.Courses.{Course};
+ghost use Rattle.event_world.specs.Standing.{IsRunning, KeepsWords};
+ghost use Rattle.event_world.specs.Steps.{HasFormat, event_step_of};
 ghost use Rattle.play_script.specs.Asked as asked;
-ghost use Rattle.world_model.specs.Playing.{Stage, play_step, play_turns};
-ghost use Rattle.world_model.specs.Playing as model;
-ghost use Rattle.world_model.specs.World as worlds;
+ghost use Rattle.world_model.specs.Playing.{Stage};
+ghost use Rattle.event_world.specs.Playing.{play_step, play_turns};
+ghost use Rattle.event_world.specs.Playing as model;
 ghost use Rattle.input_commands.specs.Commands.{FitsFormat, command_seen};
 ghost use Rattle.input_commands.specs.Playing.{commanded, nothing, perform, quieted, settled_by};
 ghost use Rattle.input_commands.specs.Standing.{IsAt};
@@ -16,8 +17,9 @@ use crate::command::{Command, command_of};
 use crate::line_sink::LineSink;
 use crate::stop::Stop;
 use const_eval::Ran;
+use event_world::{EventStep, EventWorld};
 use hmr_types::{ClientId, ModName, Ver};
-use hmr_world::{Step, World};
+use hmr_world::Step;
 use play_script::{Commands, ScriptLine};
 use retained_data::Bag;
 use std::alloc::{AllocError, Global};
@@ -29,16 +31,16 @@ use std::alloc::{AllocError, Global};
 /// sink's count of faults rose in this call, and `NoMemory` where memory ran out. No other stop comes.
 pub fn play_lines<F: FnOnce(Bag) -> Result<Ran, AllocError> + Drop, K: LineSink>(
     alloc: Global,
-    world: &mut World<F>,
+    world: &mut EventWorld<F>,
     commands: Commands<'_>,
     out: &mut K,
 ) -> Result<(), Stop>
     requires callable { (f : F) → F.IsAlwaysCallable f }
     requires words { KeepsWords F.post world.old }
     requires running { IsRunning world.old }
-    ensures plays { (stage : Stage) (w : worlds.World) → IsAt stage w world.old
+    ensures plays { (stage : Stage) (c : Course) → IsAt stage c world.old
         → Plays stage (K.taken out.old) (K.taken out.new)
-        (perform stage commands.entry false w) world.new result }
+        (perform stage commands.entry false c) world.new result }
     ensures stops { IfErr result IsPlayStop }
     ensures faults { HasCause (K.faults out.old) (K.faults out.new) result }
 {
@@ -68,7 +70,7 @@ pub fn play_lines<F: FnOnce(Bag) -> Result<Ran, AllocError> + Drop, K: LineSink>
 /// The stops are those of [`play_lines`].
 pub fn play_all<F: FnOnce(Bag) -> Result<Ran, AllocError> + Drop, K: LineSink>(
     alloc: Global,
-    world: &mut World<F>,
+    world: &mut EventWorld<F>,
     lines: Vec<ScriptLine>,
     out: &mut K,
 ) -> Result<(), Stop>
@@ -76,9 +78,9 @@ pub fn play_all<F: FnOnce(Bag) -> Result<Ran, AllocError> + Drop, K: LineSink>(
     requires callable { (f : F) → F.IsAlwaysCallable f }
     requires words { KeepsWords F.post world.old }
     requires running { IsRunning world.old }
-    ensures plays { (stage : Stage) (w : worlds.World) → IsAt stage w world.old
+    ensures plays { (stage : Stage) (c : Course) → IsAt stage c world.old
         → Plays stage (K.taken out.old) (K.taken out.new)
-        (perform stage lines.items false w) world.new result }
+        (perform stage lines.items false c) world.new result }
     ensures words { KeepsWords F.post world.new }
     ensures running { OnOk result (IsRunning world.new) }
     ensures stops { IfErr result IsPlayStop }
@@ -101,7 +103,7 @@ pub fn play_all<F: FnOnce(Bag) -> Result<Ran, AllocError> + Drop, K: LineSink>(
 
 fn play_command<F: FnOnce(Bag) -> Result<Ran, AllocError> + Drop, K: LineSink>(
     alloc: Global,
-    world: &mut World<F>,
+    world: &mut EventWorld<F>,
     quiet: bool,
     command: Command,
     out: &mut K,
@@ -110,9 +112,9 @@ fn play_command<F: FnOnce(Bag) -> Result<Ran, AllocError> + Drop, K: LineSink>(
     requires callable { (f : F) → F.IsAlwaysCallable f }
     requires words { KeepsWords F.post world.old }
     requires running { IsRunning world.old }
-    ensures plays { (stage : Stage) (w : worlds.World) → IsAt stage w world.old
+    ensures plays { (stage : Stage) (c : Course) → IsAt stage c world.old
         → Plays stage (K.taken out.old) (K.taken out.new)
-        (quieted quiet (commanded stage (command_seen command) w)) world.new result }
+        (quieted quiet (commanded stage (command_seen command) c)) world.new result }
     ensures words { KeepsWords F.post world.new }
     ensures running { OnOk result (IsRunning world.new) }
     ensures stops { IfErr result IsPlayStop }
@@ -127,22 +129,22 @@ fn play_command<F: FnOnce(Bag) -> Result<Ran, AllocError> + Drop, K: LineSink>(
 
 fn settle_all<F: FnOnce(Bag) -> Result<Ran, AllocError> + Drop, K: LineSink>(
     alloc: Global,
-    world: &mut World<F>,
+    world: &mut EventWorld<F>,
     quiet: bool,
     out: &mut K,
 ) -> Result<(), Stop>
     requires callable { (f : F) → F.IsAlwaysCallable f }
     requires words { KeepsWords F.post world.old }
     requires running { IsRunning world.old }
-    ensures plays { (stage : Stage) (w : worlds.World) → IsAt stage w world.old
+    ensures plays { (stage : Stage) (c : Course) → IsAt stage c world.old
         → Plays stage (K.taken out.old) (K.taken out.new)
-        (quieted quiet (commanded stage model.settle_all w)) world.new result }
+        (quieted quiet (commanded stage model.settle_all c)) world.new result }
     ensures words { KeepsWords F.post world.new }
     ensures running { OnOk result (IsRunning world.new) }
     ensures stops { IfErr result IsPlayStop }
     ensures faults { HasCause (K.faults out.old) (K.faults out.new) result }
 {
-    let Ok(jobs) = world.jobs() else {
+    let Ok(jobs) = world.world().jobs() else {
         return Err(Stop::NoMemory);
     };
     settle_jobs(alloc, world, quiet, &jobs, out)
@@ -150,7 +152,7 @@ fn settle_all<F: FnOnce(Bag) -> Result<Ran, AllocError> + Drop, K: LineSink>(
 
 fn settle_jobs<F: FnOnce(Bag) -> Result<Ran, AllocError> + Drop, K: LineSink>(
     alloc: Global,
-    world: &mut World<F>,
+    world: &mut EventWorld<F>,
     quiet: bool,
     jobs: &[(ModName, Ver)],
     out: &mut K,
@@ -158,9 +160,9 @@ fn settle_jobs<F: FnOnce(Bag) -> Result<Ran, AllocError> + Drop, K: LineSink>(
     requires callable { (f : F) → F.IsAlwaysCallable f }
     requires words { KeepsWords F.post world.old }
     requires running { IsRunning world.old }
-    ensures plays { (stage : Stage) (w : worlds.World) → IsAt stage w world.old
+    ensures plays { (stage : Stage) (c : Course) → IsAt stage c world.old
         → Plays stage (K.taken out.old) (K.taken out.new)
-        (quieted quiet (settled_by stage jobs.now w)) world.new result }
+        (quieted quiet (settled_by stage jobs.now c)) world.new result }
     ensures words { KeepsWords F.post world.new }
     ensures running { OnOk result (IsRunning world.new) }
     ensures stops { IfErr result IsPlayStop }
@@ -170,7 +172,13 @@ fn settle_jobs<F: FnOnce(Bag) -> Result<Ran, AllocError> + Drop, K: LineSink>(
         let Ok(name) = copy_of(name) else {
             return Err(Stop::NoMemory);
         };
-        let played = play_step(alloc, world, quiet, Step::Settle(name, *version), out);
+        let played = play_step(
+            alloc,
+            world,
+            quiet,
+            EventStep::Plain(Step::Settle(name, *version)),
+            out,
+        );
         if played.is_err() {
             return played;
         }
@@ -181,7 +189,7 @@ fn settle_jobs<F: FnOnce(Bag) -> Result<Ran, AllocError> + Drop, K: LineSink>(
 /// Turns of a client. One that isn't open makes one, which says so.
 fn turn_client<F: FnOnce(Bag) -> Result<Ran, AllocError> + Drop, K: LineSink>(
     alloc: Global,
-    world: &mut World<F>,
+    world: &mut EventWorld<F>,
     quiet: bool,
     client: ClientId,
     most: u32,
@@ -190,24 +198,30 @@ fn turn_client<F: FnOnce(Bag) -> Result<Ran, AllocError> + Drop, K: LineSink>(
     requires callable { (f : F) → F.IsAlwaysCallable f }
     requires words { KeepsWords F.post world.old }
     requires running { IsRunning world.old }
-    ensures plays { (stage : Stage) (w : worlds.World) → IsAt stage w world.old
+    ensures plays { (stage : Stage) (c : Course) → IsAt stage c world.old
         → Plays stage (K.taken out.old) (K.taken out.new)
-        (quieted quiet (commanded stage (model.turns client most) w)) world.new result }
+        (quieted quiet (commanded stage (model.turns client most) c)) world.new result }
     ensures words { KeepsWords F.post world.new }
     ensures running { OnOk result (IsRunning world.new) }
     ensures stops { IfErr result IsPlayStop }
     ensures faults { HasCause (K.faults out.old) (K.faults out.new) result }
 {
-    if world.is_open(client) {
+    if world.world().is_open(client) {
         take_turns(alloc, world, quiet, client, most, out)
     } else {
-        play_step(alloc, world, quiet, Step::Turn(client), out)
+        play_step(
+            alloc,
+            world,
+            quiet,
+            EventStep::Plain(Step::Turn(client)),
+            out,
+        )
     }
 }
 
 fn take_turns<F: FnOnce(Bag) -> Result<Ran, AllocError> + Drop, K: LineSink>(
     alloc: Global,
-    world: &mut World<F>,
+    world: &mut EventWorld<F>,
     quiet: bool,
     client: ClientId,
     most: u32,
@@ -216,19 +230,25 @@ fn take_turns<F: FnOnce(Bag) -> Result<Ran, AllocError> + Drop, K: LineSink>(
     requires callable { (f : F) → F.IsAlwaysCallable f }
     requires words { KeepsWords F.post world.old }
     requires running { IsRunning world.old }
-    ensures plays { (stage : Stage) (w : worlds.World) → IsAt stage w world.old
+    ensures plays { (stage : Stage) (c : Course) → IsAt stage c world.old
         → Plays stage (K.taken out.old) (K.taken out.new)
-        (quieted quiet (play_turns stage client most (nothing w))) world.new result }
+        (quieted quiet (play_turns stage client most (nothing c))) world.new result }
     ensures words { KeepsWords F.post world.new }
     ensures running { OnOk result (IsRunning world.new) }
     ensures stops { IfErr result IsPlayStop }
     ensures faults { HasCause (K.faults out.old) (K.faults out.new) result }
 {
     'turns: for _ in 0..most {
-        if world.caught_up(client) {
+        if world.world().caught_up(client) {
             return Ok(());
         }
-        let played = play_step(alloc, world, quiet, Step::Turn(client), out);
+        let played = play_step(
+            alloc,
+            world,
+            quiet,
+            EventStep::Plain(Step::Turn(client)),
+            out,
+        );
         if played.is_err() {
             return played;
         }
@@ -238,18 +258,18 @@ fn take_turns<F: FnOnce(Bag) -> Result<Ran, AllocError> + Drop, K: LineSink>(
 
 fn play_step<F: FnOnce(Bag) -> Result<Ran, AllocError> + Drop, K: LineSink>(
     alloc: Global,
-    world: &mut World<F>,
+    world: &mut EventWorld<F>,
     quiet: bool,
-    step: Step,
+    step: EventStep,
     out: &mut K,
 ) -> Result<(), Stop>
     requires format { HasFormat step }
     requires callable { (f : F) → F.IsAlwaysCallable f }
     requires words { KeepsWords F.post world.old }
     requires running { IsRunning world.old }
-    ensures plays { (stage : Stage) (w : worlds.World) → IsAt stage w world.old
+    ensures plays { (stage : Stage) (c : Course) → IsAt stage c world.old
         → Plays stage (K.taken out.old) (K.taken out.new)
-        (quieted quiet (play_step stage (nothing w) (step_of step))) world.new result }
+        (quieted quiet (play_step stage (nothing c) (event_step_of step))) world.new result }
     ensures words { KeepsWords F.post world.new }
     ensures running { OnOk result (IsRunning world.new) }
     ensures stops { IfErr result IsPlayStop }

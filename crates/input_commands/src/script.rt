@@ -6,10 +6,10 @@ ghost use Rattle.hmr_base.specs.Causes.{Rose};
 ghost use Rattle.hmr_base.specs.Fronts.{WritesFront};
 ghost use Rattle.hmr_types.specs.declared.limits.TheConstants.{SCRIPT_BYTES};
 ghost use Rattle.hmr_world.specs.Shelves.{AreHosts};
-ghost use Rattle.hmr_world.specs.Standing.{IsRunning, KeepsWords};
+ghost use Rattle.event_world.specs.Courses.{Course};
+ghost use Rattle.event_world.specs.Standing.{IsRunning, KeepsWords};
 ghost use Rattle.play_script.specs.Script.{script_of};
 ghost use Rattle.world_model.specs.Playing.{Stage};
-ghost use Rattle.world_model.specs.World as worlds;
 ghost use Rattle.input_commands.specs.declared.stop.Stop.TheVariants.{Unread, Unwritten};
 ghost use Rattle.input_commands.specs.Ends.{AreFew, Finishes, IsFaultStop, StopsAt};
 ghost use Rattle.input_commands.specs.Outputs.{fault_line, output_of_play, output_of_script, whole};
@@ -21,6 +21,7 @@ use crate::play::play_lines;
 use crate::shelves::discard;
 use crate::stop::Stop;
 use const_eval::Ran;
+use event_world::EventWorld;
 use handler_table::Shelf;
 use hmr_base::{Sink, Source, read_all};
 use hmr_types::limits::SCRIPT_BYTES;
@@ -126,7 +127,10 @@ fn play_script<F: FnOnce(Bag) -> Result<Ran, AllocError> + Drop, K: Sink>(
         return Err(Stop::NoMemory);
     };
     match World::new(alloc, roots, shelves) {
-        Ok(world) => play_on(alloc, world, script.commands(), out),
+        Ok(world) => {
+            let events = EventWorld::new(alloc, world);
+            play_on(alloc, events, script.commands(), out)
+        }
         Err(NewFault::NoRoots) => Ok(()),
         Err(NewFault::TooManyRoots) => unreachable!(),
         Err(NewFault::DuplicateRoot) => unreachable!(),
@@ -135,16 +139,16 @@ fn play_script<F: FnOnce(Bag) -> Result<Ran, AllocError> + Drop, K: Sink>(
 
 fn play_on<F: FnOnce(Bag) -> Result<Ran, AllocError> + Drop, K: Sink>(
     alloc: Global,
-    world: World<F>,
+    world: EventWorld<F>,
     commands: Commands<'_>,
     out: &mut K,
 ) -> Result<(), Stop>
     requires callable { (f : F) → F.IsAlwaysCallable f }
     requires words { KeepsWords F.post world }
     requires running { IsRunning world }
-    ensures performs { (stage : Stage) (w : worlds.World) → IsAt stage w world
+    ensures performs { (stage : Stage) (c : Course) → IsAt stage c world
         → Performs (written_as (K.written out.old)) (written_as (K.written out.new))
-        (perform stage commands.entry false w) result }
+        (perform stage commands.entry false c) result }
     ensures stops { IfErr result IsPlayStop }
     ensures faults { HasCause (K.faults out.old) (K.faults out.new) result }
 {

@@ -131,6 +131,25 @@ pub enum OutLine {
         client: ClientId,
         name: ModName,
     },
+    /// `C full EVENT`: as many events wait for the client as may, so this one doesn't reach it. The event
+    /// is named by its module, `/event/my/ping`, and written as `my:ping`.
+    Full {
+        client: ClientId,
+        event: ModName,
+    },
+    /// `C quiet`: no event waits for the client.
+    Quiet {
+        client: ClientId,
+    },
+    /// `C busy`: the client can't hear now, and its events go on waiting.
+    Busy {
+        client: ClientId,
+    },
+    /// `C event EVENT`: the client hears this event, named by its module.
+    Event {
+        client: ClientId,
+        event: ModName,
+    },
     /// `C ended WORD`.
     Ended {
         client: ClientId,

@@ -12,7 +12,7 @@ use Rattle.play_script.specs.declared.words.Word.TheVariants as first
 use Rattle.play_script.specs.declared.words.Said.{Said}
 use Rattle.play_script.specs.declared.words.Said.TheVariants as says
 use Rattle.play_script.specs.Asked.{HasFormat}
-use Rattle.play_script.specs.Script.{Line, all_named, command, command_of, commands, fresh, in_form, known_word, named, no_word, number, one_client, one_name, said, settle, turns, whole_line, with_first, words}
+use Rattle.play_script.specs.Script.{Line, all_named, command, command_of, commands, emission, event_named, fresh, in_form, known_word, named, no_word, number, one_client, one_name, said, settle, text_value, turns, whole_line, with_first, words}
 
 -- what a line says opens no client, or one of format 1 or 2
 abbrev Fits : Said → Type 0
@@ -38,6 +38,12 @@ turns_fit (word ∷ []) = tt
 turns_fit (client ∷ most ∷ []) = behind (number LARGEST_CLIENT client) (λ c. number LARGEST_CLIENT most >>= λ k. Ok (says.Command (lines.Turns c k))) (λ c. behind (number LARGEST_CLIENT most) (λ k. Ok (says.Command (lines.Turns c k))) (λ k. tt))
 turns_fit (client ∷ most ∷ other ∷ more) = tt
 
+emission_fits : (ws : List (List ℕ)) → IfOk (emission ws) Fits
+emission_fits [] = tt
+emission_fits (word ∷ []) = tt
+emission_fits (event ∷ text ∷ []) = behind (event_named event) (λ e. text_value text >>= λ t. Ok (says.Command (lines.Emit e t))) (λ e. behind (text_value text) (λ t. Ok (says.Command (lines.Emit e t))) (λ t. tt))
+emission_fits (event ∷ text ∷ other ∷ more) = tt
+
 fresh_fits : (ws : List (List ℕ)) → IfOk (fresh ws) Fits
 fresh_fits [] = tt
 fresh_fits (client ∷ []) = behind (number LARGEST_CLIENT client) (λ c. Ok (says.Command (lines.FreshOf c))) (λ c. tt)
@@ -58,6 +64,8 @@ command_fits first.Open2 ws = behind (all_named ws) (λ roots. Ok (says.Command 
 command_fits first.Close ws = behind (one_client ws) (λ c. Ok (says.Command (lines.Close c))) (λ c. tt)
 command_fits first.Turn ws = behind (one_client ws) (λ c. Ok (says.Command (lines.Turn c))) (λ c. tt)
 command_fits first.Turns ws = turns_fit ws
+command_fits first.Emit ws = emission_fits ws
+command_fits first.Hear ws = behind (one_client ws) (λ c. Ok (says.Command (lines.Hear c))) (λ c. tt)
 command_fits first.Show ws = behind (one_client ws) (λ c. Ok (says.Command (lines.Show c))) (λ c. tt)
 command_fits first.Values ws = behind (one_client ws) (λ c. Ok (says.Command (lines.Values c))) (λ c. tt)
 command_fits first.Fates ws = behind (one_client ws) (λ c. Ok (says.Command (lines.Fates c))) (λ c. tt)

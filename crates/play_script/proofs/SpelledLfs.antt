@@ -4,15 +4,16 @@ use Rattle.std.specs.Prelude.{◌&&◌, ◌==◌, codes, decimal, not, nat_lt}
 use Rattle.std.specs.List.{flat_map, list_all, list_any}
 use Rattle.std.proofs.lemmas.Bool.{and_parts, and_from}
 use Rattle.std.proofs.lemmas.List.Folds.{list_all-append}
+use Rattle.hmr_types.specs.Event.{is_event_module}
 use Rattle.hmr_types.specs.ModName.{is_name, is_text}
 use Rattle.hmr_types.specs.declared.limits.TheConstants.{LARGEST_CLIENT, LARGEST_NUMBER, ROOTS}
 use Rattle.play_script.specs.declared.script_line.ScriptLine.{ScriptLine}
 use Rattle.play_script.specs.declared.script_line.ScriptLine.TheVariants as lines
-use Rattle.play_script.specs.Texts.{names_text, spaced}
+use Rattle.play_script.specs.Texts.{event_text, names_text, spaced}
 use Rattle.play_script.specs.Script.{Line, is_line_end, lines_from}
-use Rattle.play_script.specs.Spelling.{are_roots, command_lines, command_text, fits, in_range, is_opening, is_writable, open_word, text_lines}
-use Rattle.play_script.proofs.SpelledLines.{in_range-parts, opening_parts}
-use Rattle.play_script.proofs.SpelledNames.{has_no_lf, has_no_lf-name}
+use Rattle.play_script.specs.Spelling.{are_roots, command_lines, command_text, fits, in_range, is_opening, is_word_value, is_writable, open_word, text_lines}
+use Rattle.play_script.proofs.SpelledLines.{in_range-parts, opening_parts, word_parts}
+use Rattle.play_script.proofs.SpelledNames.{has_no_lf, has_no_lf-event, has_no_lf-name}
 use Rattle.play_script.proofs.SpelledNumbers.{has_no_lf-decimal}
 use Rattle.play_script.proofs.SpelledTexts.{are_lines, lines_no_lf}
 
@@ -48,6 +49,8 @@ text_no_lf (lines.Open format roots) h = opening_no_lf format roots h
 text_no_lf (lines.Close n) h = client_no_lf n h
 text_no_lf (lines.Turn n) h = client_no_lf n h
 text_no_lf (lines.Turns c k) h = let both = and_parts (in_range LARGEST_CLIENT c) (in_range LARGEST_CLIENT k) h in two_no_lf (decimal c) (decimal k) (client_no_lf c both.0) (client_no_lf k both.1)
+text_no_lf (lines.Emit event text) h = let both = and_parts (is_event_module event) (is_word_value text) h in two_no_lf (event_text event) text (has_no_lf-event event both.0) (word_parts text both.1).line_ends
+text_no_lf (lines.Hear n) h = client_no_lf n h
 text_no_lf (lines.Show n) h = client_no_lf n h
 text_no_lf (lines.Values n) h = client_no_lf n h
 text_no_lf (lines.Fates n) h = client_no_lf n h

@@ -1,6 +1,6 @@
 -- The line of each command, as it is spelled, says that command.
 use Rattle.std.proofs.Common.{◌⊎◌, inl, inr, ℕ, ◌^◌, ◌<◌, ◌≤◌, List, [], ◌∷◌, ◌++◌, length, true, false, ◌≡◌, refl, sym, ap, subst, ◌∙◌, arith, append_assoc, Ok}
-use Rattle.std.specs.Prelude.{◌==◌, ◌&&◌, codes, decimal, not, nat_lt, nat_le}
+use Rattle.std.specs.Prelude.{◌==◌, ◌&&◌, codes, decimal, not, nat_lt, nat_le, Some}
 use Rattle.std.specs.List.{All, list_all}
 use Rattle.std.specs.Str.{is_utf8, IsUtf8, chars}
 use lib.Utf8.{encode}
@@ -11,17 +11,19 @@ use Rattle.std.proofs.lemmas.List.Elements.{All-cons}
 use Rattle.std.proofs.lemmas.List.Splits.{slice_split_at, slice_split_none}
 use Rattle.std.proofs.lemmas.Fmt.{IsAscii-decimal, length-decimal-le}
 use Rattle.std.proofs.lemmas.Str.{IsUtf8-append, IsUtf8-from_ascii, IsUtf8-from_is_utf8, is_utf8-from_IsUtf8}
+use Rattle.hmr_types.specs.Event.{event_module, event_of, is_event, is_event_module}
 use Rattle.hmr_types.specs.ModName.{is_name, is_segment, parts, slash}
+use Rattle.hmr_types.proofs.Events.{event_of-is, is_event-IsUtf8}
 use Rattle.hmr_types.specs.declared.limits.TheConstants.{LARGEST_CLIENT, LARGEST_NUMBER}
 use Rattle.hmr_types.proofs.Names.{is_name-IsUtf8}
 use Rattle.play_script.specs.declared.script_line.ScriptLine.{ScriptLine}
 use Rattle.play_script.specs.declared.script_line.ScriptLine.TheVariants as lines
 use Rattle.play_script.specs.declared.words.Said.{Said}
 use Rattle.play_script.specs.declared.words.Said.TheVariants as says
-use Rattle.play_script.specs.Texts.{names_text, spaced, spaced_number}
-use Rattle.play_script.specs.Script.{line_said, lines_from, number, said, whole_line, words}
-use Rattle.play_script.specs.Spelling.{command_text, fits, in_range, is_opening, is_writable, open_word}
-use Rattle.play_script.proofs.SpelledNames.{no_space-name}
+use Rattle.play_script.specs.Texts.{event_text, names_text, spaced, spaced_number}
+use Rattle.play_script.specs.Script.{is_text_value, line_said, lines_from, number, said, whole_line, words}
+use Rattle.play_script.specs.Spelling.{command_text, fits, in_range, is_opening, is_word_value, is_writable, open_word}
+use Rattle.play_script.proofs.SpelledNames.{has_no_lf, no_space-event, no_space-name}
 use Rattle.play_script.proofs.SpelledNumbers.{no_space-decimal, number-decimal}
 
 -- what the line of a command says
@@ -31,7 +33,7 @@ said_of line = says.Command line
 
 -- what the last word of a line has
 abbrev Word : List ℕ → Type 0
-Word w = IsUtf8 w × (length w ≤ 255) × All (λ b. (b == 32) ≡ false) w
+Word w = IsUtf8 w × (length w ≤ 4096) × All (λ b. (b == 32) ≡ false) w
 
 short : (b : ℕ) (bs : List ℕ) → is_name (b ∷ bs) ≡ true → length (b ∷ bs) ≤ 255
 short b bs h =
@@ -41,7 +43,7 @@ short b bs h =
 
 name_word : (name : List ℕ) → is_name name ≡ true → Word name
 name_word [] h = absurd (cc)
-name_word (b ∷ bs) h = (is_name-IsUtf8 (b ∷ bs) h, short b bs h, no_space-name (b ∷ bs) h)
+name_word (b ∷ bs) h = (is_name-IsUtf8 (b ∷ bs) h, omega (arith, short b bs h), no_space-name (b ∷ bs) h)
 
 pub in_range-parts : (most n : ℕ) → in_range most n ≡ true → (0 < n) × (n ≤ most)
 in_range-parts most n h = let here = and_parts (nat_lt 0 n) (nat_le n most) h in (grind (arith, nat_tests), grind (arith, nat_tests))
@@ -149,6 +151,12 @@ turns_said c k h r =
     ap (λ ws. said (codes "turns" ∷ ws)) (before (decimal c) (decimal k) (client_word c h) ∙ ap (λ ws. decimal c ∷ ws) (alone (decimal k) (client_word k r)))
     ∙ last
 
+hear_said : (n : ℕ) → in_range LARGEST_CLIENT n ≡ true → said (words (codes "hear" ++ spaced_number n)) ≡ Ok (says.Command (lines.Hear n))
+hear_said n h =
+    let read = client_read n h in
+    let last : said (codes "hear" ∷ decimal n ∷ []) ≡ Ok (says.Command (lines.Hear n)) = rw read refl in
+    ap (λ ws. said (codes "hear" ∷ ws)) (alone (decimal n) (client_word n h)) ∙ last
+
 close_said : (n : ℕ) → in_range LARGEST_CLIENT n ≡ true → said (words (codes "close" ++ spaced_number n)) ≡ Ok (says.Command (lines.Close n))
 close_said n h =
     let read = client_read n h in
@@ -214,6 +222,44 @@ no_space_bytes (b ∷ bs) h =
     let here = and_parts (not (b == 32)) (list_all (λ b. not (b == 32)) bs) h in
     All-cons (λ x. (x == 32) ≡ false) b bs (grind (arith, nat_tests, here.0)) (no_space_bytes bs here.1)
 
+event_is : (name : List ℕ) → is_event_module name ≡ true → event_of name ≡ Some (event_text name)
+event_is name h = rw h refl
+
+event_short : (event : List ℕ) → is_event event ≡ true → length event ≤ 4096
+event_short event h = let few = (and_parts (nat_le (length event) 64) _ h).0 in grind (arith, nat_tests, few)
+
+event_word : (name : List ℕ) → is_event_module name ≡ true → Word (event_text name)
+event_word name h =
+    let event = (event_of-is name (event_text name) (event_is name h)).1 in
+    (is_event-IsUtf8 (event_text name) event, event_short (event_text name) event, no_space-event name h)
+
+-- the parts of a text that is one word
+pub record OneWord (text : List ℕ) : Type 0 where
+  pub value : is_text_value text ≡ true
+  pub spaces : list_all (λ b. not (b == 32)) text ≡ true
+  pub line_ends : has_no_lf text ≡ true
+
+pub word_parts : (text : List ℕ) → is_word_value text ≡ true → OneWord text
+word_parts text h =
+    let all = and_parts (is_text_value text && list_all (λ b. not (b == 32)) text) (has_no_lf text) h in
+    let both = and_parts (is_text_value text) (list_all (λ b. not (b == 32)) text) all.0 in
+    record { value = both.0; spaces = both.1; line_ends = all.1 }
+
+value_word : (text : List ℕ) → is_word_value text ≡ true → Word text
+value_word text h =
+    let parts = word_parts text h in
+    let both = and_parts (is_utf8 text) (nat_le (length text) 4096) parts.value in
+    (IsUtf8-from_is_utf8 text both.0, grind (arith, nat_tests, both.1), no_space_bytes text parts.spaces)
+
+emit_read : (event text : List ℕ) → is_event event ≡ true → is_text_value text ≡ true → said (codes "emit" ∷ event ∷ text ∷ []) ≡ Ok (says.Command (lines.Emit (event_module event) text))
+emit_read event text e v = rw (e, v) refl
+
+emit_said : (name text : List ℕ) → is_event_module name ≡ true → is_word_value text ≡ true → said (words (codes "emit" ++ spaced (event_text name) ++ spaced text)) ≡ Ok (says.Command (lines.Emit name text))
+emit_said name text h v =
+    let event = event_of-is name (event_text name) (event_is name h) in
+    ap (λ ws. said (codes "emit" ∷ ws)) (before (event_text name) text (event_word name h) ∙ ap (λ ws. event_text name ∷ ws) (alone text (value_word text v)))
+    ∙ (emit_read (event_text name) text event.1 (word_parts text v).value ∙ ap (λ n. Ok (says.Command (lines.Emit n text))) event.0)
+
 -- an opening with these names, where its line isn't too long, says that opening
 abbrev SaysOpening : List (List ℕ) → ℕ → Type 0
 SaysOpening roots format =
@@ -255,6 +301,8 @@ command_says (lines.Open format roots) h = opening_says format roots h
 command_says (lines.Close n) h = let w = client_word n h in of_words 99 (codes "lose" ++ spaced_number n) (says.Command (lines.Close n)) (one_utf8 (codes "close") (decimal n) (IsUtf8-from_is_utf8 (codes "close") refl) w) (one_few (codes "close") (decimal n) (omega arith) w) refl refl (close_said n h)
 command_says (lines.Turn n) h = let w = client_word n h in of_words 116 (codes "urn" ++ spaced_number n) (says.Command (lines.Turn n)) (one_utf8 (codes "turn") (decimal n) (IsUtf8-from_is_utf8 (codes "turn") refl) w) (one_few (codes "turn") (decimal n) (omega arith) w) refl refl (turn_said n h)
 command_says (lines.Turns c k) h = let both = and_parts (in_range LARGEST_CLIENT c) (in_range LARGEST_CLIENT k) h in let v = client_word c both.0 in let w = client_word k both.1 in of_words 116 (codes "urns" ++ spaced_number c ++ spaced_number k) (says.Command (lines.Turns c k)) (two_utf8 (codes "turns") (decimal c) (decimal k) (IsUtf8-from_is_utf8 (codes "turns") refl) v w) (two_few (codes "turns") (decimal c) (decimal k) (omega arith) v w) refl refl (turns_said c k both.0 both.1)
+command_says (lines.Emit event text) h = let both = and_parts (is_event_module event) (is_word_value text) h in let v = event_word event both.0 in let w = value_word text both.1 in of_words 101 (codes "mit" ++ spaced (event_text event) ++ spaced text) (says.Command (lines.Emit event text)) (two_utf8 (codes "emit") (event_text event) text (IsUtf8-from_is_utf8 (codes "emit") refl) v w) (two_few (codes "emit") (event_text event) text (omega arith) v w) refl refl (emit_said event text both.0 both.1)
+command_says (lines.Hear n) h = let w = client_word n h in of_words 104 (codes "ear" ++ spaced_number n) (says.Command (lines.Hear n)) (one_utf8 (codes "hear") (decimal n) (IsUtf8-from_is_utf8 (codes "hear") refl) w) (one_few (codes "hear") (decimal n) (omega arith) w) refl refl (hear_said n h)
 command_says (lines.Show n) h = let w = client_word n h in of_words 115 (codes "how" ++ spaced_number n) (says.Command (lines.Show n)) (one_utf8 (codes "show") (decimal n) (IsUtf8-from_is_utf8 (codes "show") refl) w) (one_few (codes "show") (decimal n) (omega arith) w) refl refl (show_said n h)
 command_says (lines.Values n) h = let w = client_word n h in of_words 118 (codes "alues" ++ spaced_number n) (says.Command (lines.Values n)) (one_utf8 (codes "values") (decimal n) (IsUtf8-from_is_utf8 (codes "values") refl) w) (one_few (codes "values") (decimal n) (omega arith) w) refl refl (values_said n h)
 command_says (lines.Fates n) h = let w = client_word n h in of_words 102 (codes "ates" ++ spaced_number n) (says.Command (lines.Fates n)) (one_utf8 (codes "fates") (decimal n) (IsUtf8-from_is_utf8 (codes "fates") refl) w) (one_few (codes "fates") (decimal n) (omega arith) w) refl refl (fates_said n h)

@@ -1,11 +1,13 @@
--- No space and no LF stands in a name.
-use Rattle.std.proofs.Common.{ℕ, List, [], ◌∷◌, Bool, true, false, cond, ◌≡◌, refl, arith}
+-- No space and no LF stands in a name, or in an event.
+use Rattle.std.proofs.Common.{ℕ, List, [], ◌∷◌, drop, Bool, true, false, cond, ◌≡◌, refl, sym, ap, subst, ◌∙◌, arith}
 use Rattle.std.specs.Prelude.{◌==◌, ◌||◌, not}
 use Rattle.std.proofs.lemmas.Bool.{and_parts, and_from}
 use Rattle.std.proofs.lemmas.Bool.Decides.{nat_tests}
 use Rattle.std.proofs.lemmas.List.Elements.{All-cons}
 use Rattle.std.specs.List.{All, list_all, onto_first}
+use Rattle.hmr_types.specs.Event.{are_joined, colon, is_event_module, with_mark}
 use Rattle.hmr_types.specs.ModName.{is_name, is_segment, is_segment_byte, parts, slash}
+use Rattle.play_script.specs.Texts.{event_text}
 use Rattle.play_script.specs.Script.{is_line_end}
 use Rattle.hmr_types.proofs.Names.{has_segment_bytes, segment_bytes}
 
@@ -77,3 +79,39 @@ no_space-name name h = no_spaces name (bytes_of name h)
 
 pub has_no_lf-name : (name : List ℕ) → is_name name ≡ true → has_no_lf name ≡ true
 has_no_lf-name name h = no_line_ends name (bytes_of name h)
+
+joined_bytes : (path : List ℕ) → are_joined slash path ≡ true → list_all is_name_byte path ≡ true
+joined_bytes path h = name_bytes path (weaker (parts path) (and_parts _ (list_all is_segment (parts path)) h).1)
+
+event_text_is : (name : List ℕ) → is_event_module name ≡ true → event_text name ≡ with_mark slash colon (drop 7 name)
+event_text_is name h = rw h refl
+
+path_bytes : (name : List ℕ) → is_event_module name ≡ true → list_all is_name_byte (drop 7 name) ≡ true
+path_bytes name h = joined_bytes (drop 7 name) (and_parts _ (are_joined slash (drop 7 name)) h).1
+
+space_marked : (b : ℕ) (t : Bool) → is_name_byte b ≡ true → (cond t colon b == 32) ≡ false
+space_marked b true h = refl
+space_marked b false h = not_space b h
+
+spaces_marked : (path : List ℕ) → list_all is_name_byte path ≡ true → All (λ b. (b == 32) ≡ false) (with_mark slash colon path)
+spaces_marked [] h = λ k d lt. absurd (omega arith)
+spaces_marked (b ∷ bs) h =
+    let here = and_parts (is_name_byte b) (list_all is_name_byte bs) h in
+    All-cons (λ x. (x == 32) ≡ false) (cond (b == slash) colon b) (with_mark slash colon bs) (space_marked b (b == slash) here.0) (spaces_marked bs here.1)
+
+line_end_marked : (b : ℕ) (t : Bool) → is_name_byte b ≡ true → is_line_end (cond t colon b) ≡ false
+line_end_marked b true h = refl
+line_end_marked b false h = not_line_end b h
+
+line_ends_marked : (path : List ℕ) → list_all is_name_byte path ≡ true → has_no_lf (with_mark slash colon path) ≡ true
+line_ends_marked [] h = refl
+line_ends_marked (b ∷ bs) h =
+    let here = and_parts (is_name_byte b) (list_all is_name_byte bs) h in
+    and_from _ _ (ap not (line_end_marked b (b == slash) here.0)) (line_ends_marked bs here.1)
+
+pub no_space-event : (name : List ℕ) → is_event_module name ≡ true → All (λ b. (b == 32) ≡ false) (event_text name)
+no_space-event name h =
+    subst (All (λ b. (b == 32) ≡ false)) (sym (event_text_is name h)) (spaces_marked (drop 7 name) (path_bytes name h))
+
+pub has_no_lf-event : (name : List ℕ) → is_event_module name ≡ true → has_no_lf (event_text name) ≡ true
+has_no_lf-event name h = ap has_no_lf (event_text_is name h) ∙ line_ends_marked (drop 7 name) (path_bytes name h)

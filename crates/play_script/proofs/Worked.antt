@@ -26,8 +26,8 @@ roots_alone : script_of (codes "root /m.js\n\n# the other one\nroot /n.js\n") �
 unfolding is_utf8 chars is_segment_byte encode
 roots_alone = refl
 
-each_command : script_of (codes "root /m.js\nquiet\nedit /m.js\n|let a = 1;\n|\nedit /m.js\nremove /m.js\nsettle\nsettle /m.js 9007199254740991\nopen\nopen /n.js /m.js\nopen2\nopen2 /n.js\nclose 4294967295\nturn 1\nturns 2 30\nshow 1\nvalues 1\nfates 1\nfresh\nfresh 4294967295\n")
-    ≡ Ok (record { roots = m ∷ []; lines = lines.Quiet ∷ lines.Edit m (codes "let a = 1;\n\n") ∷ lines.Edit m [] ∷ lines.Remove m ∷ lines.SettleAll ∷ lines.Settle m 9007199254740991 ∷ lines.Open 1 [] ∷ lines.Open 1 (n ∷ m ∷ []) ∷ lines.Open 2 [] ∷ lines.Open 2 (n ∷ []) ∷ lines.Close 4294967295 ∷ lines.Turn 1 ∷ lines.Turns 2 30 ∷ lines.Show 1 ∷ lines.Values 1 ∷ lines.Fates 1 ∷ lines.Fresh ∷ lines.FreshOf 4294967295 ∷ [] })
+each_command : script_of (codes "root /m.js\nquiet\nedit /m.js\n|let a = 1;\n|\nedit /m.js\nremove /m.js\nsettle\nsettle /m.js 9007199254740991\nopen\nopen /n.js /m.js\nopen2\nopen2 /n.js\nclose 4294967295\nturn 1\nturns 2 30\nemit my:ping one\nemit a \nhear 1\nshow 1\nvalues 1\nfates 1\nfresh\nfresh 4294967295\n")
+    ≡ Ok (record { roots = m ∷ []; lines = lines.Quiet ∷ lines.Edit m (codes "let a = 1;\n\n") ∷ lines.Edit m [] ∷ lines.Remove m ∷ lines.SettleAll ∷ lines.Settle m 9007199254740991 ∷ lines.Open 1 [] ∷ lines.Open 1 (n ∷ m ∷ []) ∷ lines.Open 2 [] ∷ lines.Open 2 (n ∷ []) ∷ lines.Close 4294967295 ∷ lines.Turn 1 ∷ lines.Turns 2 30 ∷ lines.Emit (codes "/event/my/ping") (codes "one") ∷ lines.Emit (codes "/event/a") [] ∷ lines.Hear 1 ∷ lines.Show 1 ∷ lines.Values 1 ∷ lines.Fates 1 ∷ lines.Fresh ∷ lines.FreshOf 4294967295 ∷ [] })
 unfolding is_utf8 chars is_segment_byte encode
 each_command = refl
 
@@ -45,5 +45,9 @@ first_faults :
     × (script_of (codes "root /m.js\nopen2 /n.js 1\n") ≡ fault 2 BadName)
     × (script_of (codes "root /m.js\nfresh 0\n") ≡ fault 2 BadNumber)
     × (script_of (codes "root /m.js\nfresh 1 m\n") ≡ fault 2 WordCount)
+    × (script_of (codes "root /m.js\nemit a\n") ≡ fault 2 WordCount)
+    × (script_of (codes "root /m.js\nemit a one two\n") ≡ fault 2 WordCount)
+    × (script_of (codes "root /m.js\nemit a: one\n") ≡ fault 2 BadName)
+    × (script_of (codes "root /m.js\nhear one\n") ≡ fault 2 BadNumber)
 unfolding is_utf8 chars is_segment_byte encode
-first_faults = (refl, refl, refl, refl, refl, refl, refl, refl, refl, refl, refl, refl, refl)
+first_faults = (refl, refl, refl, refl, refl, refl, refl, refl, refl, refl, refl, refl, refl, refl, refl, refl, refl)

@@ -8,10 +8,11 @@ use Rattle.std.specs.Prelude.{not, ◌&&◌, List, [], ◌∷◌, ◌++◌, leng
 use Rattle.std.specs.Prelude.{Some, None, Result, Ok, Err, if◌then◌else◌, ◌⊎◌}
 use Rattle.std.specs.List.{list_all, list_any, slice_split}
 use Rattle.std.specs.Str.{is_utf8}
+use Rattle.hmr_types.specs.Event.{event_module, is_event}
 use Rattle.hmr_types.specs.ModName.{between, is_name, is_text}
 use Rattle.hmr_types.specs.Results.{◌>>=◌}
 use Rattle.hmr_types.specs.declared.limits.TheConstants.{LARGEST_CLIENT, LARGEST_NUMBER}
-use Rattle.hmr_types.specs.declared.limits.TheConstants.{ROOTS, SCRIPT_LINE_BYTES}
+use Rattle.hmr_types.specs.declared.limits.TheConstants.{ROOTS, SCRIPT_LINE_BYTES, VALUE_BYTES}
 use Rattle.play_script.specs.declared.draft.Draft.{Draft}
 use Rattle.play_script.specs.declared.script_line.ScriptLine.{ScriptLine}
 use Rattle.play_script.specs.declared.script_line.ScriptLine.TheVariants as lines
@@ -103,6 +104,18 @@ named word = if is_name word then Ok word else Err BadName
 abbrev pub all_named : List (List ℕ) → Result (List (List ℕ)) ScriptKind
 all_named ws = if list_all is_name ws then Ok ws else Err BadName
 
+-- the module of the event that a word names
+abbrev pub event_named : List ℕ → Result (List ℕ) ScriptKind
+event_named word = if is_event word then Ok (event_module word) else Err BadName
+
+-- a text that is a value of the module language
+abbrev pub is_text_value : List ℕ → Bool
+is_text_value text = is_utf8 text && nat_le (length text) VALUE_BYTES
+
+-- the text that a word is
+abbrev pub text_value : List ℕ → Result (List ℕ) ScriptKind
+text_value word = if is_text_value word then Ok word else Err BadName
+
 -- the one word
 abbrev pub one_word : List (List ℕ) → Result (List ℕ) ScriptKind
 one_word [] = Err WordCount
@@ -141,6 +154,14 @@ turns (client ∷ most ∷ []) =
     >>= λ k. Ok (says.Command (lines.Turns c k))
 turns (client ∷ most ∷ other ∷ more) = Err WordCount
 
+-- `emit`, with the name of an event and a text
+abbrev pub emission : List (List ℕ) → Result Said ScriptKind
+emission [] = Err WordCount
+emission (word ∷ []) = Err WordCount
+emission (event ∷ text ∷ []) =
+    event_named event >>= λ e. text_value text >>= λ t. Ok (says.Command (lines.Emit e t))
+emission (event ∷ text ∷ other ∷ more) = Err WordCount
+
 -- `fresh`, alone or with a client
 abbrev pub fresh : List (List ℕ) → Result Said ScriptKind
 fresh [] = Ok (says.Command lines.Fresh)
@@ -159,6 +180,8 @@ command first.Open2 ws = opening 2 ws
 command first.Close ws = one_client ws >>= λ client. Ok (says.Command (lines.Close client))
 command first.Turn ws = one_client ws >>= λ client. Ok (says.Command (lines.Turn client))
 command first.Turns ws = turns ws
+command first.Emit ws = emission ws
+command first.Hear ws = one_client ws >>= λ client. Ok (says.Command (lines.Hear client))
 command first.Show ws = one_client ws >>= λ client. Ok (says.Command (lines.Show client))
 command first.Values ws = one_client ws >>= λ client. Ok (says.Command (lines.Values client))
 command first.Fates ws = one_client ws >>= λ client. Ok (says.Command (lines.Fates client))
@@ -177,6 +200,8 @@ known_word w =
     else if is_text w (codes "close") then Ok first.Close
     else if is_text w (codes "turn") then Ok first.Turn
     else if is_text w (codes "turns") then Ok first.Turns
+    else if is_text w (codes "emit") then Ok first.Emit
+    else if is_text w (codes "hear") then Ok first.Hear
     else if is_text w (codes "show") then Ok first.Show
     else if is_text w (codes "values") then Ok first.Values
     else if is_text w (codes "fates") then Ok first.Fates

@@ -3,13 +3,14 @@ use Rattle.std.specs.Prelude.{◌≡◌, ◌∷◌, ◌++◌, ◌&&◌, ◌==◌
 use Rattle.std.specs.Prelude.{ℕ, length, Bool, true, not, nat_le, nat_lt, if◌then◌else◌, List, codes, map}
 use Rattle.std.specs.List.{flat_map, list_all, list_any}
 use Rattle.std.specs.Str.{is_utf8}
+use Rattle.hmr_types.specs.Event.{is_event_module}
 use Rattle.hmr_types.specs.ModName.{is_name, is_text}
 use Rattle.hmr_types.specs.declared.limits.TheConstants.{LARGEST_CLIENT, LARGEST_NUMBER}
 use Rattle.hmr_types.specs.declared.limits.TheConstants.{ROOTS, SCRIPT_LINE_BYTES}
 use Rattle.play_script.specs.declared.script_line.ScriptLine.{ScriptLine}
 use Rattle.play_script.specs.declared.script_line.ScriptLine.TheVariants as lines
-use Rattle.play_script.specs.Texts.{names_text, spaced, spaced_number}
-use Rattle.play_script.specs.Script.{Contents, Line, is_empty, lines_from}
+use Rattle.play_script.specs.Texts.{event_text, names_text, spaced, spaced_number}
+use Rattle.play_script.specs.Script.{Contents, Line, is_empty, is_line_end, is_text_value, lines_from}
 
 -- the word that opens a client of this format
 abbrev pub open_word : ℕ → List ℕ
@@ -26,6 +27,8 @@ command_text (lines.Open format roots) = open_word format ++ names_text roots
 command_text (lines.Close client) = codes "close" ++ spaced_number client
 command_text (lines.Turn client) = codes "turn" ++ spaced_number client
 command_text (lines.Turns client most) = codes "turns" ++ spaced_number client ++ spaced_number most
+command_text (lines.Emit event text) = codes "emit" ++ spaced (event_text event) ++ spaced text
+command_text (lines.Hear client) = codes "hear" ++ spaced_number client
 command_text (lines.Show client) = codes "show" ++ spaced_number client
 command_text (lines.Values client) = codes "values" ++ spaced_number client
 command_text (lines.Fates client) = codes "fates" ++ spaced_number client
@@ -69,6 +72,11 @@ is_opening format roots =
     in_range 2 format && list_all is_name roots
     && nat_le (length (open_word format ++ names_text roots)) SCRIPT_LINE_BYTES
 
+-- a text value that is one word of a line: no space and no LF stands in it
+abbrev pub is_word_value : List ℕ → Bool
+is_word_value text =
+    is_text_value text && list_all (λ b. not (b == 32)) text && list_all (λ b. not (is_line_end b)) text
+
 -- a command whose names are names, whose numbers are in their range, and whose text is lines that fit
 abbrev pub is_writable : ScriptLine → Bool
 is_writable (lines.Edit name text) = is_name name && list_all fits (lines_from [] text)
@@ -78,6 +86,8 @@ is_writable (lines.Open format roots) = is_opening format roots
 is_writable (lines.Close client) = in_range LARGEST_CLIENT client
 is_writable (lines.Turn client) = in_range LARGEST_CLIENT client
 is_writable (lines.Turns client most) = in_range LARGEST_CLIENT client && in_range LARGEST_CLIENT most
+is_writable (lines.Emit event text) = is_event_module event && is_word_value text
+is_writable (lines.Hear client) = in_range LARGEST_CLIENT client
 is_writable (lines.Show client) = in_range LARGEST_CLIENT client
 is_writable (lines.Values client) = in_range LARGEST_CLIENT client
 is_writable (lines.Fates client) = in_range LARGEST_CLIENT client

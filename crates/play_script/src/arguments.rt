@@ -1,14 +1,18 @@
 // The words after a command's first: names, and numbers in their range.
-ghost use Rattle.std.specs.Prelude.{◌≡◌, ◌≤◌, IfOk, IfSome, map};
+ghost use Rattle.std.specs.Prelude.{◌≡◌, ◌≤◌, IfOk, IfSome, None, Some, if◌then◌else◌, map, option_map};
 ghost use Rattle.std.specs.List.{list_all};
+ghost use Rattle.std.specs.Str.{is_utf8};
+ghost use Rattle.hmr_types.specs.Event.{is_event};
 ghost use Rattle.hmr_types.specs.ModName.{between};
 ghost use Rattle.play_script.specs.Script.{Gives, named, all_named, number, number_of, up_to};
+ghost use Rattle.play_script.specs.Script.{event_named, text_value};
 ghost use Rattle.play_script.specs.Script.{digits_value, is_digit, with_digit, one_word};
 
 use crate::fault::{Refusal, ScriptKind};
-use hmr_types::limits::{LARGEST_CLIENT, LARGEST_NUMBER};
-use hmr_types::{ClientId, ModName, NameFault, Sequence, Ver};
+use hmr_types::limits::{LARGEST_CLIENT, LARGEST_NUMBER, VALUE_BYTES};
+use hmr_types::{ClientId, ModName, NameFault, Sequence, Text, Ver, event_module, is_event};
 use std::alloc::Global;
+use std::str;
 
 /// The one word that there is to be.
 pub fn only_word<'a>(words: &[&'a [u8]]) -> Result<&'a [u8], Refusal>
@@ -41,6 +45,44 @@ pub fn read_names(alloc: Global, words: &[&[u8]]) -> Result<Sequence<ModName>, R
         names.push(name)?;
     }
     Ok(Sequence::from_vec(names))
+}
+
+/// The module of the event that a word names.
+pub fn read_event(alloc: Global, word: &[u8]) -> Result<ModName, Refusal>
+    ensures { Gives (λ name. name) result (event_named word.now) }
+{
+    let Some(event) = event_of(word) else {
+        return Err(Refusal::Fault(ScriptKind::BadName));
+    };
+    let module = event_module(alloc, event)?;
+    read_name(alloc, module.as_str().as_bytes())
+}
+
+fn event_of(word: &[u8]) -> Option<&str>
+    ensures { option_map (λ event. event.now) result ≡ (if is_event word.now then Some word.now else None) }
+{
+    if is_event(word) { utf8_of(word) } else { None }
+}
+
+/// The text that a word is, as a value of the module language.
+pub fn read_text(alloc: Global, word: &[u8]) -> Result<Text, Refusal>
+    ensures { Gives (λ text. text) result (text_value word.now) }
+{
+    match utf8_of(word) {
+        Some(text) if text.len() <= VALUE_BYTES => {
+            Ok(Text::from_string(String::from_str(alloc, text)?))
+        }
+        _ => Err(Refusal::Fault(ScriptKind::BadName)),
+    }
+}
+
+fn utf8_of(word: &[u8]) -> Option<&str>
+    ensures { option_map (λ text. text.now) result ≡ (if is_utf8 word.now then Some word.now else None) }
+{
+    match str::from_utf8(word) {
+        Ok(text) => Some(text),
+        Err(_) => None,
+    }
 }
 
 /// The number of a client, or of turns, that a word is.

@@ -1,5 +1,5 @@
 // The commands of a script.
-use hmr_types::{ClientId, ModName, Sequence, Ver};
+use hmr_types::{ClientId, ModName, Sequence, Text, Ver};
 
 /// One command of a script.
 #[derive(Drop)]
@@ -23,6 +23,11 @@ pub enum ScriptLine {
     Turn(ClientId),
     /// `turns C K`: turns of a client until it is caught up, at most K.
     Turns(ClientId, u32),
+    /// `emit EVENT WORD`: emits an event, named here by its module, whose value is this text of at most
+    /// 4,096 bytes.
+    Emit(ModName, Text),
+    /// `hear C`: lets a client hear the first event that waits for it.
+    Hear(ClientId),
     /// `show C`: writes whether a client is caught up, its table and its stale edges.
     Show(ClientId),
     /// `values C`: writes the exports of a client's live modules.

@@ -3,9 +3,11 @@ ghost use Rattle.std.specs.Prelude.{◌≡◌, IfOk, map};
 ghost use Rattle.hmr_types.specs.ModName.{is_text};
 ghost use Rattle.play_script.specs.Script.{Gives, whole_line_in, words, said_in, in_form};
 ghost use Rattle.play_script.specs.Script.{command, known_word, no_word, one_name, one_client};
-ghost use Rattle.play_script.specs.Script.{opening, settle, turns, fresh};
+ghost use Rattle.play_script.specs.Script.{opening, settle, turns, emission, fresh};
 
-use crate::arguments::{only_word, read_count, read_name, read_names, read_version};
+use crate::arguments::{
+    only_word, read_count, read_event, read_name, read_names, read_text, read_version,
+};
 use crate::fault::{Refusal, ScriptKind};
 use crate::form::Form;
 use crate::script_line::ScriptLine;
@@ -35,6 +37,10 @@ pub enum Word {
     Turn,
     /// `turns`
     Turns,
+    /// `emit`
+    Emit,
+    /// `hear`
+    Hear,
     /// `show`
     Show,
     /// `values`
@@ -105,6 +111,8 @@ fn read_command(alloc: Global, word: Word, arguments: &[&[u8]]) -> Result<Said, 
         Word::Close => Ok(Said::Command(ScriptLine::Close(read_client(arguments)?))),
         Word::Turn => Ok(Said::Command(ScriptLine::Turn(read_client(arguments)?))),
         Word::Turns => read_turns(arguments),
+        Word::Emit => read_emission(alloc, arguments),
+        Word::Hear => Ok(Said::Command(ScriptLine::Hear(read_client(arguments)?))),
         Word::Show => Ok(Said::Command(ScriptLine::Show(read_client(arguments)?))),
         Word::Values => Ok(Said::Command(ScriptLine::Values(read_client(arguments)?))),
         Word::Fates => Ok(Said::Command(ScriptLine::Fates(read_client(arguments)?))),
@@ -169,6 +177,19 @@ fn read_turns(arguments: &[&[u8]]) -> Result<Said, Refusal>
     }
 }
 
+fn read_emission(alloc: Global, arguments: &[&[u8]]) -> Result<Said, Refusal>
+    ensures { Gives (λ s. s) result (emission (map (λ w. w.now) arguments.now)) }
+{
+    match arguments {
+        [event, text] => {
+            let event = read_event(alloc, event)?;
+            let text = read_text(alloc, text)?;
+            Ok(Said::Command(ScriptLine::Emit(event, text)))
+        }
+        _ => Err(Refusal::Fault(ScriptKind::WordCount)),
+    }
+}
+
 fn read_fresh(arguments: &[&[u8]]) -> Result<Said, Refusal>
     ensures { Gives (λ s. s) result (fresh (map (λ w. w.now) arguments.now)) }
 {
@@ -214,6 +235,12 @@ fn known_word(word: &[u8]) -> Result<Word, Refusal>
     }
     if is_text(word, b"turns") {
         return Ok(Word::Turns);
+    }
+    if is_text(word, b"emit") {
+        return Ok(Word::Emit);
+    }
+    if is_text(word, b"hear") {
+        return Ok(Word::Hear);
     }
     if is_text(word, b"show") {
         return Ok(Word::Show);

@@ -2,6 +2,7 @@
 use Rattle.std.proofs.Common.{ℕ, List, [], ◌∷◌, ◌≡◌, refl}
 use Rattle.std.specs.Prelude.{codes, pos, negsuc}
 use Rattle.std.specs.Fmt.{digits}
+use Rattle.hmr_types.specs.ModName.{is_segment_byte}
 use Rattle.hmr_types.specs.declared.analysis.FaultWord.TheVariants as fault_words
 use Rattle.output_lines.specs.declared.out_line.OutLine.TheVariants as lines
 use Rattle.hmr_types.specs.declared.value.Slot.TheVariants as slots
@@ -82,10 +83,14 @@ of_a_client :
     × (line_text (lines.Invalidated 1 m (codes "changed 2")) ≡ codes "1 invalidated /m.js changed 2\n")
     × (line_text (lines.Invalidated 1 m []) ≡ codes "1 invalidated /m.js\n")
     × (line_text (lines.Ignored 1 m) ≡ codes "1 ignored /m.js\n")
+    × (line_text (lines.Full 1 (codes "/event/my/ping")) ≡ codes "1 full my:ping\n")
+    × (line_text (lines.Quiet 1) ≡ codes "1 quiet\n")
+    × (line_text (lines.Busy 1) ≡ codes "1 busy\n")
+    × (line_text (lines.Event 4294967295 (codes "/event/a")) ≡ codes "4294967295 event a\n")
     × (line_text (lines.Ended 0 ending_words.Link) ≡ codes "0 ended link\n")
     × (line_text (lines.Ended 1 ending_words.Instances) ≡ codes "1 ended instances\n")
-unfolding digits
-of_a_client = (refl, refl, refl, refl, refl, refl, refl, refl, refl, refl, refl, refl, refl, refl, refl, refl, refl, refl, refl, refl, refl, refl, refl, refl, refl, refl, refl, refl, refl, refl, refl)
+unfolding digits is_segment_byte
+of_a_client = (refl, refl, refl, refl, refl, refl, refl, refl, refl, refl, refl, refl, refl, refl, refl, refl, refl, refl, refl, refl, refl, refl, refl, refl, refl, refl, refl, refl, refl, refl, refl, refl, refl, refl, refl)
 
 of_reports :
     (line_text (lines.Client 1 state_words.Up) ≡ codes "client 1 up\n")

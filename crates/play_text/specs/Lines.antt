@@ -2,7 +2,7 @@
 use Rattle.std.specs.Prelude.{ℕ, List, ◌++◌, codes, decimal}
 use Rattle.std.specs.List.{flat_map}
 use Rattle.std.specs.Fmt.{signed_decimal}
-use Rattle.play_script.specs.Texts.{names_text, spaced, spaced_number}
+use Rattle.play_script.specs.Texts.{event_text, names_text, spaced, spaced_number}
 use Rattle.play_text.specs.Texts.{of_client, escaped, quoted, after_space}
 use Rattle.play_text.specs.Words.{fault_word, refusal_word, plan_word, cause_word, place_word}
 use Rattle.play_text.specs.Words.{kind_word, state_word, end_word, status_word, ending_word}
@@ -119,6 +119,10 @@ body_text (lines.NoHost client name label) =
 body_text (lines.Invalidated client name message) =
     of_client client (codes " invalidated ") ++ name ++ after_space message
 body_text (lines.Ignored client name) = of_client client (codes " ignored ") ++ name
+body_text (lines.Full client event) = of_client client (codes " full ") ++ event_text event
+body_text (lines.Quiet client) = of_client client (codes " quiet")
+body_text (lines.Busy client) = of_client client (codes " busy")
+body_text (lines.Event client event) = of_client client (codes " event ") ++ event_text event
 body_text (lines.Ended client word) = of_client client (codes " ended ") ++ ending_word word
 body_text (lines.Client client state) = codes "client " ++ decimal client ++ spaced (state_word state)
 body_text (lines.Module name version) = name ++ spaced_number version

@@ -1,7 +1,7 @@
 // The forms of the lines, each put by one small function.
 ghost use Rattle.std.specs.Prelude.{◌≡◌, ◌++◌, OnOk, decimal};
 ghost use Rattle.output_lines.specs.declared.out_line.OutLine.TheVariants as lines;
-ghost use Rattle.play_script.specs.Texts.{names_text, spaced};
+ghost use Rattle.play_script.specs.Texts.{event_text, names_text, spaced};
 ghost use Rattle.play_text.specs.Texts.{after_space, of_client};
 ghost use Rattle.play_text.specs.Lines.{body_text};
 
@@ -10,7 +10,7 @@ use crate::outcomes::{
     put_remove, put_result, put_slot,
 };
 use crate::pieces::{
-    put, put_escaped, put_names, put_number, put_of, put_spaced, put_spaced_number,
+    put, put_escaped, put_event, put_names, put_number, put_of, put_spaced, put_spaced_number,
 };
 use crate::word_texts::{cause_str, end_str, kind_str, place_str, state_str};
 use hmr_types::{
@@ -219,6 +219,19 @@ pub fn put_error_line(
     put_of_text(out, client, " error ", name.as_str())?;
     put(out, " ")?;
     put_fault_at(out, line, column, word)
+}
+
+/// Puts the number of a client, a word and an event.
+pub fn put_event_line(
+    out: &mut Vec<u8>,
+    client: ClientId,
+    word: &str,
+    event: &ModName,
+) -> Result<(), AllocError>
+    ensures { OnOk result (out.new.items ≡ out.old.items ++ (of_client client word.now ++ event_text event.now)) }
+{
+    put_of(out, client, word)?;
+    put_event(out, event)
 }
 
 /// Puts the line of a body that went wrong.

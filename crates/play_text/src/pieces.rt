@@ -3,10 +3,12 @@
 ghost use Rattle.std.specs.Prelude.{◌≡◌, ◌++◌, OnOk, decimal};
 ghost use Rattle.std.specs.List.{flat_map};
 ghost use Rattle.std.specs.Fmt.{signed_decimal};
-ghost use Rattle.play_script.specs.Texts.{names_text, spaced, spaced_number};
+ghost use Rattle.hmr_types.specs.Event.{colon, with_mark};
+ghost use Rattle.hmr_types.specs.ModName.{slash};
+ghost use Rattle.play_script.specs.Texts.{event_text, names_text, spaced, spaced_number};
 ghost use Rattle.play_text.specs.Texts.{of_client, escaped, quoted, quoted_byte};
 
-use hmr_types::ModName;
+use hmr_types::{ModName, event_path};
 use std::alloc::AllocError;
 
 /// Puts a word.
@@ -62,6 +64,25 @@ pub fn put_names(out: &mut Vec<u8>, names: &[ModName]) -> Result<(), AllocError>
 {
     for name in names {
         put_spaced(out, name.as_str())?;
+    }
+    Ok(())
+}
+
+/// Puts an event, by the module that stands for it: its name, with `:` for each `/`.
+pub fn put_event(out: &mut Vec<u8>, name: &ModName) -> Result<(), AllocError>
+    ensures { OnOk result (out.new.items ≡ out.old.items ++ event_text name.now) }
+{
+    match event_path(name.as_bytes()) {
+        Some(path) => put_with_colons(out, path),
+        None => put(out, name.as_str()),
+    }
+}
+
+fn put_with_colons(out: &mut Vec<u8>, path: &[u8]) -> Result<(), AllocError>
+    ensures { OnOk result (out.new.items ≡ out.old.items ++ with_mark slash colon path.now) }
+{
+    for byte in path {
+        out.push(if *byte == b'/' { b':' } else { *byte })?;
     }
     Ok(())
 }

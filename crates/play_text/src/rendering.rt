@@ -4,11 +4,11 @@ ghost use Rattle.play_text.specs.Lines.{line_text, body_text};
 
 use crate::line_forms::{
     put_aborted_line, put_accept_line, put_batch_line, put_client_line, put_counted, put_edit_line,
-    put_error_line, put_fault_line, put_handler_line, put_instance_line, put_module,
-    put_nohost_line, put_of_message, put_of_names, put_of_text, put_pair, put_reload_line,
-    put_remove_line, put_settle_line, put_triple, put_value_line, put_worded,
+    put_error_line, put_event_line, put_fault_line, put_handler_line, put_instance_line,
+    put_module, put_nohost_line, put_of_message, put_of_names, put_of_text, put_pair,
+    put_reload_line, put_remove_line, put_settle_line, put_triple, put_value_line, put_worded,
 };
-use crate::pieces::put;
+use crate::pieces::{put, put_of};
 use crate::word_texts::{ending_str, plan_str};
 use output_lines::OutLine;
 use std::alloc::{AllocError, Global};
@@ -102,6 +102,10 @@ fn put_body(out: &mut Vec<u8>, line: &OutLine) -> Result<(), AllocError>
             message,
         } => put_of_message(out, *client, " invalidated ", name, message),
         OutLine::Ignored { client, name } => put_of_text(out, *client, " ignored ", name.as_str()),
+        OutLine::Full { client, event } => put_event_line(out, *client, " full ", event),
+        OutLine::Quiet { client } => put_of(out, *client, " quiet"),
+        OutLine::Busy { client } => put_of(out, *client, " busy"),
+        OutLine::Event { client, event } => put_event_line(out, *client, " event ", event),
         OutLine::Ended { client, word } => put_of_text(out, *client, " ended ", ending_str(*word)),
         OutLine::Client { client, state } => put_client_line(out, *client, *state),
         OutLine::Module { name, version } => put_module(out, name, *version),

@@ -1,6 +1,6 @@
 -- What is known of a run of `serve` or `join` as one of the program: the definitions of the other commands' output
 -- give none for them.
-use Rattle.std.proofs.Common.{◌≡◌, ℕ, true, false, List, Option, Some, None, is_some, arith, ap, sym, refl, ◌∙◌, inl, inr}
+use Rattle.std.proofs.Common.{◌≡◌, ℕ, true, List, Option, Some, None, is_some, arith, ap, sym, refl, ◌∙◌, inl, inr}
 use Prim.{⊥}
 use Rattle.std.specs.Io.KnownBytes.{IsAtEnd, Keeps}
 use Rattle.std.proofs.Math.Path.{subst}
@@ -10,9 +10,9 @@ use Rattle.core_model.specs.Sources.{Text}
 use Rattle.command_words.specs.declared.command.Command.{Command}
 use Rattle.command_words.specs.declared.command.Command.TheVariants as commands
 use Rattle.command_words.specs.declared.command.ServePlan.{ServePlan}
-use Rattle.input_commands.specs.Outputs.{Output, output_meant, reads_input}
+use Rattle.input_commands.specs.Outputs.{Output, output_meant}
 use Rattle.top_call.specs.Outside.{IsJoinStatus, IsServeStatus}
-use Rattle.top_call.specs.Runs.{AnswersWords, IsComplete, ReadsInput, WritesOutput}
+use Rattle.input_commands.specs.Runs.{AnswersWords, IsComplete, ReadsInput, WritesOutput}
 
 -- nothing is said of an output that isn't given
 pub nothing_written : (output : Option Output) (old new : Option (List ℕ)) (before now status : ℕ)
@@ -79,8 +79,8 @@ serve_reads command plan left before now old new status is end unread silent =
     subst (λ c. ReadsInput c left before now old new status) (sym is) (record {
       end = end;
       unread = λ four. (unread four).1;
-      unread_silent = silent;
-      unread_reads = λ four. (unread four).0;
+      unread_silent = λ four whole. silent four;
+      unread_reads = λ four whole. (unread four).0;
     })
 
 -- `join` doesn't read it
@@ -92,6 +92,6 @@ join_reads command port roots turns left before now old new status is known =
     subst (λ c. ReadsInput c left before now old new status) (sym is) (record {
       end = λ zero reads. absurd (false≢true reads);
       unread = λ four. absurd (join_not_four status known four);
-      unread_silent = λ four. absurd (join_not_four status known four);
-      unread_reads = λ four. absurd (join_not_four status known four);
+      unread_silent = λ four whole. absurd (join_not_four status known four);
+      unread_reads = λ four whole. absurd (join_not_four status known four);
     })

@@ -1,2 +1,3 @@
 pub mod Shortness
 pub mod Apart
+pub mod Paged

@@ -20,7 +20,7 @@ use Rattle.play_script.specs.declared.words.Said.TheVariants as says
 use Rattle.hub_editor.specs.Edits.{length_of}
 use Rattle.play_script.specs.declared.fault.ScriptFault.{ScriptFault}
 use Rattle.play_script.specs.Edits.{Edit, edits_among, edits_in, edits_of}
-use Rattle.play_script.specs.Script.{Line, all_named, beginning, checked, command, command_of, commands, cut_line, fresh, is_line_end, known_word, lines_from, no_word, number, one_client, one_name, named, said_in, settle, text_below, text_of, text_with, turns, whole_line, with_first, words}
+use Rattle.play_script.specs.Script.{Line, all_named, beginning, checked, command, command_of, commands, cut_line, emission, event_named, fresh, is_line_end, known_word, lines_from, no_word, number, one_client, one_name, named, said_in, settle, text_below, text_of, text_value, text_with, turns, whole_line, with_first, words}
 use Rattle.hmr_types.specs.declared.limits.TheConstants.{LARGEST_CLIENT, LARGEST_NUMBER}
 
 -- P holds of each element, by cases on the list
@@ -86,6 +86,12 @@ turns_fits n (client ∷ most ∷ []) =
     bind_any n (number LARGEST_CLIENT client) _ (λ c. bind_any n (number LARGEST_CLIENT most) _ (λ k. tt))
 turns_fits n (client ∷ most ∷ other ∷ more) = tt
 
+emission_fits : (n : ℕ) (ws : List (List ℕ)) → Fits n (emission ws)
+emission_fits n [] = tt
+emission_fits n (w ∷ []) = tt
+emission_fits n (event ∷ text ∷ []) = bind_any n (event_named event) _ (λ e. bind_any n (text_value text) _ (λ t. tt))
+emission_fits n (event ∷ text ∷ other ∷ more) = tt
+
 fresh_fits : (n : ℕ) (ws : List (List ℕ)) → Fits n (fresh ws)
 fresh_fits n [] = tt
 fresh_fits n (client ∷ []) = bind_any n (number LARGEST_CLIENT client) _ (λ c. tt)
@@ -102,6 +108,8 @@ command_fits n first.Open2 ws h = bind_any n (all_named ws) _ (λ roots. tt)
 command_fits n first.Close ws h = bind_any n (one_client ws) _ (λ client. tt)
 command_fits n first.Turn ws h = bind_any n (one_client ws) _ (λ client. tt)
 command_fits n first.Turns ws h = turns_fits n ws
+command_fits n first.Emit ws h = emission_fits n ws
+command_fits n first.Hear ws h = bind_any n (one_client ws) _ (λ client. tt)
 command_fits n first.Show ws h = bind_any n (one_client ws) _ (λ client. tt)
 command_fits n first.Values ws h = bind_any n (one_client ws) _ (λ client. tt)
 command_fits n first.Fates ws h = bind_any n (one_client ws) _ (λ client. tt)
@@ -186,6 +194,8 @@ command_edit (lines.Open format roots) m after n h all = longer_edits m (n + m) 
 command_edit (lines.Close i) m after n h all = longer_edits m (n + m) (edits_among after) (omega arith) all
 command_edit (lines.Turn i) m after n h all = longer_edits m (n + m) (edits_among after) (omega arith) all
 command_edit (lines.Turns i k) m after n h all = longer_edits m (n + m) (edits_among after) (omega arith) all
+command_edit (lines.Emit event text) m after n h all = longer_edits m (n + m) (edits_among after) (omega arith) all
+command_edit (lines.Hear i) m after n h all = longer_edits m (n + m) (edits_among after) (omega arith) all
 command_edit (lines.Show i) m after n h all = longer_edits m (n + m) (edits_among after) (omega arith) all
 command_edit (lines.Values i) m after n h all = longer_edits m (n + m) (edits_among after) (omega arith) all
 command_edit (lines.Fates i) m after n h all = longer_edits m (n + m) (edits_among after) (omega arith) all

@@ -1,2 +1,2 @@
-pub mod Runs
 pub mod Outside
+pub mod Paged

@@ -1,5 +1,5 @@
--- What `serve` and `join` answer and write.
-use Rattle.std.specs.Prelude.{◌≡◌, ◌≤◌, ◌<◌, ◌⊎◌, ℕ, ⊤, Bool, true, false, List, [], ◌∷◌}
+-- What is answered, and what `serve` and `join` write.
+use Rattle.std.specs.Prelude.{◌≡◌, ◌≢◌, ◌≤◌, ◌<◌, ◌⊎◌, ℕ, ⊤, Bool, true, false, List, [], ◌∷◌}
 use Rattle.std.specs.Prelude.{length, Option, Some, None, Result, Ok, Err, IfSome}
 use Rattle.std.specs.Io.KnownBytes.{Appends, Keeps}
 use Prim.{⊥}
@@ -28,6 +28,10 @@ use Rattle.input_commands.specs.declared.stop.Stop.{Stop}
 use Rattle.input_commands.specs.declared.stop.Stop.TheVariants.{NotACommand, TooLong, TextTooLong, Faulty}
 use Rattle.input_commands.specs.declared.stop.Stop.TheVariants.{Unread, Unwritten, InstancesFull, NoMemory}
 use Rattle.input_commands.specs.Outputs.{fault_line, input_limit, instances_limit}
+
+-- no other status is answered
+abbrev pub IsStatus : ℕ → Type 0
+IsStatus n = n ≤ 10 × (n ≢ 1)
 
 -- the status of a server's end
 abbrev pub status_of_serve : Result (Unit {0}) ServeStop → ℕ
@@ -174,6 +178,7 @@ IfServe (Some (commands.Check name)) told = ⊤
 IfServe (Some (commands.Make count seed)) told = ⊤
 IfServe (Some (commands.Serve plan)) told = told plan
 IfServe (Some (commands.Join port roots turns)) told = ⊤
+IfServe (Some (commands.Page folder)) told = ⊤
 
 -- of the port, the roots and the turns of `join`, where the words are that command
 abbrev pub IfJoin : Option Command → (ℕ → List (List ℕ) → ℕ → Type 0) → Type 0
@@ -183,6 +188,7 @@ IfJoin (Some (commands.Check name)) told = ⊤
 IfJoin (Some (commands.Make count seed)) told = ⊤
 IfJoin (Some (commands.Serve plan)) told = ⊤
 IfJoin (Some (commands.Join port roots turns)) told = told port roots turns
+IfJoin (Some (commands.Page folder)) told = ⊤
 
 abbrev pub is_join : Option Command → Bool
 is_join None = false
@@ -191,6 +197,7 @@ is_join (Some (commands.Check name)) = false
 is_join (Some (commands.Make count seed)) = false
 is_join (Some (commands.Serve plan)) = false
 is_join (Some (commands.Join port roots turns)) = true
+is_join (Some (commands.Page folder)) = false
 
 -- what the net may have been asked first: nothing, or by `serve` to listen, or by `join` to connect
 abbrev pub MayAsk : Option Command → Option Asked → Type 0
@@ -198,7 +205,8 @@ MayAsk (Some (commands.Serve plan)) asked = (asked ≡ None) ⊎ (asked ≡ Some
 MayAsk (Some (commands.Join port roots turns)) asked = (asked ≡ None) ⊎ (asked ≡ Some (Connect port))
 MayAsk other asked = asked ≡ None
 
--- which folder the tree may have been asked for: none, or by `serve` that of its plan
+-- which folder the tree may have been asked for: none, or by `serve` that of its plan, or by `page` its own
 abbrev pub MayHaveOpened : Option Command → Option (List ℕ) → Type 0
 MayHaveOpened (Some (commands.Serve plan)) asked = MayOpen asked plan.folder
+MayHaveOpened (Some (commands.Page folder)) asked = MayOpen asked folder
 MayHaveOpened other asked = asked ≡ None

@@ -8,19 +8,21 @@ ghost use Rattle.play_script.specs.Script.{script_of};
 ghost use Rattle.command_words.specs.Words.{command_of};
 ghost use Rattle.jobs.specs.Begun.{none_begun};
 ghost use Rattle.input_commands.specs.Headline.{ShowsAreFresh};
-ghost use Rattle.input_commands.specs.Outputs.{output_of, reads_input};
-ghost use Rattle.top_call.specs.Outside.{HasServed, IfJoin, IfServe, IsJoined, MayAsk};
+ghost use Rattle.input_commands.specs.Outputs.{is_page, output_of, reads_input};
+ghost use Rattle.input_commands.specs.Runs.{AnswersWords, IsComplete, ReadsInput, WritesOutput};
+ghost use Rattle.top_call.specs.Outside.{HasServed, IfJoin, IfServe, IsJoined, IsStatus, MayAsk};
 ghost use Rattle.top_call.specs.Outside.{MayHaveOpened, is_join, opening_of};
-ghost use Rattle.top_call.specs.Runs.{AnswersWords, IsComplete, IsStatus, ReadsInput, WritesOutput};
+ghost use Rattle.top_call.specs.Paged.{IfPage, IsPaged};
 
 use crate::join::join_server;
+use crate::page::page_folder;
 use crate::serve::serve_folder;
 use command_words::{Command, read_words};
 use const_eval::Ran;
 use folders::Tree;
 use handler_table::Shelf;
 use hmr_base::{Sink, Source};
-use input_commands::run_alone;
+use input_commands::{discard, run_alone};
 use jobs::{Gate, Spawner};
 use links::Net;
 use retained_data::Bag;
@@ -36,16 +38,18 @@ use std::thread::Threads;
 /// nothing: it plays the script of a page of N modules that the seed gives, and writes one line that sums
 /// the run up. What there is to write for these and an input is the definition `output_of`. `serve FOLDER
 /// ROOT..` serves the modules of a folder, with the edits of the input where its words ask for them. `join
-/// PORT` is one client to a server on this machine, with the closures of the first shelf.
+/// PORT` is one client to a server on this machine, with the closures of the first shelf. `page FOLDER`
+/// answers the HTTP requests of the input by the modules of a folder.
 ///
 /// 0: the whole output is written, and a command that reads the input read it to its end. 2: the words are
 /// no command; the usage line is written. 3: the input of `play` is no script, or that of `serve` no edits;
-/// the line of its first fault is written. 4: the input failed; nothing is written. 5: the output failed; a
-/// front of the output is written. 6: the folder failed, in `serve`. 7: the net, an end of a connection or
-/// the start of a thread failed, in `serve` and `join`. 8: a limit was passed, whose line is written last:
-/// of the input, a text, the names, the sources, the transcript or the passes, or of a client's instances.
-/// 9: memory ran out; a front of the output is written. 10: what the server sent is no answer, in `join`. A
-/// cause keeps its status where its line can't be written.
+/// the line of its first fault is written. 4: the input failed; nothing is written, but for the answers of
+/// `page` so far. 5: the output failed; a front of the output is written. 6: the folder failed, in `serve`
+/// and `page`. 7: the net, an end of a connection or the start of a thread failed, in `serve` and `join`. 8:
+/// a limit was passed, whose line is written last: of the input, a text, the names, the sources, the
+/// transcript or the passes, of a client's instances, or of the answers of `page`. 9: memory ran out; a front
+/// of the output is written. 10: what the server sent is no answer, in `join`. A cause keeps its status where
+/// its line can't be written.
 ///
 /// `fresh_load`: at each place of a script where a client is shown and is up, its lines are those of the
 /// modules that a fresh load of its own roots writes there, and behind them stale edges alone.
@@ -88,7 +92,7 @@ where
     ensures input { ReadsInput (command_of (map string_bytes words.now)) (S.left input.new)
         (S.faults input.old) (S.faults input.new) (K.written out.old) (K.written out.new) result }
     ensures untouched { reads_input (command_of (map string_bytes words.now)) ≡ false
-        → input.new ≡ input.old }
+        → is_page (command_of (map string_bytes words.now)) ≡ false → input.new ≡ input.old }
     ensures unwritten { result ≡ 5 → Rose (K.faults out.old) (K.faults out.new) }
     ensures fresh_load { IfSome (S.left input.old) (λ bytes.
         ShowsAreFresh (map marks_of shelves.items) (script_of bytes)) }
@@ -101,6 +105,10 @@ where
         → P.begun spawner.new ≡ plan.workers ∷ (plan.clients + plan.outside) ∷ plan.clients ∷ []) }
     ensures joined { IfJoin (command_of (map string_bytes words.now)) (λ port roots turns.
         IsJoined (opening_of (map marks_of shelves.items) roots) turns (N.coming net.old)
+        (K.written out.old) (K.written out.new) (K.faults out.old) (K.faults out.new) result
+        ⊎ ((result ≡ 9) × Keeps (K.written out.old) (K.written out.new))) }
+    ensures paged { IfPage (command_of (map string_bytes words.now)) (λ folder.
+        IsPaged (T.coming tree.old) (S.left input.old)
         (K.written out.old) (K.written out.new) (K.faults out.old) (K.faults out.new) result
         ⊎ ((result ≡ 9) × Keeps (K.written out.old) (K.written out.new))) }
     ensures tree_failed { result ≡ 6 → Rose (T.faults tree.old) (T.faults tree.new) }
@@ -116,6 +124,10 @@ where
         ),
         Ok(Command::Join { port, roots, turns }) => {
             join_server(alloc, port, roots.into_vec(), turns, net, out, shelves)
+        }
+        Ok(Command::Page(folder)) => {
+            discard(shelves);
+            page_folder(alloc, folder.as_str(), input, out, tree)
         }
         read => run_alone(alloc, words, read, input, out, shelves),
     }

@@ -1,111 +1,66 @@
-use Rattle.std.proofs.Common.{map, ◌∙◌}
+use Rattle.std.proofs.Common.{ap, map, sym}
 use Rattle.std.specs.Prelude.{string_bytes}
 use Rattle.std.proofs.Math.Path.{subst}
 use Rattle.handler_table.specs.Shelf.{marks_of}
-use Rattle.hmr_base.specs.Fronts.{WritesFront}
-use Rattle.text_check.specs.Checking.{limit_line}
-use Rattle.input_commands.specs.Outputs.{input_limit, instances_limit, output_of}
-use Rattle.input_commands.proofs.Answering.{ended_behind, ended_front, whole_unless}
-use Rattle.input_commands.proofs.Headline.{shows_at}
+use Rattle.command_words.specs.Words.{command_of}
+use Rattle.input_commands.specs.Outputs.{output_of}
+use Rattle.input_commands.specs.Runs.{AnswersWords, IsComplete, ReadsInput, WritesOutput}
+use Rattle.input_commands.proofs.Telling.{answers_words, is_complete, reads_input_so, writes_output}
 use Rattle.input_commands.proofs.alone.run_alone.Goals as goal
 
-pub returns-in-Err-TooLong-clause-front : goal.returns-in-Err-TooLong-clause-front
-returns-in-Err-TooLong-clause-front g c =
-    let ended = rw c.in-Err-TooLong.field-0-is at c.in-Err-TooLong.ensures.stops in
-    ended_front (output_of (map marks_of c.args.shelves.items) (map string_bytes c.args.words.now)
-    (g.S.Source.left c.args.input.now)) 8 input_limit _ _ _ ended c.write_all-in-Err-TooLong.ensures.front
+pub returns-clause-words : goal.returns-clause-words
+returns-clause-words g c =
+    let carried = c.carry_out-ended in
+    let told = c.tell_end in
+    let command = command_of (map string_bytes c.args.words.now) in
+    let a = g.K.Sink.written c.args.out.now in
+    let b = g.K.Sink.written carried.new.out in
+    let z = g.K.Sink.written told.new.out in
+    let before = g.K.Sink.faults c.args.out.now in
+    let between = g.K.Sink.faults carried.new.out in
+    let now = g.K.Sink.faults told.new.out in
+    subst (AnswersWords command a z before now) (sym told.ensures.is)
+    (answers_words command a b z before between now carried.result carried.ensures.words carried.ensures.no_command
+    (λ e. ap g.K.Sink.written (carried.ensures.silent e)) told.ensures.front told.ensures.whole carried.ensures.later)
 
-pub returns-in-Err-TooLong-clause-limit_last : goal.returns-in-Err-TooLong-clause-limit_last
-returns-in-Err-TooLong-clause-limit_last g c = λ is.
-    let ended = rw c.in-Err-TooLong.field-0-is at c.in-Err-TooLong.ensures.stops in
-    ended_behind (output_of (map marks_of c.args.shelves.items) (map string_bytes c.args.words.now)
-    (g.S.Source.left c.args.input.now)) 8 input_limit _ _ _ ended c.write_all-in-Err-TooLong.ensures.front
+pub returns-clause-output : goal.returns-clause-output
+returns-clause-output g c =
+    let carried = c.carry_out-ended in
+    let told = c.tell_end in
+    let output = output_of (map marks_of c.args.shelves.items) (map string_bytes c.args.words.now)
+    (g.S.Source.left c.args.input.now) in
+    let a = g.K.Sink.written c.args.out.now in
+    let b = g.K.Sink.written carried.new.out in
+    let z = g.K.Sink.written told.new.out in
+    let before = g.K.Sink.faults c.args.out.now in
+    let between = g.K.Sink.faults carried.new.out in
+    let now = g.K.Sink.faults told.new.out in
+    subst (WritesOutput output a z before now) (sym told.ensures.is)
+    (writes_output output a b z before between now carried.result carried.ensures.done carried.ensures.front
+    carried.ensures.stops told.ensures.front told.ensures.whole
+    (λ silent. sym (ap g.K.Sink.written (told.ensures.silent silent))) carried.ensures.later)
 
-pub returns-in-Err-TooLong-clause-limit_whole : goal.returns-in-Err-TooLong-clause-limit_whole
-returns-in-Err-TooLong-clause-limit_whole g c = λ is well.
-    let ended = rw c.in-Err-TooLong.field-0-is at c.in-Err-TooLong.ensures.stops in
-    let call = c.write_all-in-Err-TooLong in
-    whole_unless (output_of (map marks_of c.args.shelves.items) (map string_bytes c.args.words.now)
-    (g.S.Source.left c.args.input.now)) 8 input_limit _ _ _ _ _ _ call.result ended call.ensures.done call.ensures.failed
-    c.in-Err-TooLong.ensures.later well
+pub returns-clause-complete : goal.returns-clause-complete
+returns-clause-complete g c =
+    let carried = c.carry_out-ended in
+    let output = output_of (map marks_of c.args.shelves.items) (map string_bytes c.args.words.now)
+    (g.S.Source.left c.args.input.now) in
+    subst (IsComplete output) (sym c.tell_end.ensures.is)
+    (is_complete output (g.K.Sink.written c.args.out.now) (g.K.Sink.written carried.new.out) carried.result
+    carried.ensures.done carried.ensures.stops)
 
-pub returns-in-Err-InstancesFull-clause-front : goal.returns-in-Err-InstancesFull-clause-front
-returns-in-Err-InstancesFull-clause-front g c =
-    let ended = rw c.in-Err-InstancesFull.field-0-is at c.in-Err-InstancesFull.ensures.stops in
-    ended_front (output_of (map marks_of c.args.shelves.items) (map string_bytes c.args.words.now)
-    (g.S.Source.left c.args.input.now)) 8 instances_limit _ _ _ ended c.write_all-in-Err-InstancesFull.ensures.front
-
-pub returns-in-Err-InstancesFull-clause-limit_last : goal.returns-in-Err-InstancesFull-clause-limit_last
-returns-in-Err-InstancesFull-clause-limit_last g c = λ is.
-    let ended = rw c.in-Err-InstancesFull.field-0-is at c.in-Err-InstancesFull.ensures.stops in
-    ended_behind (output_of (map marks_of c.args.shelves.items) (map string_bytes c.args.words.now)
-    (g.S.Source.left c.args.input.now)) 8 instances_limit _ _ _ ended c.write_all-in-Err-InstancesFull.ensures.front
-
-pub returns-in-Err-InstancesFull-clause-limit_whole : goal.returns-in-Err-InstancesFull-clause-limit_whole
-returns-in-Err-InstancesFull-clause-limit_whole g c = λ is well.
-    let ended = rw c.in-Err-InstancesFull.field-0-is at c.in-Err-InstancesFull.ensures.stops in
-    let call = c.write_all-in-Err-InstancesFull in
-    whole_unless (output_of (map marks_of c.args.shelves.items) (map string_bytes c.args.words.now)
-    (g.S.Source.left c.args.input.now)) 8 instances_limit _ _ _ _ _ _ call.result ended call.ensures.done call.ensures.failed
-    c.in-Err-InstancesFull.ensures.later well
-
-pub returns-in-Err-TextTooLong-clause-front : goal.returns-in-Err-TextTooLong-clause-front
-returns-in-Err-TextTooLong-clause-front g c =
-    let ended = rw c.in-Err-TextTooLong.field-0-is at c.in-Err-TextTooLong.ensures.stops in
-    let call = c.write_all-in-Err-TextTooLong in
-    let line = c.as_bytes-in-Err-TextTooLong.ensures.value ∙ c.limit_line.ensures in
-    ended_front (output_of (map marks_of c.args.shelves.items) (map string_bytes c.args.words.now)
-    (g.S.Source.left c.args.input.now)) 8 limit_line _ _ _ ended
-    (subst (WritesFront (g.K.Sink.written c.carry_out.new.out) (g.K.Sink.written call.new.sink)) line
-    call.ensures.front)
-
-pub returns-in-Err-TextTooLong-clause-limit_last : goal.returns-in-Err-TextTooLong-clause-limit_last
-returns-in-Err-TextTooLong-clause-limit_last g c = λ is.
-    let ended = rw c.in-Err-TextTooLong.field-0-is at c.in-Err-TextTooLong.ensures.stops in
-    let call = c.write_all-in-Err-TextTooLong in
-    let line = c.as_bytes-in-Err-TextTooLong.ensures.value ∙ c.limit_line.ensures in
-    ended_behind (output_of (map marks_of c.args.shelves.items) (map string_bytes c.args.words.now)
-    (g.S.Source.left c.args.input.now)) 8 limit_line _ _ _ ended
-    (subst (WritesFront (g.K.Sink.written c.carry_out.new.out) (g.K.Sink.written call.new.sink)) line
-    call.ensures.front)
-
-pub returns-in-Err-Faulty-clause-front : goal.returns-in-Err-Faulty-clause-front
-returns-in-Err-Faulty-clause-front g c =
-    let ended = rw c.in-Err-Faulty.field-0-is at c.in-Err-Faulty.ensures.stops in
-    let call = c.write_all-in-Err-Faulty in
-    ended_front (output_of (map marks_of c.args.shelves.items) (map string_bytes c.args.words.now)
-    (g.S.Source.left c.args.input.now)) 3 c.in-Err-Faulty.line.items _ _ _ ended
-    (subst (WritesFront (g.K.Sink.written c.carry_out.new.out) (g.K.Sink.written call.new.sink)) c.deref.ensures.value
-    call.ensures.front)
-
-pub returns-in-Ok-clause-fresh_load : goal.returns-in-Ok-clause-fresh_load
-returns-in-Ok-clause-fresh_load g c =
-    shows_at (map marks_of c.args.shelves.items) (g.S.Source.left c.args.input.now)
-
-pub returns-in-Err-NotACommand-clause-fresh_load : goal.returns-in-Err-NotACommand-clause-fresh_load
-returns-in-Err-NotACommand-clause-fresh_load g c =
-    shows_at (map marks_of c.args.shelves.items) (g.S.Source.left c.args.input.now)
-
-pub returns-in-Err-TooLong-clause-fresh_load : goal.returns-in-Err-TooLong-clause-fresh_load
-returns-in-Err-TooLong-clause-fresh_load g c =
-    shows_at (map marks_of c.args.shelves.items) (g.S.Source.left c.args.input.now)
-
-pub returns-in-Err-TextTooLong-clause-fresh_load : goal.returns-in-Err-TextTooLong-clause-fresh_load
-returns-in-Err-TextTooLong-clause-fresh_load g c =
-    shows_at (map marks_of c.args.shelves.items) (g.S.Source.left c.args.input.now)
-
-pub returns-in-Err-Unread-clause-fresh_load : goal.returns-in-Err-Unread-clause-fresh_load
-returns-in-Err-Unread-clause-fresh_load g c =
-    shows_at (map marks_of c.args.shelves.items) (g.S.Source.left c.args.input.now)
-
-pub returns-in-Err-Unwritten-clause-fresh_load : goal.returns-in-Err-Unwritten-clause-fresh_load
-returns-in-Err-Unwritten-clause-fresh_load g c =
-    shows_at (map marks_of c.args.shelves.items) (g.S.Source.left c.args.input.now)
-
-pub returns-in-Err-InstancesFull-clause-fresh_load : goal.returns-in-Err-InstancesFull-clause-fresh_load
-returns-in-Err-InstancesFull-clause-fresh_load g c =
-    shows_at (map marks_of c.args.shelves.items) (g.S.Source.left c.args.input.now)
-
-pub returns-in-Err-NoMemory-clause-fresh_load : goal.returns-in-Err-NoMemory-clause-fresh_load
-returns-in-Err-NoMemory-clause-fresh_load g c =
-    shows_at (map marks_of c.args.shelves.items) (g.S.Source.left c.args.input.now)
+pub returns-clause-input : goal.returns-clause-input
+returns-clause-input g c =
+    let carried = c.carry_out-ended in
+    let told = c.tell_end in
+    let command = command_of (map string_bytes c.args.words.now) in
+    let left = g.S.Source.left carried.new.input in
+    let before = g.S.Source.faults c.args.input.now in
+    let now = g.S.Source.faults carried.new.input in
+    let a = g.K.Sink.written c.args.out.now in
+    let b = g.K.Sink.written carried.new.out in
+    let z = g.K.Sink.written told.new.out in
+    subst (ReadsInput command left before now a z) (sym told.ensures.is)
+    (reads_input_so command left before now a b z carried.result carried.ensures.end carried.ensures.unread
+    carried.ensures.unread_silent carried.ensures.unread_reads
+    (λ silent. sym (ap g.K.Sink.written (told.ensures.silent silent))))

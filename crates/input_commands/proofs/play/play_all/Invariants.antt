@@ -2,8 +2,8 @@ use Rattle.std.proofs.Common.{◌≡◌, ◌≤◌, false, length}
 use Rattle.std.specs.List.{All}
 use Rattle.std.specs.Vec.Iter.{into_iter_items, into_iter_len}
 use Rattle.world_model.specs.Playing.{Stage}
-use Rattle.world_model.specs.World as worlds
-use Rattle.hmr_world.specs.Standing.{IsRunning, KeepsWords}
+use Rattle.event_world.specs.Courses.{Course}
+use Rattle.event_world.specs.Standing.{IsRunning, KeepsWords}
 use Rattle.play_script.specs.Asked.{HasFormat}
 use Rattle.input_commands.specs.Playing.{perform}
 use Rattle.input_commands.specs.Standing.{IsAt}
@@ -16,7 +16,7 @@ invariant-lines g l =
     let taken = g.K.LineSink.taken in
     let faults = g.K.LineSink.faults in
     record {
-      so_far : (stage : Stage) (w : worlds.World) → IsAt stage w l.fn.world →
+      so_far : (stage : Stage) (w : Course) → IsAt stage w l.fn.world →
           IsUpTo stage (taken l.fn.out) (taken l.out) (perform stage (into_iter_items l.line-iterator) l.quiet)
           (perform stage l.fn.lines.items false w) l.world;
       count : into_iter_len l.line-iterator ≡ length (into_iter_items l.line-iterator);

@@ -1,7 +1,7 @@
 use Rattle.std.proofs.Common.{◌≤◌, length, false}
 use Rattle.world_model.specs.Playing.{Stage}
-use Rattle.world_model.specs.World as worlds
-use Rattle.hmr_world.specs.Standing.{IsRunning, KeepsWords}
+use Rattle.event_world.specs.Courses.{Course}
+use Rattle.event_world.specs.Standing.{IsRunning, KeepsWords}
 use Rattle.input_commands.specs.Playing.{perform}
 use Rattle.input_commands.specs.Standing.{IsAt}
 use Rattle.input_commands.proofs.Writing.{IsUpTo}
@@ -13,7 +13,7 @@ invariant-lines g l =
     let taken = g.K.LineSink.taken in
     let faults = g.K.LineSink.faults in
     record {
-      so_far : (stage : Stage) (w : worlds.World) → IsAt stage w l.fn.world →
+      so_far : (stage : Stage) (w : Course) → IsAt stage w l.fn.world →
           IsUpTo stage (taken l.fn.out) (taken l.out) (perform stage l.commands l.quiet)
           (perform stage l.fn.commands false w) l.world;
       words : KeepsWords (goal.F-post g) l.world;

@@ -1,4 +1,4 @@
-use Rattle.hmr_world.specs.Steps.{step_of}
+use Rattle.event_world.specs.Steps.{event_step_of}
 use Rattle.input_commands.proofs.Stepping.{on_ok, step_plays, step_stops, without_fault, world_stops}
 use Rattle.input_commands.proofs.Ending.{never_full, plays_stop}
 use Rattle.input_commands.proofs.play.play_step.Goals as goal
@@ -7,7 +7,7 @@ pub returns-in-Ok-clause-plays : goal.returns-in-Ok-clause-plays
 returns-in-Ok-clause-plays g c = λ stage w h.
     let call = c.show in
     let made = c.in-Ok.ensures in
-    step_plays stage w c.args.world.now h (step_of c.args.step) c.args.quiet c.in-Ok.lines c.step.new.self
+    step_plays stage w c.args.world.now h (event_step_of c.args.step) c.args.quiet c.in-Ok.lines c.step.new.self
     (g.K.LineSink.taken c.args.out.now) (g.K.LineSink.taken call.new.self) call.result
     (made.lines h.run h.stands) (made.stands h.run h.stands) call.ensures.front call.ensures.done
     (never_full call.result call.ensures.stops)
@@ -20,7 +20,7 @@ returns-in-Ok-clause-stops g c = plays_stop c.show.result c.show.ensures.stops
 
 pub returns-in-Err-clause-plays : goal.returns-in-Err-clause-plays
 returns-in-Err-clause-plays g c = λ stage w h.
-    step_stops stage w c.args.world.now h (step_of c.args.step) c.args.quiet c.in-Err.ended c.step.new.self _
+    step_stops stage w c.args.world.now h (event_step_of c.args.step) c.args.quiet c.in-Err.ended c.step.new.self _
     c.from.result
     (c.in-Err.ensures.lines h.run h.stands) c.from.ensures
 

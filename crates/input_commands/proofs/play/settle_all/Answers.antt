@@ -7,7 +7,7 @@ use Rattle.input_commands.proofs.play.settle_all.Goals as goal
 
 pub returns-clause-plays : goal.returns-clause-plays
 returns-clause-plays g c = λ stage w h.
-    let all = c.deref.ensures.value ∙ jobs_at stage w c.args.world.now h c.in-Ok.jobs.items c.in-Ok.ensures in
+    let all = c.deref.ensures.value ∙ jobs_at stage w c.args.world.now h c.world.result.now c.world.ensures c.in-Ok.jobs.items c.in-Ok.ensures in
     let taken = g.K.LineSink.taken in
     let part = quieted c.args.quiet in
     let call = c.settle_jobs in

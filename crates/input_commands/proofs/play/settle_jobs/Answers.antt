@@ -1,7 +1,8 @@
 use Rattle.std.proofs.Common.{◌≡◌, ◌+◌, true, false, drop, arith, rules}
 use Rattle.std.specs.Prelude.{is_err}
 use Rattle.world_model.specs.World.{settles}
-use Rattle.world_model.specs.Playing.{play_step}
+use Rattle.event_world.specs.Courses.{plain}
+use Rattle.event_world.specs.Playing.{play_step}
 use Rattle.input_commands.specs.Playing.{nothing, quieted, settled_by}
 use Rattle.input_commands.proofs.Playing.{next_job}
 use Rattle.input_commands.proofs.Stepping.{from_ok}
@@ -18,7 +19,7 @@ returns-then-is_err-clause-plays g c = λ stage w h.
     let call = c.play_step-played in
     let e : is_err call.result ≡ true = search rules in
     stops stage _ _ _ (λ v. quieted q (settled_by stage (drop i jobs) v))
-    (λ v. quieted q (play_step stage (nothing v) (settles name job.1)))
+    (λ v. quieted q (play_step stage (nothing v) (plain (settles name job.1))))
     (λ v. quieted q (settled_by stage (drop (i + 1) jobs) v)) _ c.loop-name.world call.new.world
     (λ v at. next_job stage jobs i job name q v c.loop-name-test.true c.loop-name-item.is c.in-Ok.ensures)
     call.result e (λ v at. call.ensures.plays stage v at) (c.loop-name.invariant.so_far stage w h)
@@ -35,7 +36,7 @@ loop-name-preserved g c =
     record {
       so_far = λ stage w h.
           more stage _ _ _ (λ v. quieted q (settled_by stage (drop i jobs) v))
-          (λ v. quieted q (play_step stage (nothing v) (settles name job.1)))
+          (λ v. quieted q (play_step stage (nothing v) (plain (settles name job.1))))
           (λ v. quieted q (settled_by stage (drop (i + 1) jobs) v)) _ c.loop-name.world call.new.world
           (λ v at. next_job stage jobs i job name q v c.loop-name-test.true c.loop-name-item.is c.in-Ok.ensures)
           call.result e (λ v at. call.ensures.plays stage v at) (c.loop-name.invariant.so_far stage w h);

@@ -1,7 +1,8 @@
 use Rattle.std.proofs.Common.{◌≡◌, ◌+◌, ◌-◌, suc, true, false, ap, ◌∙◌, arith, rules}
 use Rattle.std.specs.Prelude.{is_err}
 use Rattle.world_model.specs.World.{turn}
-use Rattle.world_model.specs.Playing.{play_step, play_turns}
+use Rattle.event_world.specs.Courses.{plain}
+use Rattle.event_world.specs.Playing.{play_step, play_turns}
 use Rattle.input_commands.specs.Playing.{nothing, quieted}
 use Rattle.input_commands.proofs.Commanding.{caught_up_at}
 use Rattle.input_commands.proofs.Playing.{next_turn, turns_none}
@@ -17,7 +18,7 @@ returns-then-caught_up-clause-plays g c = λ stage w h.
     let world = c.turns.world in
     finishes stage _ _ (λ v. quieted q (play_turns stage i left (nothing v))) _ world tt
     (λ v at.
-    let up = caught_up_at stage v world at i c.caught_up.result true c.caught_up.ensures c.if-caught_up.true in
+    let up = caught_up_at stage v world at c.world.result.now c.world.ensures i c.caught_up.result true c.caught_up.ensures c.if-caught_up.true in
     ap (quieted q) (turns_none stage i left v up) ∙ quiet_nothing q v)
     (c.turns.invariant.so_far stage w h)
 
@@ -32,10 +33,10 @@ returns-then-is_err-clause-plays g c = λ stage w h.
     let e : is_err call.result ≡ true = search rules in
     let one_more : left ≡ suc k = omega (arith, c.turns-test.true) in
     stops stage _ _ _ (λ v. quieted q (play_turns stage i left (nothing v)))
-    (λ v. quieted q (play_step stage (nothing v) (turn i)))
+    (λ v. quieted q (play_step stage (nothing v) (plain (turn i))))
     (λ v. quieted q (play_turns stage i k (nothing v))) _ world call.new.world
     (λ v at.
-    let behind = caught_up_at stage v world at i c.caught_up.result false
+    let behind = caught_up_at stage v world at c.world.result.now c.world.ensures i c.caught_up.result false
     c.caught_up.ensures c.if-caught_up.false in
     next_turn stage i left k q v one_more behind)
     call.result e (λ v at. call.ensures.plays stage v at) (c.turns.invariant.so_far stage w h)
@@ -53,10 +54,10 @@ turns-preserved g c =
     record {
       so_far = λ stage w h.
           more stage _ _ _ (λ v. quieted q (play_turns stage i left (nothing v)))
-          (λ v. quieted q (play_step stage (nothing v) (turn i)))
+          (λ v. quieted q (play_step stage (nothing v) (plain (turn i))))
           (λ v. quieted q (play_turns stage i k (nothing v))) _ world call.new.world
           (λ v at.
-          let behind = caught_up_at stage v world at i c.caught_up.result false
+          let behind = caught_up_at stage v world at c.world.result.now c.world.ensures i c.caught_up.result false
           c.caught_up.ensures c.if-caught_up.false in
           next_turn stage i left k q v one_more behind)
           call.result e (λ v at. call.ensures.plays stage v at) (c.turns.invariant.so_far stage w h);

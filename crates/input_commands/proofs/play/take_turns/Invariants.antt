@@ -1,7 +1,8 @@
 use Rattle.std.proofs.Common.{◌≤◌, ◌-◌}
-use Rattle.world_model.specs.Playing.{Stage, play_turns}
-use Rattle.world_model.specs.World as worlds
-use Rattle.hmr_world.specs.Standing.{IsRunning, KeepsWords}
+use Rattle.world_model.specs.Playing.{Stage}
+use Rattle.event_world.specs.Playing.{play_turns}
+use Rattle.event_world.specs.Courses.{Course}
+use Rattle.event_world.specs.Standing.{IsRunning, KeepsWords}
 use Rattle.input_commands.specs.Playing.{nothing, quieted}
 use Rattle.input_commands.specs.Standing.{IsAt}
 use Rattle.input_commands.proofs.Writing.{IsUpTo}
@@ -13,7 +14,7 @@ invariant-turns g l =
     let taken = g.K.LineSink.taken in
     let faults = g.K.LineSink.faults in
     record {
-      so_far : (stage : Stage) (w : worlds.World) → IsAt stage w l.fn.world →
+      so_far : (stage : Stage) (w : Course) → IsAt stage w l.fn.world →
           IsUpTo stage (taken l.fn.out) (taken l.out)
           (λ v. quieted l.quiet (play_turns stage l.client (l.most - l.counter) (nothing v)))
           (quieted l.quiet (play_turns stage l.client l.most (nothing w))) l.world;

@@ -7,7 +7,7 @@ use Rattle.input_commands.proofs.play.turn_client.Goals as goal
 
 pub returns-then-is_open-clause-plays : goal.returns-then-is_open-clause-plays
 returns-then-is_open-clause-plays g c = λ stage w h.
-    let found = open_at stage w c.args.world.now h c.args.client c.is_open.result c.is_open.ensures
+    let found = open_at stage w c.args.world.now h c.world.result.now c.world.ensures c.args.client c.is_open.result c.is_open.ensures
     ∙ c.if-is_open.true in
     let taken = g.K.LineSink.taken in
     let call = c.take_turns in
@@ -17,7 +17,7 @@ returns-then-is_open-clause-plays g c = λ stage w h.
 
 pub returns-else-is_open-clause-plays : goal.returns-else-is_open-clause-plays
 returns-else-is_open-clause-plays g c = λ stage w h.
-    let found = open_at stage w c.args.world.now h c.args.client c.is_open.result c.is_open.ensures
+    let found = open_at stage w c.args.world.now h c.world.result.now c.world.ensures c.args.client c.is_open.result c.is_open.ensures
     ∙ c.if-is_open.false in
     let taken = g.K.LineSink.taken in
     let call = c.play_step in

@@ -1,9 +1,5 @@
-use Rattle.std.proofs.Common.{◌≡◌, ◌⊎◌, ℕ, Some}
-use Rattle.std.proofs.Math.Path.{subst}
-use Rattle.hmr_hub.specs.declared.pass.Pass.{Pass}
 use Rattle.hub_editor.specs.Edits.{edits_in}
-use Rattle.folder_server.specs.Serving.{Served, StopsEarly, Wrote, WroteEarly}
-use Rattle.top_call.specs.Outside.{HasServed, begun}
+use Rattle.top_call.specs.Outside.{begun}
 use Rattle.top_call.proofs.serve.serve_folder.Goals as goal
 
 pub returns-clause-served : goal.returns-clause-served

@@ -1,17 +1,12 @@
 -- What the status of a run says of its words, its input and its output.
-use Rattle.std.specs.Prelude.{◌≡◌, ◌≢◌, ◌≤◌, ◌⊎◌, ℕ, true, List, Option, None, IfSome}
-use Prim.{⊥}
+use Rattle.std.specs.Prelude.{◌≡◌, ◌⊎◌, ℕ, true, false, List, Option, None, IfSome}
 use Rattle.std.specs.Io.KnownBytes.{Appends, IsAtEnd, Keeps}
 use Rattle.hmr_base.specs.Causes.{Rose}
 use Rattle.hmr_base.specs.Fronts.{WritesFront}
 use Rattle.command_words.specs.declared.command.Command.{Command}
 use Rattle.command_words.specs.Words.{usage_line}
-use Rattle.input_commands.specs.Outputs.{Output, reads_input, whole}
+use Rattle.input_commands.specs.Outputs.{Output, is_page, reads_input, whole}
 use Rattle.input_commands.specs.Writing.{WritesBehind}
-
--- no other status is answered
-abbrev pub IsStatus : ℕ → Type 0
-IsStatus n = n ≤ 10 × (n ≢ 1)
 
 -- 2 comes exactly where the words are no command, or memory ran out; then the usage line is written, and the
 -- whole of it unless the count of the output's faults rose
@@ -43,11 +38,12 @@ pub record IsComplete (output : Option Output) (status : ℕ) : Type 0 where
   pub faults : IfSome output (λ o. o.status ≡ 3 → (status ≡ 3) ⊎ (status ≡ 4) ⊎ (status ≡ 9))
   pub limits : IfSome output (λ o. o.status ≡ 8 → (status ≡ 8) ⊎ (status ≡ 4) ⊎ (status ≡ 5) ⊎ (status ≡ 9))
 
--- A command that reads its input reads it to its end where its status is 0. 4 comes only of such a command,
--- where the count of the input's faults rose, and then nothing is written.
+-- A command that reads its input as a whole reads it to its end where its status is 0. 4 comes only of such
+-- a command or of `page`, where the count of the input's faults rose; of such a command nothing is written
+-- then.
 pub record ReadsInput (command : Option Command) (left : Option (List ℕ)) (before now : ℕ)
     (old new : Option (List ℕ)) (status : ℕ) : Type 0 where
   pub end : status ≡ 0 → reads_input command ≡ true → IsAtEnd left
   pub unread : status ≡ 4 → Rose before now
-  pub unread_silent : status ≡ 4 → Keeps old new
-  pub unread_reads : status ≡ 4 → reads_input command ≡ true
+  pub unread_silent : status ≡ 4 → is_page command ≡ false → Keeps old new
+  pub unread_reads : status ≡ 4 → is_page command ≡ false → reads_input command ≡ true

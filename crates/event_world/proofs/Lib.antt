@@ -1,0 +1,6 @@
+mod Hearing
+mod Keeping
+mod Listening
+mod Lives
+mod Presence
+mod Standing

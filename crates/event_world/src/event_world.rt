@@ -1,0 +1,195 @@
+// The world with events, and its step.
+ghost use Rattle.std.specs.Prelude.{◌≡◌, IfOk, List, OnOk};
+ghost use Rattle.hmr_world.specs.Standing as worlds;
+ghost use Rattle.hmr_world.specs.Steps as plain_steps;
+ghost use Rattle.hmr_world.specs.Steps.{step_of};
+ghost use Rattle.hmr_world.specs.Stops.{AreLines};
+ghost use Rattle.hot_events.specs.Calls as lists;
+ghost use Rattle.hot_events.specs.Calls.{Call};
+ghost use Rattle.world_laws.specs.Runs.{Run};
+ghost use Rattle.event_world.specs.Courses.{calls_of, emits, hears, plain};
+ghost use Rattle.event_world.specs.Promises.{KeepsPromises};
+ghost use Rattle.event_world.specs.Runs.{EventRun, EventsAreHeard, IsThereWhereOpen, ListenersRanOnce};
+ghost use Rattle.event_world.specs.Runs.{beginning, run_of, run_on, step_in};
+ghost use Rattle.event_world.specs.Standing.{HasNoClient, IsRunning, IsStepped, KeepsWords, NoneIsOpen};
+ghost use Rattle.event_world.specs.Standing.{StandsFor};
+ghost use Rattle.event_world.specs.Steps.{HasFormat, event_step_of};
+
+use crate::event_step::{EventStep, Passage, passage_of};
+use crate::lines::{behind, full_lines, one_line, opened_by};
+use crate::promises::what_is_promised_of_runs;
+use const_eval::Ran;
+use hmr_types::{ClientId, ModName, Value};
+use hmr_world::{Step, World, WorldStop};
+use hot_events::Waiting;
+use output_lines::OutLine;
+use retained_data::Bag;
+use std::alloc::{AllocError, Global};
+
+/// The world with events. That it stands for a run, the list of its steps so far, is the relation
+/// `StandsFor`. It may be given up at any moment.
+#[derive(Drop)]
+pub struct EventWorld<F> {
+    alloc: Global,
+    world: World<F>,
+    waiting: Waiting,
+}
+
+impl<F: FnOnce(Bag) -> Result<Ran, AllocError> + Drop> EventWorld<F> {
+    /// The world with events, of a world in which no client is open. It takes no memory.
+    pub fn new(alloc: Global, world: World<F>) -> EventWorld<F>
+        requires none { NoneIsOpen world }
+        requires words { worlds.KeepsWords F.post world }
+        ensures stands { (run : Run) → worlds.StandsFor run world → HasNoClient run
+            → StandsFor (beginning run) result }
+        ensures running { IsRunning result }
+        ensures words { KeepsWords F.post result }
+    {
+        EventWorld {
+            alloc,
+            world,
+            waiting: Waiting::new(alloc),
+        }
+    }
+
+    /// The world, which tells whether a client is open or caught up, and the jobs under way. It takes no
+    /// memory.
+    pub fn world(&self) -> &World<F>
+        ensures { result.now ≡ self.now.world }
+    {
+        &self.world
+    }
+
+    /// Makes one step, and gives its lines.
+    ///
+    /// A step of the world gives the world's lines; a client that it opens gets the events that are emitted
+    /// from then on, and one that it closes gives up those that wait for it. An emission gives the line
+    /// `C full EVENT` of each client for which 1,024 events wait, by number; for each other open client the
+    /// event waits. To hear gives `unknown C` where the client isn't open, `C quiet` where none waits, and
+    /// `C busy` where its page isn't loaded or a plan is under way, and the event goes on waiting; else
+    /// `C event EVENT` and the lines of its listeners, and the event waits no more.
+    ///
+    /// The stops are those of the world's step. An emission takes time in the number of clients, of which
+    /// there are at most 32; to hear takes the time of the page's listeners, however many events wait.
+    pub fn step(&mut self, step: EventStep) -> Result<Vec<OutLine>, WorldStop>
+        requires format { HasFormat step }
+        requires callable { (f : F) → F.IsAlwaysCallable f }
+        requires words { KeepsWords F.post self.old }
+        requires running { IsRunning self.old }
+        ensures stands { (run : EventRun) → StandsFor run self.old
+            → OnOk result (StandsFor (run_on run (event_step_of step)) self.new) }
+        ensures lines { (run : EventRun) → StandsFor run self.old
+            → AreLines (step_in run (event_step_of step)).lines result }
+        ensures running { OnOk result (IsRunning self.new) }
+        ensures words { KeepsWords F.post self.new }
+        ensures there { (run : EventRun) → StandsFor run self.old
+            → OnOk result (IsThereWhereOpen (run_on run (event_step_of step))) }
+        ensures heard { (run : EventRun) → StandsFor run self.old
+            → OnOk result (EventsAreHeard (run_on run (event_step_of step))) }
+        ensures listeners { (run : EventRun) → StandsFor run self.old
+            → OnOk result (ListenersRanOnce (run_on run (event_step_of step))) }
+        ensures promises { (run : EventRun) → StandsFor run self.old
+            → OnOk result (KeepsPromises (run_of (run_on run (event_step_of step)))) }
+    {
+        what_is_promised_of_runs();
+        self.made(step)
+    }
+
+    // The step by its kind.
+    fn made(&mut self, step: EventStep) -> Result<Vec<OutLine>, WorldStop>
+        requires format { HasFormat step }
+        requires callable { (f : F) → F.IsAlwaysCallable f }
+        requires words { KeepsWords F.post self.old }
+        requires running { IsRunning self.old }
+        ensures step { (run : EventRun) → StandsFor run self.old
+            → IsStepped run (event_step_of step) self.new result }
+        ensures words { KeepsWords F.post self.new }
+    {
+        match step {
+            EventStep::Plain(step) => self.plain(step),
+            EventStep::Emit(event, value) => self.emit(&event, &value),
+            EventStep::Hear(client) => self.hear(client),
+        }
+    }
+
+    fn plain(&mut self, step: Step) -> Result<Vec<OutLine>, WorldStop>
+        requires format { plain_steps.HasFormat step }
+        requires callable { (f : F) → F.IsAlwaysCallable f }
+        requires words { KeepsWords F.post self.old }
+        requires running { IsRunning self.old }
+        ensures step { (run : EventRun) → StandsFor run self.old
+            → IsStepped run (plain (step_of step)) self.new result }
+        ensures words { KeepsWords F.post self.new }
+    {
+        let passage = passage_of(&step);
+        let lines = self.world.step(step)?;
+        pass(&mut self.waiting, passage, &lines)?;
+        Ok(lines)
+    }
+
+    fn emit(&mut self, event: &ModName, value: &Value) -> Result<Vec<OutLine>, WorldStop>
+        ensures step { (run : EventRun) → StandsFor run self.old
+            → IsStepped run (emits event.now value.now) self.new result }
+        ensures words { KeepsWords F.post self.old → KeepsWords F.post self.new }
+    {
+        let full = self.waiting.emit(event, value)?;
+        let lines = full_lines(self.alloc, event, &full)?;
+        Ok(lines)
+    }
+
+    fn hear(&mut self, client: ClientId) -> Result<Vec<OutLine>, WorldStop>
+        requires callable { (f : F) → F.IsAlwaysCallable f }
+        requires words { KeepsWords F.post self.old }
+        requires running { IsRunning self.old }
+        ensures step { (run : EventRun) → StandsFor run self.old
+            → IsStepped run (hears client) self.new result }
+        ensures words { KeepsWords F.post self.new }
+    {
+        if !self.world.is_open(client) {
+            return Ok(one_line(self.alloc, OutLine::Unknown { client })?);
+        }
+        let Some(first) = self.waiting.first(client) else {
+            return Ok(one_line(self.alloc, OutLine::Quiet { client })?);
+        };
+        let (event, value) = first.parts();
+        let event = copy_of(event)?;
+        match self.world.fire(client, &event, value)? {
+            None => Ok(one_line(self.alloc, OutLine::Busy { client })?),
+            Some(lines) => {
+                self.waiting.take_first(client);
+                Ok(behind(OutLine::Event { client, event }, lines)?)
+            }
+        }
+    }
+}
+
+impl<F: Drop> EventWorld<F> {
+    /// Gives the world up with all its clients and events. It takes no memory.
+    pub fn end(self) {
+        self.world.end();
+    }
+}
+
+// A client that came gets events from now on, and one that went gets none.
+fn pass(waiting: &mut Waiting, passage: Passage, lines: &[OutLine]) -> Result<(), AllocError>
+    ensures { (past : List Call) → lists.StandsFor past waiting.old
+        → OnOk result (lists.StandsFor (calls_of passage lines.now past) waiting.new) }
+{
+    match passage {
+        Passage::Comes => match opened_by(lines) {
+            Some(client) => waiting.enter(client),
+            None => Ok(()),
+        },
+        Passage::Goes(client) => {
+            waiting.leave(client);
+            Ok(())
+        }
+        Passage::Stays => Ok(()),
+    }
+}
+
+fn copy_of(name: &ModName) -> Result<ModName, AllocError>
+    ensures { IfOk result (λ copy. copy ≡ name.now) }
+{
+    name.clone()
+}

@@ -1,0 +1,4 @@
+mod Rows
+pub mod Counts
+mod Places
+mod Standing
