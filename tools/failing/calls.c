@@ -1,6 +1,7 @@
 /* Makes the N-th call of one kind fail in a program: an allocation, a read of the input or a write of the
    output, as FAIL says (alloc, read or write) and FAIL_AT says N. Writes at the end how many calls of that
-   kind there were into the file that COUNT_TO names. Loaded before libc by LD_PRELOAD. */
+   kind there were into the file that COUNT_TO names, whether the program returns from main or calls _exit.
+   Loaded before libc by LD_PRELOAD. */
 #define _GNU_SOURCE
 #include <dlfcn.h>
 #include <errno.h>
@@ -8,6 +9,7 @@
 #include <stdio.h>
 #include <stdlib.h>
 #include <string.h>
+#include <sys/syscall.h>
 #include <unistd.h>
 
 static _Atomic unsigned long made;  /* over all threads */
@@ -38,6 +40,11 @@ __attribute__((destructor)) static void end(void) {
     fprintf(file, "%lu\n", count);
     fclose(file);
   }
+}
+
+void _exit(int status) {
+  end();
+  for (;;) syscall(SYS_exit_group, status);
 }
 
 static int fails(char of, int error) {

@@ -6,4 +6,12 @@
 #![tactic(auto)]
 
 #[cfg(test)]
+mod failing_tests;
+#[cfg(test)]
+mod outcomes;
+#[cfg(test)]
+mod stops_tests;
+#[cfg(test)]
 mod tests;
+#[cfg(test)]
+mod worked;
