@@ -1,0 +1,4 @@
+pub mod Coming
+pub mod Accepting
+pub mod Told
+pub mod Jobs
