@@ -18,7 +18,7 @@ exec python3 - "$program" << 'END'
 import http.client, http.server, os, pathlib, re, shutil, socket, statistics, subprocess, sys, tempfile, threading, time
 
 program = sys.argv[1]
-REQUESTS = 20_000
+REQUESTS = 10_000
 
 
 def write_site(folder, count):
@@ -64,6 +64,9 @@ def page(folder):
 def python(folder):
     class Handler(http.server.SimpleHTTPRequestHandler):
         protocol_version = "HTTP/1.1"
+        # (head and body in one packet: else each answer waits 40 ms for the client's acknowledgement)
+        disable_nagle_algorithm = True
+        wbufsize = 65_536
 
         def __init__(self, *args):
             super().__init__(*args, directory=str(folder))
