@@ -1,22 +1,16 @@
 -- Answers in the state that a history makes.
-use Rattle.std.proofs.Common.{◌≡◌, ℕ, Bool, false, List, ◌++◌, refl, ap, sym, ◌∙◌, subst}
-use Rattle.std.specs.Prelude.{Result, IfOk}
-use Rattle.std.specs.Global.{Vec}
-use Rattle.std.specs.declared.alloc.AllocError.{AllocError}
+use Rattle.std.proofs.Common.{◌≡◌, ℕ, Bool, false, ◌++◌, ap, sym, ◌∙◌, subst}
+use Rattle.std.specs.Prelude.{Result}
 use Rattle.update_msgs.specs.declared.desk.HubStop.{HubStop}
-use Rattle.core_model.specs.Names.{Name}
 use Rattle.core_model.specs.Core.{Event}
-use Rattle.core_model.specs.Transcript.{Recorded}
 use Rattle.server_core.specs.declared.event.Reply.{Reply}
 use Rattle.turn_lock.specs.Histories.{grown}
 use Rattle.hmr_hub.specs.declared.answer.Answer.{Answer}
 use Rattle.hmr_hub.specs.declared.answer.Answer.TheVariants as answer
-use Rattle.hmr_hub.specs.declared.report_line.ReportLine.{ReportLine}
 use Rattle.hmr_hub.specs.Outcomes.{Answers, IsAnswer, IsOutcome, is_recorded}
-use Rattle.hmr_hub.specs.Questions.{Asked, tell, outstanding, report, transcript_of, history_of}
+use Rattle.hmr_hub.specs.Questions.{Asked, tell, transcript_of, history_of}
 use Rattle.hmr_hub.specs.Recordings.{Recording}
-use Rattle.hmr_hub.specs.Reports.{report_of}
-use Rattle.hmr_hub.specs.Transcripts.{IsTranscript, is_outstanding, recorded}
+use Rattle.hmr_hub.specs.Transcripts.{IsTranscript, recorded}
 use Rattle.hmr_hub.proofs.Histories.{transcript_more, transcript_of_history}
 
 module _ (opening value : Recording) (by : ℕ) (same : value.roots ≡ opening.roots) where

@@ -1,20 +1,21 @@
 -- What calls of the lock tell, told of transcripts.
-use Rattle.std.proofs.Common.{◌≡◌, ◌<◌, ◌↔◌, ◌⊎◌, inl, inr, ⊎_elim, ℕ, Bool, true, false, List, [], ◌∷◌, ◌++◌, ◌+◌, length, refl, ap, sym, ◌∙◌, subst, append_assoc, arith}
-use Rattle.std.specs.Prelude.{Result, Ok, Err, IfOk, IsErrOf, Some, ⊤}
+use Rattle.std.proofs.Common.{◌≡◌, ◌<◌, ◌↔◌, inl, inr, ⊎_elim, ℕ, Bool, true, false, List, [], ◌∷◌, ◌++◌, ◌+◌, length, map, refl, ap, sym, ◌∙◌, subst}
+use Rattle.std.specs.Prelude.{Result, Ok, Err, IfOk, IsErrOf}
 use Rattle.std.proofs.lemmas.Bool.{false≢true}
-use Rattle.std.proofs.lemmas.List.{append-nil, append_cancel_right}
+use Rattle.std.proofs.lemmas.List.{append_cancel_right}
 use Rattle.std.specs.Global.{Vec}
 use Rattle.std.specs.declared.alloc.AllocError.{AllocError}
 use Rattle.update_msgs.specs.declared.desk.HubStop.{HubStop}
 use Rattle.update_msgs.specs.declared.desk.HubStop.TheVariants.{TranscriptFull, NoMemory}
 use Rattle.core_model.specs.Names.{Name}
 use Rattle.core_model.specs.Core.{Event}
-use Rattle.core_model.specs.Transcript.{Recorded, reply_after}
+use Rattle.core_model.specs.Transcript.{Recorded, events_of, reply_after}
+use Rattle.server_core.specs.declared.event.Event as server
 use Rattle.server_core.specs.declared.event.Reply.{Reply}
-use Rattle.server_core.specs.Said.{IsWritten, said}
+use Rattle.server_core.specs.Said.{IsWritten, event_of, said}
 use Rattle.turn_lock.specs.Calls as lock
-use Rattle.turn_lock.specs.Histories.{Past, calls, grown, has}
-use Rattle.turn_lock.specs.Passes.{pass_number, pass_view}
+use Rattle.turn_lock.specs.Histories.{Past, calls, grown}
+use Rattle.turn_lock.specs.Passes.{pass_view}
 use Rattle.turn_lock.specs.Views.{first_view, most_numbers, new_half, numbered}
 use Rattle.turn_lock.specs.declared.view.View.{View}
 use Rattle.turn_lock.proofs.Histories.{calls_two, past_calls}
@@ -24,30 +25,38 @@ use Rattle.hmr_hub.specs.declared.pass.Pass.{Pass}
 use Rattle.hmr_hub.specs.declared.report_line.ReportLine.{ReportLine}
 use Rattle.hmr_hub.specs.Reports.{report_of}
 use Rattle.hmr_hub.specs.Calls.{Called, IsFirst, IsHalf, IsLonger, Joined, Looked, SameKnower, SameSeen}
-use Rattle.hmr_hub.specs.Outcomes.{Answers, IsAnswer, IsOutcome, IsOutstandingTold, IsReply, IsReported, IsTold, is_recorded}
-use Rattle.hmr_hub.specs.Passes.{HasTranscript, known_of, mark_of, number_of, roots_of, seen_of, is_alone, all_given}
-use Rattle.hmr_hub.specs.Questions.{Asked, tell, outstanding, report, transcript_of}
+use Rattle.hmr_hub.specs.Outcomes.{Answers, IsAnswer, IsEventsTold, IsOutcome, IsOutstandingTold, IsReported, IsTold}
+use Rattle.hmr_hub.specs.Passes.{HasTranscript, known_of, mark_of, number_of, roots_of, seen_of, is_alone}
+use Rattle.hmr_hub.specs.Questions.{Asked, tell, outstanding, report, events, transcript_of}
 use Rattle.hmr_hub.specs.Recordings.{Recording, roots_in}
 use Rattle.hmr_hub.specs.Transcripts.{IsTranscript, is_full, is_outstanding, recorded}
-use Rattle.hmr_hub.proofs.Histories.{calls_transcript, grown_not, past_transcript, transcript_append, transcript_more}
+use Rattle.hmr_hub.proofs.Histories.{calls_transcript, grown_not, past_transcript, transcript_more}
 use Rattle.hmr_hub.proofs.Legal.{same_entries}
-use Prim.{⊥}
 
 -- the answer is of the kind that was asked for
 is_told : (roots : List Name) (before : List Recorded) (event : Event) (told : Answer) (kept : Bool) → IsAnswer roots before (tell event) told kept → IsTold told
 is_told roots before event (answer.Told result) kept a = tt
 is_told roots before event (answer.Outstanding b) kept a = a
 is_told roots before event (answer.Report lines) kept a = a
+is_told roots before event (answer.Events told) kept a = a
 
 is_looked : (roots : List Name) (before : List Recorded) (n : Name) (told : Answer) (kept : Bool) → IsAnswer roots before (outstanding n) told kept → IsOutstandingTold told
 is_looked roots before n (answer.Told result) kept a = a
 is_looked roots before n (answer.Outstanding b) kept a = tt
 is_looked roots before n (answer.Report lines) kept a = a
+is_looked roots before n (answer.Events told) kept a = a
 
 is_reported : (roots : List Name) (before : List Recorded) (told : Answer) (kept : Bool) → IsAnswer roots before report told kept → IsReported told
 is_reported roots before (answer.Told result) kept a = a
 is_reported roots before (answer.Outstanding b) kept a = a
 is_reported roots before (answer.Report lines) kept a = tt
+is_reported roots before (answer.Events told) kept a = a
+
+is_events_told : (roots : List Name) (before : List Recorded) (told : Answer) (kept : Bool) → IsAnswer roots before events told kept → IsEventsTold told
+is_events_told roots before (answer.Told result) kept a = a
+is_events_told roots before (answer.Outstanding b) kept a = a
+is_events_told roots before (answer.Report lines) kept a = a
+is_events_told roots before (answer.Events told) kept a = tt
 
 module _ (roots : List Name) (before : List Recorded) (event : Event) where
   replied : (result : Result Reply HubStop) → IsOutcome roots before event result → IfOk result (λ reply. said (reply_after roots before event) ≡ reply)
@@ -120,6 +129,9 @@ module _ (p q : Pass) where
   pub report_kind : (told : Answer) → LockCalled report told → IsReported told
   report_kind told l = is_reported (roots_of p) (before_of report told l) told l.recorded (answer_is report told l)
 
+  pub events_kind : (told : Answer) → LockCalled events told → IsEventsTold told
+  events_kind told l = is_events_told (roots_of p) (before_of events told l) told l.recorded (answer_is events told l)
+
   -- an event was told
   pub called : (event : Event) (result : Result Reply HubStop) → LockCalled (tell event) (answer.Told result) → Called event result p q
   called event result l =
@@ -156,6 +168,14 @@ module _ (p q : Pass) where
       let v = pass_view p.pass in
       let seen : seen_of q ≡ transcript_of (v.seen ++ l.between) = ap transcript_of (l.seen ∙ grown_not (v.seen ++ l.between) (number_of p) report l.recorded a.0) in
       (looked report (answer.Report lines) l a.0, subst (λ entries. IfOk lines (λ told. told.items ≡ report_of (roots_of p) entries)) (sym seen) a.1)
+
+  -- it was asked which events were told
+  pub events_told : (result : Result (Vec server.Event) AllocError) → LockCalled events (answer.Events result) → Looked p q × IfOk result (λ told. map event_of told.items ≡ events_of (seen_of q))
+  events_told result l =
+      let a = answer_is events (answer.Events result) l in
+      let v = pass_view p.pass in
+      let seen : seen_of q ≡ transcript_of (v.seen ++ l.between) = ap transcript_of (l.seen ∙ grown_not (v.seen ++ l.between) (number_of p) events l.recorded a.0) in
+      (looked events (answer.Events result) l a.0, subst (λ entries. IfOk result (λ told. map event_of told.items ≡ events_of entries)) (sym seen) a.1)
 
   -- what a call leaves as it was
   pub same_knower : mark_of q ≡ mark_of p → number_of q ≡ number_of p → lock.SameKnower (pass_view p.pass) (pass_view q.pass) → SameKnower p q

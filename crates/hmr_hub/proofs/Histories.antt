@@ -10,13 +10,13 @@ use Rattle.core_model.specs.Transcript.{Recorded, events_of}
 use Rattle.turn_lock.specs.Histories.{Past, calls, grown, has}
 use Rattle.turn_lock.proofs.Histories.{calls_append}
 use Rattle.hmr_hub.specs.Outcomes.{is_recorded}
-use Rattle.hmr_hub.specs.Questions.{Asked, tell, outstanding, report, entry_in, transcript_of, history_of}
+use Rattle.hmr_hub.specs.Questions.{Asked, tell, outstanding, report, events, entry_in, transcript_of, history_of}
 use Rattle.hmr_hub.specs.Transcripts.{past_of, recorded}
 
 -- the events, newest first, with one entry more
 pub past_more : (entries : List Recorded) (by : ℕ) (event : Event) → past_of (entries ++ (by, event) ∷ []) ≡ event ∷ past_of entries
 past_more entries by event =
-    ap (λ events. reverse events) (map-append (λ (entry : Recorded). entry.1) entries ((by, event) ∷ []))
+    ap (λ told. reverse told) (map-append (λ (entry : Recorded). entry.1) entries ((by, event) ∷ []))
     ∙ reverse-append (events_of entries) (event ∷ [])
 
 pub transcript_append : (xs ys : List (ℕ × Asked)) → transcript_of (xs ++ ys) ≡ transcript_of xs ++ transcript_of ys
@@ -49,6 +49,8 @@ known_entry ks by (outstanding n) true xs ys h e = e
 known_entry ks by (outstanding n) false xs ys h e = e
 known_entry ks by report true xs ys h e = e
 known_entry ks by report false xs ys h e = e
+known_entry ks by events true xs ys h e = e
+known_entry ks by events false xs ys h e = e
 
 -- the entries under known numbers, of the history or of its transcript
 pub calls_transcript : (ks : List ℕ) (history : List (ℕ × Asked)) → calls ks (transcript_of history) ≡ transcript_of (calls ks history)

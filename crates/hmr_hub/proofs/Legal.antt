@@ -1,5 +1,5 @@
 -- A legal transcript with one entry more.
-use Rattle.std.proofs.Common.{◌≡◌, ◌+◌, ◌<◌, ◌≤◌, ℕ, Bool, true, false, List, [], ◌∷◌, ◌++◌, length, refl, ap, sym, ◌∙◌, subst, arith}
+use Rattle.std.proofs.Common.{◌≡◌, ◌+◌, ◌<◌, ◌≤◌, ℕ, Bool, true, false, List, [], ◌∷◌, ◌++◌, length, refl, sym, subst, arith}
 use Rattle.std.specs.Prelude.{All, ◌||◌, nat_le, nat_lt}
 use Rattle.std.proofs.lemmas.Bool.{leb-false, ltb-false}
 use Rattle.std.proofs.lemmas.List.{length-append, map-append}
@@ -11,7 +11,7 @@ use Rattle.core_model.specs.Names.{Name}
 use Rattle.core_model.specs.Roots.{AreRoots}
 use Rattle.core_model.specs.Formed.{IsFormed}
 use Rattle.core_model.specs.Core.{Event}
-use Rattle.core_model.specs.Transcript.{IsLegal, IsTrueEvent, Recorded, event_bytes, events_of, most_bytes, most_entries, transcript_bytes}
+use Rattle.core_model.specs.Transcript.{IsTrueEvent, Recorded, event_bytes, events_of, most_bytes, most_entries, transcript_bytes}
 use Rattle.hmr_hub.specs.Transcripts.{IsTranscript, entry_bytes, is_full, may_make}
 
 -- the transcript has a place for the event

@@ -6,3 +6,4 @@ pub mod Lines
 pub mod Paging
 pub mod Rooting
 pub mod Sounding
+pub mod Weights

@@ -1,5 +1,5 @@
 -- The pages of clients after an event.
-use Rattle.std.proofs.Common.{◌≡◌, ◌≢◌, ◌+◌, ◌-◌, ◌<◌, ◌≤◌, ◌⊎◌, inl, inr, ⊎_elim, ℕ, Bool, true, false, ◌||◌, List, [], ◌∷◌, ◌++◌, length, get_or, refl, ap, sym, ◌∙◌, subst, arith, length-append}
+use Rattle.std.proofs.Common.{◌≡◌, ◌≢◌, ◌+◌, ◌<◌, ◌≤◌, ◌⊎◌, inl, inr, ⊎_elim, ℕ, Bool, true, false, ◌||◌, List, [], ◌∷◌, ◌++◌, length, get_or, refl, ap, sym, ◌∙◌, subst, arith, length-append}
 use Rattle.std.specs.Prelude.{◌==◌, cond, Option, Some, None, is_some, option_map, if◌then◌else◌, nat_le}
 use Rattle.std.specs.Option.{option_or}
 use Rattle.std.proofs.Math.ListN.{set}
@@ -13,13 +13,12 @@ use Rattle.core_model.specs.declared.refusal.Refusal.TheVariants.{TooManyClients
 use Rattle.core_model.specs.Requests.{Reply, Request, heard, refused}
 use Rattle.core_model.specs.Roots.{are_bad, roots_or}
 use Rattle.core_model.specs.View.{table_of}
-use Rattle.core_model.specs.Core.{Core, Event, change, connect, request, disconnect, client_at, with_client, without_client, core_after, step, told_of, requested, disconnected, connected, if_room, admitted, is_full}
+use Rattle.core_model.specs.Core.{Core, Event, change, connect, request, disconnect, client_at, without_client, core_after, step, told_of, requested, disconnected, connected, if_room, admitted, is_full}
 use Rattle.core_model.proofs.Clients.{at_each, at_with, at_without}
 use Rattle.server_core.specs.Reading.{page_of}
 use Rattle.server_core.specs.Said.{said}
 use Rattle.hmr_hub.specs.Pages.{ArePages, IsPage, Page, last_page}
 use Rattle.hmr_hub.specs.Passages.{IsComing, IsStaying, is_to}
-use Prim.{⊥}
 
 same_or_other : (j k : ℕ) → (j ≡ k) ⊎ (j ≢ k)
 same_or_other j k = ⊎_elim (λ (t : (j == k) ≡ true). inl (eqb-true j k t)) (λ (f : (j == k) ≡ false). inr (λ e. false≢true (sym f ∙ eq-eqb j k e))) (cases_Bool (j == k))

@@ -3,7 +3,6 @@ use Rattle.std.proofs.Common.{◌≡◌, ℕ, true, List, [], ◌∷◌, ◌++�
 use Rattle.std.specs.Prelude.{Option}
 use Rattle.module_semantics.specs.Analysis.{transformed}
 use Rattle.module_semantics.specs.ModuleText.{parsing}
-use Rattle.core_model.specs.Names.{Name}
 use Rattle.core_model.specs.Formed.{IsFormed}
 use Rattle.core_model.specs.Core.{Event}
 use Rattle.core_model.specs.Transcript.{IsTrueEvent, Recorded}

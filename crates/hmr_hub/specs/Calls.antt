@@ -1,6 +1,6 @@
 -- What a call, a split and a join of passes leave, as their callers are told.
-use Rattle.std.specs.Prelude.{◌≡◌, ◌≢◌, ◌<◌, ◌≤◌, ◌↔◌, ◌⊎◌, ◌||◌, ◌+◌, [], ◌∷◌, ◌++◌}
-use Rattle.std.specs.Prelude.{ℕ, Bool, true, false, List, length, max, Result, IfOk, IsErrOf}
+use Rattle.std.specs.Prelude.{◌≡◌, ◌<◌, ◌≤◌, ◌↔◌, ◌⊎◌, ◌||◌, ◌+◌, [], ◌∷◌, ◌++◌}
+use Rattle.std.specs.Prelude.{ℕ, true, false, List, length, max, Result, IfOk, IsErrOf}
 use Rattle.core_model.specs.Names.{Name}
 use Rattle.core_model.specs.Core.{Event}
 use Rattle.core_model.specs.Transcript.{Recorded, reply_after}

@@ -1,17 +1,17 @@
 -- What is answered to a question, in the state that a transcript makes.
-use Rattle.std.specs.Prelude.{◌≡◌, ℕ, Bool, true, false, ⊤, List, Result, Ok, Err, IfOk}
+use Rattle.std.specs.Prelude.{◌≡◌, ℕ, Bool, true, false, ⊤, List, map, Result, Ok, Err, IfOk}
 use Prim.{⊥}
 use Rattle.core_model.specs.Names.{Name}
 use Rattle.core_model.specs.Core.{Event}
-use Rattle.core_model.specs.Transcript.{Recorded, reply_after}
+use Rattle.core_model.specs.Transcript.{Recorded, events_of, reply_after}
 use Rattle.update_msgs.specs.declared.desk.HubStop.{HubStop}
 use Rattle.update_msgs.specs.declared.desk.HubStop.TheVariants.{TranscriptFull, NoMemory}
 use Rattle.server_core.specs.declared.event.Reply.{Reply}
-use Rattle.server_core.specs.Said.{IsWritten, said}
+use Rattle.server_core.specs.Said.{IsWritten, event_of, said}
 use Rattle.turn_lock.specs.Histories.{grown}
 use Rattle.hmr_hub.specs.declared.answer.Answer.{Answer}
 use Rattle.hmr_hub.specs.declared.answer.Answer.TheVariants as answer
-use Rattle.hmr_hub.specs.Questions.{Asked, tell, outstanding, report, transcript_of}
+use Rattle.hmr_hub.specs.Questions.{Asked, tell, outstanding, report, events, transcript_of}
 use Rattle.hmr_hub.specs.Recordings.{Recording}
 use Rattle.hmr_hub.specs.Reports.{report_of}
 use Rattle.hmr_hub.specs.Transcripts.{IsTranscript, is_full, is_outstanding}
@@ -40,32 +40,50 @@ IsAnswer roots before (tell event) (answer.Told result) kept =
     (kept ≡ is_recorded result) × IsOutcome roots before event result
 IsAnswer roots before (tell event) (answer.Outstanding told) kept = ⊥
 IsAnswer roots before (tell event) (answer.Report lines) kept = ⊥
+IsAnswer roots before (tell event) (answer.Events told) kept = ⊥
 IsAnswer roots before (outstanding n) (answer.Told result) kept = ⊥
 IsAnswer roots before (outstanding n) (answer.Outstanding told) kept =
     (kept ≡ false) × (told ≡ is_outstanding roots before n)
 IsAnswer roots before (outstanding n) (answer.Report lines) kept = ⊥
+IsAnswer roots before (outstanding n) (answer.Events told) kept = ⊥
 IsAnswer roots before report (answer.Told result) kept = ⊥
 IsAnswer roots before report (answer.Outstanding told) kept = ⊥
 IsAnswer roots before report (answer.Report lines) kept =
     (kept ≡ false) × IfOk lines (λ told. told.items ≡ report_of roots before)
+IsAnswer roots before report (answer.Events told) kept = ⊥
+IsAnswer roots before events (answer.Told result) kept = ⊥
+IsAnswer roots before events (answer.Outstanding told) kept = ⊥
+IsAnswer roots before events (answer.Report lines) kept = ⊥
+IsAnswer roots before events (answer.Events told) kept =
+    (kept ≡ false) × IfOk told (λ told. map event_of told.items ≡ events_of before)
 
 -- it is the answer to an event
 abbrev pub IsTold : Answer → Type 0
 IsTold (answer.Told result) = ⊤
 IsTold (answer.Outstanding told) = ⊥
 IsTold (answer.Report lines) = ⊥
+IsTold (answer.Events told) = ⊥
 
 -- it is the answer to whether a result hasn't come
 abbrev pub IsOutstandingTold : Answer → Type 0
 IsOutstandingTold (answer.Told result) = ⊥
 IsOutstandingTold (answer.Outstanding told) = ⊤
 IsOutstandingTold (answer.Report lines) = ⊥
+IsOutstandingTold (answer.Events told) = ⊥
 
 -- it is the answer to what there is to report
 abbrev pub IsReported : Answer → Type 0
 IsReported (answer.Told result) = ⊥
 IsReported (answer.Outstanding told) = ⊥
 IsReported (answer.Report lines) = ⊤
+IsReported (answer.Events told) = ⊥
+
+-- it is the answer to which events were told
+abbrev pub IsEventsTold : Answer → Type 0
+IsEventsTold (answer.Told result) = ⊥
+IsEventsTold (answer.Outstanding told) = ⊥
+IsEventsTold (answer.Report lines) = ⊥
+IsEventsTold (answer.Events told) = ⊤
 
 -- the answer in the state that a history makes of the opening value, and what the history then is
 pub record Answers (opening : Recording) (history : List (ℕ × Asked)) (by : ℕ) (asked : Asked)

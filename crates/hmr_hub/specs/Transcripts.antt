@@ -5,7 +5,7 @@ use Rattle.module_semantics.specs.Analysis.{transformed}
 use Rattle.module_semantics.specs.ModuleText.{parsing}
 use Rattle.core_model.specs.Names.{Name, at}
 use Rattle.core_model.specs.Sources.{edit, result}
-use Rattle.core_model.specs.Requests.{Request, ask, fetch, applied_as, aborted, invalidate}
+use Rattle.core_model.specs.Requests.{ask, fetch, applied_as, aborted, invalidate}
 use Rattle.core_model.specs.Formed.{IsVersion}
 use Rattle.core_model.specs.Core.{Event, change, connect, request, disconnect, core_after}
 use Rattle.core_model.specs.Transcript.{Recorded, IsLegal, event_bytes, events_of, most_bytes}

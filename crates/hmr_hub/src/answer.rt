@@ -1,6 +1,6 @@
 // What is answered under the lock.
 use crate::report_line::ReportLine;
-use server_core::Reply;
+use server_core::{Event, Reply};
 use std::alloc::AllocError;
 use update_msgs::HubStop;
 
@@ -10,4 +10,5 @@ pub(crate) enum Answer {
     Told(Result<Reply, HubStop>),
     Outstanding(bool),
     Report(Result<Vec<ReportLine>, AllocError>),
+    Events(Result<Vec<Event>, AllocError>),
 }

@@ -1,13 +1,14 @@
 // What is done with a hub: it is made, called in turn by passes, and passes are split and joined.
-ghost use Rattle.std.specs.Prelude.{◌≡◌, ◌<◌, ◌≤◌, ◌↔◌, ◌+◌, [], IfOk, IsErrOf, false, length, true};
+ghost use Rattle.std.specs.Prelude.{◌≡◌, ◌<◌, ◌≤◌, ◌↔◌, ◌+◌, [], IfOk, IsErrOf, false, length, map, true};
 ghost use Rattle.hmr_types.specs.declared.limits.TheConstants.{ROOTS};
 ghost use Rattle.core_model.specs.Roots.{AreRoots, are_distinct};
+ghost use Rattle.core_model.specs.Transcript.{events_of};
 ghost use Rattle.server_core.specs.Kept.{StandsFor};
 ghost use Rattle.server_core.specs.Said.{event_of};
 ghost use Rattle.server_core.specs.declared.event.NewFault.TheVariants.{DuplicateRoot, NoRoots};
 ghost use Rattle.server_core.specs.declared.event.NewFault.TheVariants.{TooManyRoots};
 ghost use Rattle.hmr_hub.specs.Calls.{Called, IsFirst, IsHalf, Joined, Looked, SameKnower, SameSeen};
-ghost use Rattle.hmr_hub.specs.Outcomes.{IsOutstandingTold, IsReported, IsTold};
+ghost use Rattle.hmr_hub.specs.Outcomes.{IsEventsTold, IsOutstandingTold, IsReported, IsTold};
 ghost use Rattle.hmr_hub.specs.Passes.{HasTranscript, IsPassOf, all_given, given_of, number_of};
 ghost use Rattle.hmr_hub.specs.Passes.{roots_of, seen_of};
 ghost use Rattle.hmr_hub.specs.Reports.{report_of};
@@ -151,6 +152,21 @@ impl Hub {
         let question = Question { kind: Kind::Report };
         reported(self.lock.call(rt, &mut pass.pass, question))
     }
+
+    /// The events that the hub was told, oldest first, of all that the pass has then seen. Results carry
+    /// their outcome again: each text is transformed anew. It waits for the turn and records nothing. Only
+    /// out of memory refuses. It takes time and memory in proportion to the names and texts of all entries.
+    pub fn events<R: Wait>(&self, rt: &R, pass: &mut Pass) -> Result<Vec<Event>, AllocError>
+        requires { IsPassOf self.now pass.old }
+        ensures pass { IsPassOf self.now pass.new }
+        ensures same { SameKnower pass.old pass.new }
+        ensures looked { Looked pass.old pass.new }
+        ensures transcript { HasTranscript pass.new }
+        ensures told { IfOk result (λ events. map event_of events.items ≡ events_of (seen_of pass.new)) }
+    {
+        let question = Question { kind: Kind::Events };
+        events_told(self.lock.call(rt, &mut pass.pass, question))
+    }
 }
 
 // The hub of a core that was told nothing yet, and its first pass.
@@ -172,7 +188,7 @@ fn told(told: Answer) -> Result<Reply, HubStop>
 {
     match told {
         Answer::Told(result) => result,
-        Answer::Outstanding(_) | Answer::Report(_) => unreachable!(),
+        Answer::Outstanding(_) | Answer::Report(_) | Answer::Events(_) => unreachable!(),
     }
 }
 
@@ -183,7 +199,7 @@ fn is_outstanding(told: Answer) -> bool
 {
     match told {
         Answer::Outstanding(result) => result,
-        Answer::Told(_) | Answer::Report(_) => unreachable!(),
+        Answer::Told(_) | Answer::Report(_) | Answer::Events(_) => unreachable!(),
     }
 }
 
@@ -194,6 +210,17 @@ fn reported(told: Answer) -> Result<Vec<ReportLine>, AllocError>
 {
     match told {
         Answer::Report(result) => result,
-        Answer::Told(_) | Answer::Outstanding(_) => unreachable!(),
+        Answer::Told(_) | Answer::Outstanding(_) | Answer::Events(_) => unreachable!(),
+    }
+}
+
+// The answer to what was told.
+fn events_told(told: Answer) -> Result<Vec<Event>, AllocError>
+    requires { IsEventsTold told }
+    ensures { told ≡ answer.Events result }
+{
+    match told {
+        Answer::Events(result) => result,
+        Answer::Told(_) | Answer::Outstanding(_) | Answer::Report(_) => unreachable!(),
     }
 }

@@ -50,6 +50,7 @@ impl RecordedCore {
             }
             Kind::Outstanding(name) => (Answer::Outstanding(self.is_outstanding(&name)), false),
             Kind::Report => (Answer::Report(self.report()), false),
+            Kind::Events => (Answer::Events(self.events()), false),
         }
     }
 }

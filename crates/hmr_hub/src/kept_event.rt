@@ -54,7 +54,11 @@ pub(crate) fn keep(alloc: Global, event: &Event) -> Result<KeptEvent, AllocError
     }
 }
 
-fn copy_text(alloc: Global, text: &Option<Vec<u8>>) -> Result<Option<Vec<u8>>, AllocError>
+/// An equal text, where there is one.
+pub(crate) fn copy_text(
+    alloc: Global,
+    text: &Option<Vec<u8>>,
+) -> Result<Option<Vec<u8>>, AllocError>
     ensures { IfOk result (λ copy. option_map (λ t. t.items) copy ≡ option_map (λ t. t.items) text.now) }
 {
     match text {

@@ -8,6 +8,7 @@
 #![tactic(auto)]
 
 mod answer;
+mod events;
 mod forming;
 mod hub;
 mod keeping;

@@ -12,6 +12,8 @@ pub(crate) enum Kind {
     Outstanding(ModName),
     /// What there is to report.
     Report,
+    /// The events that were told.
+    Events,
 }
 
 /// A question, whose event is well formed; contracts see what the definitions have of it.

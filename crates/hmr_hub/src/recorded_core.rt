@@ -1,10 +1,11 @@
 // The core with its transcript: an event is told to the core and recorded, or neither.
-ghost use Rattle.std.specs.Prelude.{◌≡◌, ◌+◌, ◌++◌, ◌∷◌, [], IfOk, OnErr, OnOk, false, true};
+ghost use Rattle.std.specs.Prelude.{◌≡◌, ◌+◌, ◌++◌, ◌∷◌, [], IfOk, OnErr, OnOk, false, map, true};
 ghost use Rattle.module_semantics.specs.Analysis.{transformed};
 ghost use Rattle.module_semantics.specs.ModuleText.{parsing};
 ghost use Rattle.core_model.specs.Formed.{IsFormed};
 ghost use Rattle.core_model.specs.Roots.{AreRoots};
-ghost use Rattle.core_model.specs.Transcript.{IsTrueEvent, most_bytes, reply_after, transcript_bytes};
+ghost use Rattle.core_model.specs.Transcript.{IsTrueEvent, events_of, most_bytes, reply_after};
+ghost use Rattle.core_model.specs.Transcript.{transcript_bytes};
 ghost use Rattle.server_core.specs.Kept.{StandsFor};
 ghost use Rattle.server_core.specs.Said.{IsWritten, event_of, said};
 ghost use Rattle.hmr_hub.specs.Outcomes.{IsOutcome};
@@ -108,5 +109,14 @@ impl RecordedCore {
         ensures transcript { IsTranscript self.now.roots self.now.entries }
     {
         self.core.outstanding(name)
+    }
+
+    /// The events of the transcript, oldest first; each text of a result is transformed anew. It takes time
+    /// and memory in proportion to the names and texts of all entries.
+    pub fn events(&self) -> Result<Vec<Event>, AllocError>
+        ensures told { IfOk result (λ events. map event_of events.items ≡ events_of self.now.entries) }
+        ensures transcript { IsTranscript self.now.roots self.now.entries }
+    {
+        self.transcript.events(self.alloc)
     }
 }

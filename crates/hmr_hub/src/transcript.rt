@@ -1,10 +1,12 @@
 // The transcript: entries with the numbers of their passes, and how many bytes further ones may have.
-ghost use Rattle.std.specs.Prelude.{◌≡◌, ◌+◌, ◌≤◌, ◌<◌, ◌++◌, ◌∷◌, [], IfSome, OnOk, false, is_none, length};
-ghost use Rattle.core_model.specs.Transcript.{most_bytes, most_entries, transcript_bytes};
+ghost use Rattle.std.specs.Prelude.{◌≡◌, ◌+◌, ◌≤◌, ◌<◌, ◌++◌, ◌∷◌, [], IfOk, IfSome, OnOk, false};
+ghost use Rattle.std.specs.Prelude.{is_none, length, map};
+ghost use Rattle.core_model.specs.Transcript.{events_of, most_bytes, most_entries, transcript_bytes};
 ghost use Rattle.server_core.specs.Said.{event_of};
 ghost use Rattle.hmr_hub.specs.KeptEvents.{kept_as};
 ghost use Rattle.hmr_hub.specs.Transcripts.{entry_bytes, is_full};
 
+use crate::events::events_in;
 use crate::kept_event::{Entry, KeptEvent};
 use crate::weighing::left_after;
 use server_core::Event;
@@ -55,6 +57,13 @@ impl Transcript {
         ensures { result ≡ length self.now.entries }
     {
         self.entries.len()
+    }
+
+    /// The events of the entries, oldest first; each text of a result is transformed anew.
+    pub fn events(&self, alloc: Global) -> Result<Vec<Event>, AllocError>
+        ensures { IfOk result (λ events. map event_of events.items ≡ events_of self.now.entries) }
+    {
+        events_in(alloc, &self.entries)
     }
 
     /// How many bytes are left after this event; None exactly where it has no place. It takes no memory.

@@ -1,8 +1,9 @@
-// What a hub answers and reports.
+// What a hub answers and reports, and what a core answers to its events.
 use crate::asking::{
     is_full, loading_said, name, report_said, rests_once_settled, spaces, too_long,
     waits_once_edited,
 };
+use crate::retelling::retold_said;
 use hmr_hub::{Hub, HubStop};
 use hmr_types::ModName;
 use std::alloc::{AllocError, Global};
@@ -55,6 +56,21 @@ fn every_kind_of_event_is_told(rt: HostRuntime) -> Result<(), Fail> {
     assert_eq!(rt;
         report.as_str(),
         "steps 10, fresh, /m.js 1, client 1, /m.js 1, client 2"
+    );
+    Ok(())
+}
+
+#[test]
+fn a_core_answers_the_events_of_a_hub_alike(rt: HostRuntime) -> Result<(), Fail> {
+    let alloc = rt.alloc();
+    let (hub, mut pass) = Hub::new(alloc, page(alloc)?)?;
+    waits_once_edited(&rt, alloc, &hub, &mut pass)?;
+    rests_once_settled(&rt, alloc, &hub, &mut pass)?;
+    loading_said(&rt, alloc, &hub, &mut pass)?;
+    let replies = retold_said(&rt, alloc, &hub, &mut pass, page(alloc)?)?;
+    assert_eq!(rt;
+        replies.as_str(),
+        "job 1, served, client 1, /m.js 1, done, idle, ignored, out of turn, gone, client 2"
     );
     Ok(())
 }

@@ -5,6 +5,7 @@ use output_lines::OutLine;
 use server_core::Reply;
 use std::alloc::{AllocError, Global};
 use update_msgs::ServerMsg;
+use version_map::{EditOutcome, Settled};
 
 /// The replies as words, with `, ` between; a reply that the tests know nothing of is `?`.
 pub(crate) fn all_said(alloc: Global, replies: &[Reply]) -> Result<String, AllocError> {
@@ -33,6 +34,8 @@ fn add(all: &mut String, more: &str) -> Result<(), AllocError> {
 
 fn said(alloc: Global, reply: &Reply) -> Result<String, AllocError> {
     match reply {
+        Reply::Edited(EditOutcome::Job(version)) => format!(in alloc; "job {version}"),
+        Reply::Settled(Settled::Served) => String::from_str(alloc, "served"),
         Reply::To(message) => message_said(alloc, message),
         Reply::Refused(Refusal::Ignored) => String::from_str(alloc, "ignored"),
         Reply::Refused(Refusal::OutOfTurn) => String::from_str(alloc, "out of turn"),

@@ -1,4 +1,4 @@
-use Rattle.std.proofs.Common.{◌+◌, None, sym, subst}
+use Rattle.std.proofs.Common.{◌+◌, None, subst}
 use Rattle.hmr_hub.specs.Pages.{IsPage}
 use Rattle.hmr_hub.proofs.Lines.{here, one_more_client}
 use Rattle.hmr_hub.proofs.reporting.add_pages.Goals as goal

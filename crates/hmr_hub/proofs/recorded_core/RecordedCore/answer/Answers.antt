@@ -3,8 +3,8 @@ use Rattle.server_core.specs.Said.{event_of}
 use Rattle.turn_lock.specs.Histories.{grown}
 use Rattle.hmr_hub.specs.declared.answer.Answer.TheVariants as answer
 use Rattle.hmr_hub.specs.Kinds.{asked_of}
-use Rattle.hmr_hub.specs.Outcomes.{Answers, is_recorded}
-use Rattle.hmr_hub.specs.Questions.{history_of, outstanding, report, tell}
+use Rattle.hmr_hub.specs.Outcomes.{Answers}
+use Rattle.hmr_hub.specs.Questions.{events, history_of, outstanding, report, tell}
 use Rattle.hmr_hub.proofs.Answering.{quiet_answer, told_answer}
 use Rattle.hmr_hub.proofs.Histories.{history_more}
 use Rattle.hmr_hub.proofs.recorded_core.RecordedCore.answer.Goals as goal
@@ -34,3 +34,9 @@ returns-in-Report-clause-answer c = λ opening same.
     let told = c.report.ensures in
     subst (λ kind. Answers opening (history_of c.args.self.now.entries) c.args.by (asked_of kind) (answer.Report c.report.result) false) (sym c.in-Report.is)
     (quiet_answer opening c.args.self.now c.args.by same report (answer.Report c.report.result) (refl, told.told) told.transcript)
+
+pub returns-in-Events-clause-answer : goal.returns-in-Events-clause-answer
+returns-in-Events-clause-answer c = λ opening same.
+    let told = c.events.ensures in
+    subst (λ kind. Answers opening (history_of c.args.self.now.entries) c.args.by (asked_of kind) (answer.Events c.events.result) false) (sym c.in-Events.is)
+    (quiet_answer opening c.args.self.now c.args.by same events (answer.Events c.events.result) (refl, told.told) told.transcript)

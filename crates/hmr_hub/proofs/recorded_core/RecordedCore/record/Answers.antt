@@ -1,4 +1,4 @@
-use Rattle.std.proofs.Common.{◌≡◌, ◌++◌, ◌∷◌, [], ◌∙◌, ap, sym, subst}
+use Rattle.std.proofs.Common.{◌++◌, ◌∷◌, [], ◌∙◌, ap, sym, subst}
 use Rattle.server_core.specs.Said.{event_of}
 use Rattle.hmr_hub.specs.KeptEvents.{kept_as}
 use Rattle.hmr_hub.specs.Pages.{ArePages}
