@@ -179,6 +179,18 @@ has_is v n rows o s e = ap is_some (found_is v n rows s) ∙ ap (λ x. is_some (
 pub none_named : (v : ℕ) (n : Name) → is_some (named v n None) ≡ false
 none_named v n = refl
 
+-- the text of the job of a version, where it has the name
+pub text_named : (v : ℕ) (n : Name) (job : Job) (b : Bool) → b ≡ same_name job.name n → (if b then Some job.text.items else None) ≡ option_map (λ (j : model.Job). j.text) (named v n (Some job))
+text_named v n job b e = text_if b ∙ ap (λ same. option_map (λ (j : model.Job). j.text) (if same then Some (job_of (v, job)) else None)) e
+  where
+    text_if : (b : Bool) → (if b then Some job.text.items else None) ≡ option_map (λ (j : model.Job). j.text) (if b then Some (job_of (v, job)) else None)
+    text_if true = refl
+    text_if false = refl
+
+-- the text of the job that is found, by the job of the version
+pub text_by : (v : ℕ) (n : Name) (rows : Rows) (o : Option Job) → IsStrictlySortedBy nat_cmp (keys_of rows) → o ≡ lookup (is_at (nat_cmp v)) rows → option_map (λ (j : model.Job). j.text) (named v n o) ≡ option_map (λ (j : model.Job). j.text) (find (is_job n v) (issued_of rows))
+text_by v n rows o s e = ap (λ x. option_map (λ (j : model.Job). j.text) (named v n x)) e ∙ ap (option_map (λ (j : model.Job). j.text)) (sym (found_is v n rows s))
+
 -- One job more, of a version above all others.
 
 last_of : {X : Type 0} (P : X → Type 0) (xs : List X) (x : X) → AllByRecursion P (xs ++ x ∷ []) → AllByRecursion P xs × P x

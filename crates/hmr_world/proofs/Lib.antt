@@ -15,6 +15,7 @@ mod Placing
 mod Settling
 mod Shelving
 mod Stepped
+mod Telling
 mod Turned
 mod Turning
 mod Words

@@ -1,5 +1,6 @@
 pub mod Clients
 pub mod Cores
+pub mod Events
 pub mod Greetings
 pub mod Jobs
 pub mod Promises

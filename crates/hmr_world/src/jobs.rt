@@ -1,6 +1,7 @@
 // The jobs that were issued and whose results haven't come, by version.
 ghost use Rattle.std.specs.Prelude.{◌≡◌, ◌<◌, [], ◌∷◌};
-ghost use Rattle.std.specs.Prelude.{IfOk, OnOk, filter, find, is_some, map, not, option_map, reverse};
+ghost use Rattle.std.specs.Prelude.{IfOk, None, OnOk, Some, filter, find, if◌then◌else◌, is_some, map, not};
+ghost use Rattle.std.specs.Prelude.{option_map, reverse};
 ghost use Rattle.std.specs.List.{AllByRecursion};
 ghost use Rattle.world_model.specs.Editing.{is_job};
 ghost use Rattle.hmr_world.specs.Jobs.{job_of, key_of};
@@ -70,6 +71,18 @@ impl Jobs {
         text_of(self.rows.remove(&version))
     }
 
+    /// The text of the job of this name and version: None where there is no such job. It takes no memory,
+    /// and time in the logarithm of the jobs.
+    pub fn text(&self, name: &ModName, version: Ver) -> Option<&[u8]>
+        ensures { option_map (λ t. t.now) result
+            ≡ option_map (λ j. j.text) (find (is_job name.now version) self.now) }
+    {
+        match self.rows.get(&version) {
+            Some(job) => text_if(job.name == *name, job),
+            None => None,
+        }
+    }
+
     fn has(&self, name: &ModName, version: Ver) -> bool
         ensures { result ≡ is_some (find (is_job name.now version) self.now) }
     {
@@ -85,6 +98,13 @@ impl Jobs {
     {
         keys_in(alloc, &self.rows)
     }
+}
+
+// The text of a job that is meant.
+fn text_if(meant: bool, job: &Job) -> Option<&[u8]>
+    ensures { option_map (λ t. t.now) result ≡ (if meant then Some job.now.text.items else None) }
+{
+    if meant { Some(&job.text) } else { None }
 }
 
 fn text_of(job: Option<Job>) -> Option<Vec<u8>>

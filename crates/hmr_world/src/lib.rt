@@ -10,6 +10,7 @@
 mod clients;
 mod core_calls;
 mod edits;
+mod events;
 mod exchange;
 mod fires;
 mod fresh;
@@ -27,6 +28,7 @@ mod typed;
 mod wire;
 mod world;
 
+pub use events::each_step_tells_its_event;
 pub use step::Step;
 pub use stop::WorldStop;
 pub use world::World;
