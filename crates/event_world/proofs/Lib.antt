@@ -1,6 +1,8 @@
+mod CoreEvents
 mod Hearing
 mod Keeping
 mod Listening
 mod Lives
+mod Logging
 mod Presence
 mod Standing

@@ -1,13 +1,18 @@
 // The world with events, and its step.
-ghost use Rattle.std.specs.Prelude.{◌≡◌, IfOk, List, OnOk};
+ghost use Rattle.std.specs.Prelude.{◌≡◌, [], IfOk, IsErrOf, List, OnOk, true};
+ghost use Rattle.std.specs.Option.{option_map};
 ghost use Rattle.hmr_world.specs.Standing as worlds;
 ghost use Rattle.hmr_world.specs.Steps as plain_steps;
 ghost use Rattle.hmr_world.specs.Steps.{step_of};
 ghost use Rattle.hmr_world.specs.Stops.{AreLines};
+ghost use Rattle.hmr_world.specs.declared.stop.WorldStop.TheVariants.{InstancesFull};
 ghost use Rattle.hot_events.specs.Calls as lists;
 ghost use Rattle.hot_events.specs.Calls.{Call};
+ghost use Rattle.server_core.specs.Said.{event_of};
 ghost use Rattle.world_laws.specs.Runs.{Run};
+ghost use Rattle.event_world.specs.CoreEvents.{core_event_in};
 ghost use Rattle.event_world.specs.Courses.{calls_of, emits, hears, plain};
+ghost use Rattle.event_world.specs.Logs.{IsLogged, is_on};
 ghost use Rattle.event_world.specs.Promises.{KeepsPromises};
 ghost use Rattle.event_world.specs.Runs.{EventRun, EventsAreHeard, IsThereWhereOpen, ListenersRanOnce};
 ghost use Rattle.event_world.specs.Runs.{beginning, run_of, run_on, step_in};
@@ -15,6 +20,7 @@ ghost use Rattle.event_world.specs.Standing.{HasNoClient, IsRunning, IsStepped, 
 ghost use Rattle.event_world.specs.Standing.{StandsFor};
 ghost use Rattle.event_world.specs.Steps.{HasFormat, event_step_of};
 
+use crate::event_log::EventLog;
 use crate::event_step::{EventStep, Passage, passage_of};
 use crate::lines::{behind, full_lines, one_line, opened_by};
 use crate::promises::what_is_promised_of_runs;
@@ -24,24 +30,29 @@ use hmr_world::{Step, World, WorldStop};
 use hot_events::Waiting;
 use output_lines::OutLine;
 use retained_data::Bag;
+use server_core::Event;
 use std::alloc::{AllocError, Global};
 
 /// The world with events. That it stands for a run, the list of its steps so far, is the relation
-/// `StandsFor`. It may be given up at any moment.
+/// `StandsFor`; that its log is that of the events which the core is told in the run, where they are logged,
+/// is `IsLogged`. It may be given up at any moment.
 #[derive(Drop)]
 pub struct EventWorld<F> {
     alloc: Global,
     world: World<F>,
     waiting: Waiting,
+    log: EventLog,
 }
 
 impl<F: FnOnce(Bag) -> Result<Ran, AllocError> + Drop> EventWorld<F> {
-    /// The world with events, of a world in which no client is open. It takes no memory.
+    /// The world with events, of a world in which no client is open. It logs no events of the core. It takes
+    /// no memory.
     pub fn new(alloc: Global, world: World<F>) -> EventWorld<F>
         requires none { NoneIsOpen world }
         requires words { worlds.KeepsWords F.post world }
         ensures stands { (run : Run) → worlds.StandsFor run world → HasNoClient run
             → StandsFor (beginning run) result }
+        ensures logged { (run : EventRun) → IsLogged run result }
         ensures running { IsRunning result }
         ensures words { KeepsWords F.post result }
     {
@@ -49,6 +60,28 @@ impl<F: FnOnce(Bag) -> Result<Ran, AllocError> + Drop> EventWorld<F> {
             alloc,
             world,
             waiting: Waiting::new(alloc),
+            log: EventLog::Off,
+        }
+    }
+
+    /// The world with events, of a world that has made no step, which logs the events that the core is told
+    /// in each step. It takes no memory.
+    pub fn recording(alloc: Global, world: World<F>) -> EventWorld<F>
+        requires none { NoneIsOpen world }
+        requires words { worlds.KeepsWords F.post world }
+        ensures stands { (run : Run) → worlds.StandsFor run world → HasNoClient run
+            → StandsFor (beginning run) result }
+        ensures logged { (run : Run) → run.steps ≡ [] → IsLogged (beginning run) result }
+        ensures on { is_on result.log ≡ true }
+        ensures running { IsRunning result }
+        ensures words { KeepsWords F.post result }
+    {
+        let log = EventLog::new(alloc);
+        EventWorld {
+            alloc,
+            world,
+            waiting: Waiting::new(alloc),
+            log,
         }
     }
 
@@ -58,6 +91,21 @@ impl<F: FnOnce(Bag) -> Result<Ran, AllocError> + Drop> EventWorld<F> {
         ensures { result.now ≡ self.now.world }
     {
         &self.world
+    }
+
+    /// The event that the world's core would be told in this step, if it were made now, as
+    /// [`World::event_of`] gives it; nothing changes. It is None also for an emission and for a client that
+    /// hears, since the core isn't told of either. The cost is that of [`World::event_of`].
+    pub fn event_of(&self, step: &EventStep) -> Result<Option<Event>, AllocError>
+        requires running { IsRunning self.now }
+        ensures { (run : EventRun) → StandsFor run self.now
+            → IfOk result (λ told. option_map event_of told ≡ core_event_in run (event_step_of step.now)) }
+    {
+        match step {
+            EventStep::Plain(step) => self.world.event_of(step),
+            EventStep::Emit(_, _) => Ok(None),
+            EventStep::Hear(_) => Ok(None),
+        }
     }
 
     /// Makes one step, and gives its lines.
@@ -71,6 +119,10 @@ impl<F: FnOnce(Bag) -> Result<Ran, AllocError> + Drop> EventWorld<F> {
     ///
     /// The stops are those of the world's step. An emission takes time in the number of clients, of which
     /// there are at most 32; to hear takes the time of the page's listeners, however many events wait.
+    ///
+    /// Where the events of the core are logged, the one that the step makes is logged before the step is made,
+    /// also where the step then stops at too many instances. That takes what a copy of the event takes, and
+    /// of a result once more what transforming its text takes.
     pub fn step(&mut self, step: EventStep) -> Result<Vec<OutLine>, WorldStop>
         requires format { HasFormat step }
         requires callable { (f : F) → F.IsAlwaysCallable f }
@@ -80,6 +132,11 @@ impl<F: FnOnce(Bag) -> Result<Ran, AllocError> + Drop> EventWorld<F> {
             → OnOk result (StandsFor (run_on run (event_step_of step)) self.new) }
         ensures lines { (run : EventRun) → StandsFor run self.old
             → AreLines (step_in run (event_step_of step)).lines result }
+        ensures logged { (run : EventRun) → StandsFor run self.old → IsLogged run self.old
+            → OnOk result (IsLogged (run_on run (event_step_of step)) self.new) }
+        ensures stopped { (run : EventRun) → StandsFor run self.old → IsLogged run self.old
+            → IsErrOf result InstancesFull → IsLogged (run_on run (event_step_of step)) self.new }
+        ensures on { is_on self.new.log ≡ is_on self.old.log }
         ensures running { OnOk result (IsRunning self.new) }
         ensures words { KeepsWords F.post self.new }
         ensures there { (run : EventRun) → StandsFor run self.old
@@ -92,10 +149,30 @@ impl<F: FnOnce(Bag) -> Result<Ran, AllocError> + Drop> EventWorld<F> {
             → OnOk result (KeepsPromises (run_of (run_on run (event_step_of step)))) }
     {
         what_is_promised_of_runs();
+        self.note(&step)?;
         self.made(step)
     }
 
-    // The step by its kind.
+    // The event that the core will be told in this step is logged, where events are logged. Nothing else
+    // changes.
+    fn note(&mut self, step: &EventStep) -> Result<(), AllocError>
+        requires running { IsRunning self.old }
+        ensures world { self.new.world ≡ self.old.world }
+        ensures waiting { self.new.waiting ≡ self.old.waiting }
+        ensures on { is_on self.new.log ≡ is_on self.old.log }
+        ensures noted { (run : EventRun) → StandsFor run self.old → IsLogged run self.old
+            → OnOk result (IsLogged (run_on run (event_step_of step.now)) self.new) }
+    {
+        if !self.log.is_on() {
+            return Ok(());
+        }
+        match self.event_of(step)? {
+            Some(event) => self.log.push(event),
+            None => Ok(()),
+        }
+    }
+
+    // The step by its kind. The log stays as it is.
     fn made(&mut self, step: EventStep) -> Result<Vec<OutLine>, WorldStop>
         requires format { HasFormat step }
         requires callable { (f : F) → F.IsAlwaysCallable f }
@@ -104,6 +181,7 @@ impl<F: FnOnce(Bag) -> Result<Ran, AllocError> + Drop> EventWorld<F> {
         ensures step { (run : EventRun) → StandsFor run self.old
             → IsStepped run (event_step_of step) self.new result }
         ensures words { KeepsWords F.post self.new }
+        ensures log { self.new.log ≡ self.old.log }
     {
         match step {
             EventStep::Plain(step) => self.plain(step),
@@ -120,6 +198,7 @@ impl<F: FnOnce(Bag) -> Result<Ran, AllocError> + Drop> EventWorld<F> {
         ensures step { (run : EventRun) → StandsFor run self.old
             → IsStepped run (plain (step_of step)) self.new result }
         ensures words { KeepsWords F.post self.new }
+        ensures log { self.new.log ≡ self.old.log }
     {
         let passage = passage_of(&step);
         let lines = self.world.step(step)?;
@@ -131,6 +210,7 @@ impl<F: FnOnce(Bag) -> Result<Ran, AllocError> + Drop> EventWorld<F> {
         ensures step { (run : EventRun) → StandsFor run self.old
             → IsStepped run (emits event.now value.now) self.new result }
         ensures words { KeepsWords F.post self.old → KeepsWords F.post self.new }
+        ensures log { self.new.log ≡ self.old.log }
     {
         let full = self.waiting.emit(event, value)?;
         let lines = full_lines(self.alloc, event, &full)?;
@@ -144,6 +224,7 @@ impl<F: FnOnce(Bag) -> Result<Ran, AllocError> + Drop> EventWorld<F> {
         ensures step { (run : EventRun) → StandsFor run self.old
             → IsStepped run (hears client) self.new result }
         ensures words { KeepsWords F.post self.new }
+        ensures log { self.new.log ≡ self.old.log }
     {
         if !self.world.is_open(client) {
             return Ok(one_line(self.alloc, OutLine::Unknown { client })?);
@@ -167,6 +248,15 @@ impl<F: Drop> EventWorld<F> {
     /// Gives the world up with all its clients and events. It takes no memory.
     pub fn end(self) {
         self.world.end();
+    }
+
+    /// Gives the world up with all its clients and events, and hands out the log of the events that the core
+    /// was told. It takes no memory.
+    pub fn end_with_log(self) -> EventLog
+        ensures { result ≡ self.log }
+    {
+        self.world.end();
+        self.log
     }
 }
 

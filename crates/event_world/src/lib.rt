@@ -3,14 +3,20 @@
 //!
 //! Stands on `hmr_world` and on `hot_events`. Keeps: an [`EventWorld`] stands for a run, the list of its
 //! steps so far, as the relation `StandsFor` says; its world stands for the run of the world that those steps
-//! make, so what is promised of every run of the world holds of it; and what came to a client as events is
-//! what it has heard. Knows nothing of scripts or of the text of lines.
+//! make, so what is promised of every run of the world holds of it; what came to a client as events is what
+//! it has heard; and its log, where it keeps one, is of the events that the core was told in the run. Knows
+//! nothing of scripts or of the text of lines.
 #![tactic(auto)]
 
+mod core_events;
+mod event_log;
 mod event_step;
 mod event_world;
 mod lines;
 mod promises;
+mod weighing;
 
+pub use core_events::each_event_step_tells_its_event;
+pub use event_log::EventLog;
 pub use event_step::EventStep;
 pub use event_world::EventWorld;

@@ -1,0 +1,57 @@
+// The log of the events that the core is told in the steps of a world.
+ghost use Rattle.std.specs.Prelude.{◌≡◌, ◌++◌, ◌∷◌, [], List, OnOk, true};
+ghost use Rattle.core_model.specs.Core as model;
+ghost use Rattle.server_core.specs.Said.{event_of};
+ghost use Rattle.event_world.specs.Logs.{IsLogOf, is_on};
+
+use crate::weighing::{MOST_BYTES, left_behind};
+use server_core::Event;
+use std::alloc::{AllocError, Global};
+
+/// The events that the core is told in the steps of a world, as far as they have places in a transcript.
+#[derive(Drop)]
+pub enum EventLog {
+    /// They aren't logged.
+    Off,
+    /// The events so far, the oldest first, and how many bytes of a transcript are left for further ones.
+    Kept(Vec<Event>, usize),
+    /// There are more than have places in a transcript. None is kept, and none is logged any more.
+    Full,
+}
+
+impl EventLog {
+    /// The log before any event. It takes no memory.
+    pub(crate) fn new(alloc: Global) -> EventLog
+        ensures on { is_on result ≡ true }
+        ensures none { IsLogOf [] result }
+    {
+        EventLog::Kept(Vec::new(alloc), MOST_BYTES)
+    }
+
+    /// Whether events are logged.
+    pub(crate) fn is_on(&self) -> bool
+        ensures { result ≡ is_on self.now }
+    {
+        !matches!(self, EventLog::Off)
+    }
+
+    /// Logs an event behind the others, where events are logged. One that has no place in a transcript makes
+    /// the log full.
+    pub(crate) fn push(&mut self, event: Event) -> Result<(), AllocError>
+        ensures on { is_on self.new ≡ is_on self.old }
+        ensures log { (told : List model.Event) → IsLogOf told self.old
+            → OnOk result (IsLogOf (told ++ event_of event ∷ []) self.new) }
+    {
+        match self {
+            EventLog::Kept(events, left) => match left_behind(events.len(), *left, &event) {
+                Some(rest) => {
+                    events.push(event)?;
+                    *left = rest;
+                }
+                None => *self = EventLog::Full,
+            },
+            EventLog::Off | EventLog::Full => (),
+        }
+        Ok(())
+    }
+}
