@@ -1,5 +1,5 @@
 -- Which words of the command line are a command, and which command they are.
-use Rattle.std.specs.Prelude.{◌≡◌, ◌≤◌, ◌<◌, ◌^◌, ◌&&◌, ℕ, pos, Bool, true, false, not, List}
+use Rattle.std.specs.Prelude.{◌≡◌, ◌≤◌, ◌<◌, ◌^◌, ◌&&◌, ◌++◌, ℕ, pos, Bool, true, false, not, List}
 use Rattle.std.specs.Prelude.{[], ◌∷◌, Option, Some, None, Result, Ok, Err, codes, if◌then◌else◌}
 use Rattle.std.specs.Prelude.{option_and_then, option_map, unwrap_or}
 use Rattle.std.specs.List.{list_all}
@@ -15,6 +15,7 @@ use Rattle.hmr_types.specs.ModName.{is_name, is_text}
 use Rattle.core_model.specs.Roots.{AreRoots, are_bad}
 use Rattle.command_words.specs.declared.command.Command.{Command}
 use Rattle.command_words.specs.declared.command.Command.TheVariants.{Play, Check, Make, Serve, Join, Page}
+use Rattle.command_words.specs.declared.command.Command.TheVariants.{Record, Audit}
 use Rattle.command_words.specs.declared.command.ServePlan.{ServePlan}
 use Rattle.command_words.specs.declared.command.WordsFault.{WordsFault}
 use Rattle.command_words.specs.declared.command.WordsFault.TheVariants.{NotACommand, NoMemory}
@@ -22,7 +23,8 @@ use Rattle.command_words.specs.declared.command.WordsFault.TheVariants.{NotAComm
 -- the line for words that are no command
 abbrev pub usage_line : List ℕ
 usage_line =
-    codes "usage: hmr play | check NAME | make N SEED | serve FOLDER ROOT.. | join PORT [ROOT..] | page FOLDER\n"
+    codes "usage: hmr play | check NAME | make N SEED | serve FOLDER ROOT.. | join PORT [ROOT..] | page FOLDER"
+    ++ codes " | record | audit\n"
 
 -- a command without help and version, of whose words the first is no name of a program
 abbrev pub bare : Text → App
@@ -86,8 +88,15 @@ workers_rule = numbered (codes "workers") 1 16
 abbrev pub rounds_rule : Rule
 rounds_rule = numbered (codes "rounds") 0 1000
 
+-- an option that takes no word
+abbrev pub flag : Text → Rule
+flag id = record (new_rule id) { long = Some id; action = Some SetTrue }
+
 abbrev pub edits_rule : Rule
-edits_rule = record (new_rule (codes "edits")) { long = Some (codes "edits"); action = Some SetTrue }
+edits_rule = flag (codes "edits")
+
+abbrev pub record_rule : Rule
+record_rule = flag (codes "record")
 
 -- the port of `join`, and the roots of its page
 abbrev pub join_port_rule : Rule
@@ -96,7 +105,7 @@ join_port_rule = record (wanted (codes "PORT")) { parser = Some (vp.Signed (pos 
 abbrev pub join_roots_rule : Rule
 join_roots_rule = repeated (codes "ROOT")
 
--- the six commands
+-- the commands
 abbrev pub play_app : App
 play_app = bare (codes "play")
 
@@ -113,13 +122,19 @@ with_rules app (rule ∷ rules) = with_rules (with_rule app rule) rules
 abbrev pub serve_app : App
 serve_app = with_rules (bare (codes "serve"))
     (folder_rule ∷ roots_rule ∷ port_rule ∷ clients_rule ∷ outside_rule ∷ turns_rule
-    ∷ workers_rule ∷ rounds_rule ∷ edits_rule ∷ [])
+    ∷ workers_rule ∷ rounds_rule ∷ edits_rule ∷ record_rule ∷ [])
 
 abbrev pub join_app : App
 join_app = with_rules (bare (codes "join")) (join_port_rule ∷ join_roots_rule ∷ turns_rule ∷ [])
 
 abbrev pub page_app : App
 page_app = with_rule (bare (codes "page")) folder_rule
+
+abbrev pub record_app : App
+record_app = bare (codes "record")
+
+abbrev pub audit_app : App
+audit_app = bare (codes "audit")
 
 -- what is wrong with the words of a command, and what is found in them, by clap's meaning of a simple
 -- command
@@ -199,6 +214,7 @@ plan_of rows folder roots = record {
   workers = number_or 2 (codes "workers") rows;
   rounds = number_or 0 (codes "rounds") rows;
   edits = flag_of (codes "edits") rows;
+  recorded = flag_of (codes "record") rows;
 }
 
 -- the command that serves a folder to pages with roots
@@ -249,6 +265,12 @@ page_of words =
     let rows = found_in page_app words in
     unless (faults_of page_app words) (paging (word_of (codes "FOLDER") rows))
 
+abbrev pub record_of : List Text → Option Command
+record_of words = unless (faults_of record_app words) (Some Record)
+
+abbrev pub audit_of : List Text → Option Command
+audit_of words = unless (faults_of audit_app words) (Some Audit)
+
 -- the command of a name and the words behind it
 abbrev pub named_command : Text → List Text → Option Command
 named_command name words =
@@ -258,6 +280,8 @@ named_command name words =
     else if is_text name (codes "serve") then serve_of words
     else if is_text name (codes "join") then join_of words
     else if is_text name (codes "page") then page_of words
+    else if is_text name (codes "record") then record_of words
+    else if is_text name (codes "audit") then audit_of words
     else None
 
 -- the command that words are, where they are one
@@ -295,6 +319,8 @@ HasRanges (Make count seed) = (1 ≤ count) × (count ≤ 4096) × (seed < 2 ^ 3
 HasRanges (Serve plan) = IsServable plan
 HasRanges (Join port roots turns) = IsJoinable port roots turns
 HasRanges (Page folder) = Unit {0}
+HasRanges Record = Unit {0}
+HasRanges Audit = Unit {0}
 
 -- the text that was found is that of a word which writes a number in a range
 pub record Writes (least most : ℕ) (text : Text) : Type 0 where

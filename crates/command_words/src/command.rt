@@ -31,6 +31,10 @@ pub enum Command {
     },
     /// `page FOLDER`: answers HTTP requests of the input by the modules of this folder.
     Page(Text),
+    /// `record`: reads a script, and writes the record of the events that its server is told.
+    Record,
+    /// `audit`: reads a record, and writes whether it is sound.
+    Audit,
 }
 
 /// What `serve` is asked to do.
@@ -54,6 +58,8 @@ pub struct ServePlan {
     pub rounds: u32,
     /// Whether the input has edits.
     pub edits: bool,
+    /// Whether the record of the server's transcript is written behind its report.
+    pub recorded: bool,
 }
 
 /// Why [`read_words`](crate::read_words) refuses.

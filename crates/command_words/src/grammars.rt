@@ -3,11 +3,12 @@
 ghost use Rattle.std.specs.Prelude.{◌≡◌, ◌∷◌, [], IfOk, Some, false, codes};
 ghost use Rattle.clap.specs.Words.{app_of, new_rule, rule_of};
 ghost use Rattle.clap.specs.declared.builder.action.ArgAction.TheVariants.{Set};
-ghost use Rattle.command_words.specs.Words.{bare, check_app, clients_rule, count_rule, edits_rule};
-ghost use Rattle.command_words.specs.Words.{folder_rule, join_app, join_port_rule, make_app, name_rule};
-ghost use Rattle.command_words.specs.Words.{outside_rule, page_app, play_app, port_rule, repeated};
-ghost use Rattle.command_words.specs.Words.{roots_rule, rounds_rule, seed_rule, serve_app, turns_rule};
-ghost use Rattle.command_words.specs.Words.{wanted, with_rules, workers_rule};
+ghost use Rattle.command_words.specs.Words.{audit_app, bare, check_app, clients_rule, count_rule};
+ghost use Rattle.command_words.specs.Words.{edits_rule, flag, folder_rule, join_app, join_port_rule};
+ghost use Rattle.command_words.specs.Words.{make_app, name_rule, outside_rule, page_app, play_app};
+ghost use Rattle.command_words.specs.Words.{port_rule, record_app, record_rule, repeated, roots_rule};
+ghost use Rattle.command_words.specs.Words.{rounds_rule, seed_rule, serve_app, turns_rule, wanted};
+ghost use Rattle.command_words.specs.Words.{with_rules, workers_rule};
 
 use clap::{Arg, ArgAction, Command};
 use std::alloc::{AllocError, Global};
@@ -43,7 +44,8 @@ pub(crate) fn serve_grammar<'a>(alloc: Global) -> Result<Command<'a>, AllocError
         .arg(folder_arg(alloc))?
         .arg(roots_arg(alloc))?;
     let command = with_connections(alloc, command)?;
-    with_work(alloc, command)
+    let command = with_work(alloc, command)?;
+    with_flags(alloc, command)
 }
 
 /// The options on what connects to a server.
@@ -59,14 +61,21 @@ fn with_connections<'a>(alloc: Global, command: Command<'a>) -> Result<Command<'
 
 /// The options on what a server does.
 fn with_work<'a>(alloc: Global, command: Command<'a>) -> Result<Command<'a>, AllocError>
-    ensures { IfOk result (λ c. app_of c
-        ≡ with_rules (app_of command.entry) (turns_rule ∷ workers_rule ∷ rounds_rule ∷ edits_rule ∷ [])) }
+    ensures { IfOk result (λ c.
+        app_of c ≡ with_rules (app_of command.entry) (turns_rule ∷ workers_rule ∷ rounds_rule ∷ [])) }
 {
     command
         .arg(turns_arg(alloc))?
         .arg(workers_arg(alloc))?
-        .arg(rounds_arg(alloc))?
-        .arg(edits_arg(alloc))
+        .arg(rounds_arg(alloc))
+}
+
+/// The options that take no word.
+fn with_flags<'a>(alloc: Global, command: Command<'a>) -> Result<Command<'a>, AllocError>
+    ensures { IfOk result (λ c.
+        app_of c ≡ with_rules (app_of command.entry) (edits_rule ∷ record_rule ∷ [])) }
+{
+    command.arg(edits_arg(alloc))?.arg(record_arg(alloc))
 }
 
 /// `join PORT [ROOT..]`, with its option.
@@ -84,6 +93,20 @@ pub(crate) fn page_grammar<'a>(alloc: Global) -> Result<Command<'a>, AllocError>
     ensures { IfOk result (λ c. app_of c ≡ page_app) }
 {
     bare(alloc, "page").arg(folder_arg(alloc))
+}
+
+/// `record`, which takes no word.
+pub(crate) fn record_grammar<'a>(alloc: Global) -> Command<'a>
+    ensures { app_of result ≡ record_app }
+{
+    bare(alloc, "record")
+}
+
+/// `audit`, which takes no word.
+pub(crate) fn audit_grammar<'a>(alloc: Global) -> Command<'a>
+    ensures { app_of result ≡ audit_app }
+{
+    bare(alloc, "audit")
 }
 
 /// A command without help and version, of whose words the first is no name of a program.
@@ -119,6 +142,14 @@ fn option<'a>(alloc: Global, id: &'a str) -> Arg<'a>
     ensures global { result.global ≡ false }
 {
     Arg::new(alloc, id).long(id).action(ArgAction::Set)
+}
+
+/// An option that takes no word.
+fn flag<'a>(alloc: Global, id: &'a str) -> Arg<'a>
+    ensures rule { rule_of result ≡ flag id.entry.now }
+    ensures global { result.global ≡ false }
+{
+    Arg::new(alloc, id).long(id).action(ArgAction::SetTrue)
 }
 
 fn name_arg<'a>(alloc: Global) -> Arg<'a>
@@ -202,9 +233,14 @@ fn edits_arg<'a>(alloc: Global) -> Arg<'a>
     ensures rule { rule_of result ≡ edits_rule }
     ensures global { result.global ≡ false }
 {
-    Arg::new(alloc, "edits")
-        .long("edits")
-        .action(ArgAction::SetTrue)
+    flag(alloc, "edits")
+}
+
+fn record_arg<'a>(alloc: Global) -> Arg<'a>
+    ensures rule { rule_of result ≡ record_rule }
+    ensures global { result.global ≡ false }
+{
+    flag(alloc, "record")
 }
 
 fn join_port_arg<'a>(alloc: Global) -> Arg<'a>

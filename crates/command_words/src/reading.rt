@@ -1,13 +1,14 @@
 // The words of the command line, read.
 ghost use Rattle.std.specs.Prelude.{◌≡◌, ◌≢◌, ◌≤◌, [], IfOk, IfSome, IsErrOf, codes, map, string_bytes};
 ghost use Rattle.clap.specs.Words.{found_of, rows_of};
-ghost use Rattle.command_words.specs.Words.{Gives, HasMakeNumbers, HasRanges, check_app, check_of, checking};
-ghost use Rattle.command_words.specs.Words.{command_of, faults_of, found_in, make_app, make_of, making};
-ghost use Rattle.command_words.specs.Words.{named_command, number_of, play_app, play_of};
+ghost use Rattle.command_words.specs.Words.{Gives, HasMakeNumbers, HasRanges, audit_app, audit_of};
+ghost use Rattle.command_words.specs.Words.{check_app, check_of, checking, command_of, faults_of, found_in};
+ghost use Rattle.command_words.specs.Words.{make_app, make_of, making, named_command, number_of, play_app};
+ghost use Rattle.command_words.specs.Words.{play_of, record_app, record_of};
 
 use crate::command::{Command, WordsFault};
 use crate::found::{is_text, number_in, taken, word_in};
-use crate::grammars::{check_grammar, make_grammar, play_grammar};
+use crate::grammars::{audit_grammar, check_grammar, make_grammar, play_grammar, record_grammar};
 use crate::roots::read_name;
 use crate::serving::{read_join, read_page, read_serve};
 use clap::ArgMatches;
@@ -47,6 +48,12 @@ fn read_named(alloc: Global, name: &[u8], words: &[String]) -> Result<Command, W
     if is_text(name, b"page") {
         return read_page(alloc, words);
     }
+    if is_text(name, b"record") {
+        return read_record(alloc, words);
+    }
+    if is_text(name, b"audit") {
+        return read_audit(alloc, words);
+    }
     Err(WordsFault::NotACommand)
 }
 
@@ -65,6 +72,42 @@ fn play_matches<'a>(alloc: Global, words: &'a [String]) -> Result<ArgMatches<'a>
         → faults_of play_app (map string_bytes words.entry.now) ≢ [] }
 {
     let command = play_grammar(alloc);
+    taken(command, words)
+}
+
+fn read_record(alloc: Global, words: &[String]) -> Result<Command, WordsFault>
+    ensures exact { Gives result (record_of (map string_bytes words.now)) }
+    ensures ranges { IfOk result HasRanges }
+{
+    record_matches(alloc, words)?;
+    Ok(Command::Record)
+}
+
+/// What `clap` finds in the words of `record`.
+fn record_matches<'a>(alloc: Global, words: &'a [String]) -> Result<ArgMatches<'a>, WordsFault>
+    ensures taken { IfOk result (λ _. faults_of record_app (map string_bytes words.entry.now) ≡ []) }
+    ensures refused { IsErrOf result WordsFault.NotACommand
+        → faults_of record_app (map string_bytes words.entry.now) ≢ [] }
+{
+    let command = record_grammar(alloc);
+    taken(command, words)
+}
+
+fn read_audit(alloc: Global, words: &[String]) -> Result<Command, WordsFault>
+    ensures exact { Gives result (audit_of (map string_bytes words.now)) }
+    ensures ranges { IfOk result HasRanges }
+{
+    audit_matches(alloc, words)?;
+    Ok(Command::Audit)
+}
+
+/// What `clap` finds in the words of `audit`.
+fn audit_matches<'a>(alloc: Global, words: &'a [String]) -> Result<ArgMatches<'a>, WordsFault>
+    ensures taken { IfOk result (λ _. faults_of audit_app (map string_bytes words.entry.now) ≡ []) }
+    ensures refused { IsErrOf result WordsFault.NotACommand
+        → faults_of audit_app (map string_bytes words.entry.now) ≢ [] }
+{
+    let command = audit_grammar(alloc);
     taken(command, words)
 }
 

@@ -80,6 +80,7 @@ fn plan_of(matches: &ArgMatches<'_>, folder: Text, roots: Sequence<ModName>) -> 
         workers: number_or(matches, "workers", 2),
         rounds: number_or(matches, "rounds", 0),
         edits: flag_in(matches, "edits"),
+        recorded: flag_in(matches, "record"),
     }
 }
 

@@ -6,5 +6,6 @@ ghost use Rattle.command_words.specs.Words.{usage_line};
 pub fn usage() -> &'static str
     ensures { result.now ≡ usage_line }
 {
-    "usage: hmr play | check NAME | make N SEED | serve FOLDER ROOT.. | join PORT [ROOT..] | page FOLDER\n"
+    "usage: hmr play | check NAME | make N SEED | serve FOLDER ROOT.. | join PORT [ROOT..] | page FOLDER \
+     | record | audit\n"
 }

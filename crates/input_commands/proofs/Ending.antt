@@ -3,7 +3,7 @@ use Rattle.std.proofs.Common.{◌≡◌}
 use Rattle.std.specs.Prelude.{Result, Ok, Err, IfErr}
 use Prim.{⊥}
 use Rattle.input_commands.specs.declared.stop.Stop.{Stop}
-use Rattle.input_commands.specs.declared.stop.Stop.TheVariants.{NotACommand, TooLong, TextTooLong, Faulty, Unread, Unwritten, InstancesFull, NoMemory}
+use Rattle.input_commands.specs.declared.stop.Stop.TheVariants.{NotACommand, TooLong, TextTooLong, RecordTooLong, Faulty, Unread, Unwritten, TranscriptFull, InstancesFull, NoMemory}
 use Rattle.input_commands.specs.Writing.{IsPlayStop, IsWriteStop}
 
 -- writing stops for no limit
@@ -12,9 +12,11 @@ full_by : (stop : Stop) → IsWriteStop stop
 full_by NotACommand k e = absurd k
 full_by TooLong k e = absurd k
 full_by TextTooLong k e = absurd k
+full_by RecordTooLong k e = absurd k
 full_by (Faulty line) k e = absurd k
 full_by Unread k e = absurd k
 full_by Unwritten k e = cc
+full_by TranscriptFull k e = absurd k
 full_by InstancesFull k e = absurd k
 full_by NoMemory k e = cc
 
@@ -27,9 +29,11 @@ plays_by : (stop : Stop) → IsWriteStop stop → IsPlayStop stop
 plays_by NotACommand k = absurd k
 plays_by TooLong k = absurd k
 plays_by TextTooLong k = absurd k
+plays_by RecordTooLong k = absurd k
 plays_by (Faulty line) k = absurd k
 plays_by Unread k = absurd k
 plays_by Unwritten k = tt
+plays_by TranscriptFull k = absurd k
 plays_by InstancesFull k = tt
 plays_by NoMemory k = tt
 

@@ -9,3 +9,4 @@ pub mod Roots
 pub mod Ending
 pub mod Headline
 pub mod Telling
+pub mod Recording

@@ -1,6 +1,6 @@
 -- One step of a play.
 use Rattle.std.proofs.Common.{◌≡◌, ℕ, Bool, true, false, List, [], ap, sym, refl, ◌∙◌, arith}
-use Rattle.std.specs.Prelude.{Option, Some, None, Result, Ok, Err, OnOk, is_err}
+use Rattle.std.specs.Prelude.{Option, Some, None, Result, Ok, Err, OnOk, IsErrOf, is_err}
 use Prim.{⊥}
 use Rattle.std.specs.Global.{Vec}
 use Rattle.std.proofs.Math.Path.{subst}
@@ -9,6 +9,7 @@ use Rattle.hmr_base.proofs.Fronts.{front_none}
 use Rattle.output_lines.specs.declared.out_line.OutLine.{OutLine}
 use Rattle.world_model.specs.Playing.{Stage}
 use Rattle.event_world.specs.Courses.{Course, EventStep, event_step}
+use Rattle.event_world.specs.Logs.{IsLogOf, IsLogged, core_events}
 use Rattle.event_world.specs.Playing.{Played, joined, stepped_on, play_step}
 use Rattle.event_world.specs.Runs.{run_on, stage_of, step_in}
 use Rattle.event_world.specs.Standing.{StandsFor}
@@ -23,7 +24,7 @@ use Rattle.input_commands.specs.Outputs.{lines_text}
 use Rattle.input_commands.specs.Playing as plays
 use Rattle.input_commands.specs.Playing.{nothing, quieted}
 use Rattle.input_commands.specs.Standing.{IsAt}
-use Rattle.input_commands.specs.Writing.{HasCause, IsPlayStop, Plays, Taken, Takes, TakesFront}
+use Rattle.input_commands.specs.Writing.{HasCause, IsPlayStop, LogsAt, Plays, Taken, Takes, TakesFront}
 use Rattle.input_commands.proofs.Writing.{takes_none}
 
 -- of no lines none is shown
@@ -44,8 +45,15 @@ module _ {F : Type 0} (stage : Stage) (w : Course) (old : EventWorld F) (h : IsA
 
   -- the world stands where the step leads
   pub stands_on : (s : EventStep) (after : EventWorld F) → StandsFor (run_on h.run s) after →
-      IsAt stage (step_in h.run s).course after
-  stands_on s after k = record { run = run_on h.run s; stands = k; stage_is = h.stage_is; is = refl }
+      IsLogged (run_on h.run s) after → IsAt stage (step_in h.run s).course after
+  stands_on s after k logged =
+      record { run = run_on h.run s; stands = k; logged = logged; stage_is = h.stage_is; is = refl }
+
+  -- its log is that of the course there
+  logs_on : (s : EventStep) (after : EventWorld F) → IsLogged (run_on h.run s) after →
+      LogsAt stage (step_in h.run s).course after
+  logs_on s after logged =
+      subst (λ (st : Stage). IsLogOf (core_events st (step_in h.run s).course.steps) after.log) h.stage_is logged
 
   part_is : (s : EventStep) (made : Option (List OutLine)) → (step_in h.run s).lines ≡ made →
       play_step stage (nothing w) s ≡ stepped_on [] (step_in h.run s).course made
@@ -55,10 +63,10 @@ module _ {F : Type 0} (stage : Stage) (w : Course) (old : EventWorld F) (h : IsA
   pub step_plays : (s : EventStep) (quiet : Bool) (lines : Vec OutLine) (after : EventWorld F) (a b : Taken)
       (result : Result (Unit {0}) Stop) →
       AreLines (step_in h.run s).lines (Ok lines) → StandsFor (run_on h.run s) after →
-      TakesFront a b (plays.shown quiet lines.items) →
+      IsLogged (run_on h.run s) after → TakesFront a b (plays.shown quiet lines.items) →
       OnOk result (Takes a b (plays.shown quiet lines.items)) → (result ≡ Err InstancesFull → ⊥) →
       Plays stage a b (quieted quiet (play_step stage (nothing w) s)) after result
-  step_plays s quiet lines after a b result are k front done other =
+  step_plays s quiet lines after a b result are k logged front done other =
       subst (λ (p : Played). Plays stage a b (quieted quiet p) after result)
       (sym (part_is s (Some lines.items) are))
       (record {
@@ -69,15 +77,18 @@ module _ {F : Type 0} (stage : Stage) (w : Course) (old : EventWorld F) (h : IsA
           ended = λ full. absurd (other full);
           all = λ full. absurd (other full);
         };
-        state = on_ok result (stands_on s after k);
+        state = on_ok result (stands_on s after k logged);
+        stopped = λ full. absurd (other full);
       })
 
   -- the step ended the run, or there was no memory for it
   pub step_stops : (s : EventStep) (quiet : Bool) (e : WorldStop) (after : EventWorld F) (a : Taken)
       (stop : Stop) →
-      AreLines (step_in h.run s).lines (Err e) → stop ≡ stop_of_world e →
+      AreLines (step_in h.run s).lines (Err e) →
+      ((let r : Result (Vec OutLine) WorldStop = Err e in IsErrOf r worlds.InstancesFull) → IsLogged (run_on h.run s) after) →
+      stop ≡ stop_of_world e →
       Plays stage a a (quieted quiet (play_step stage (nothing w) s)) after (Err stop)
-  step_stops s quiet worlds.InstancesFull after a stop are e =
+  step_stops s quiet worlds.InstancesFull after a stop are logged e =
       subst (λ (p : Played). Plays stage a a (quieted quiet p) after (Err stop)) (sym (part_is s None are))
       (record {
         performs = record {
@@ -88,8 +99,9 @@ module _ {F : Type 0} (stage : Stage) (w : Course) (old : EventWorld F) (h : IsA
           all = λ full. subst (Takes a a) (sym (none_shown quiet)) (takes_none a);
         };
         state = tt;
+        stopped = λ full. logs_on s after (logged refl);
       })
-  step_stops s quiet worlds.NoMemory after a stop are e =
+  step_stops s quiet worlds.NoMemory after a stop are logged e =
       record {
         performs = record {
           front = front_none a.bytes (lines_text (plays.shown quiet (play_step stage (nothing w) s).lines));
@@ -99,6 +111,7 @@ module _ {F : Type 0} (stage : Stage) (w : Course) (old : EventWorld F) (h : IsA
           all = λ full. absurd (cc);
         };
         state = tt;
+        stopped = λ full. absurd (cc);
       }
 
 -- where a world's run ends, playing stops by no fault of the sink

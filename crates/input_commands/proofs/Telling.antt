@@ -10,7 +10,7 @@ use Rattle.hmr_base.proofs.Fronts.{front_all}
 use Rattle.command_words.specs.declared.command.Command.{Command}
 use Rattle.command_words.specs.Words.{usage_line}
 use Rattle.input_commands.specs.declared.stop.Stop.{Stop}
-use Rattle.input_commands.specs.declared.stop.Stop.TheVariants.{NotACommand, TooLong, TextTooLong, Faulty, Unread, Unwritten, InstancesFull, NoMemory}
+use Rattle.input_commands.specs.declared.stop.Stop.TheVariants.{NotACommand, TooLong, TextTooLong, RecordTooLong, Faulty, Unread, Unwritten, TranscriptFull, InstancesFull, NoMemory}
 use Rattle.input_commands.specs.Ends.{EndsAtWords, EndsBefore, Finishes, IsSilent, StopsAt, last_of, status_of}
 use Rattle.input_commands.specs.Outputs.{Output, reads_input, whole}
 use Rattle.input_commands.specs.Runs.{AnswersWords, IsComplete, ReadsInput, WritesOutput}
@@ -98,12 +98,16 @@ output_by o a b c before between now (Err TooLong) done front stops line all sil
     writes_last o 8 _ a b c before between now (λ s. omega (arith, s)) stops line all later
 output_by o a b c before between now (Err TextTooLong) done front stops line all silent later =
     writes_last o 8 _ a b c before between now (λ s. omega (arith, s)) stops line all later
+output_by o a b c before between now (Err RecordTooLong) done front stops line all silent later =
+    writes_last o 8 _ a b c before between now (λ s. omega (arith, s)) stops line all later
 output_by o a b c before between now (Err (Faulty text)) done front stops line all silent later =
     writes_last o 3 _ a b c before between now (λ s. omega (arith, s)) stops line all later
 output_by o a b c before between now (Err Unread) done front stops line all silent later =
     writes_front o 4 a b c before now (λ s. omega (arith, s)) (λ s. omega (arith, s)) (λ s. omega (arith, s)) front (silent tt)
 output_by o a b c before between now (Err Unwritten) done front stops line all silent later =
     writes_front o 5 a b c before now (λ s. omega (arith, s)) (λ s. omega (arith, s)) (λ s. omega (arith, s)) front (silent tt)
+output_by o a b c before between now (Err TranscriptFull) done front stops line all silent later =
+    writes_last o 8 _ a b c before between now (λ s. omega (arith, s)) stops line all later
 output_by o a b c before between now (Err InstancesFull) done front stops line all silent later =
     writes_last o 8 _ a b c before between now (λ s. omega (arith, s)) stops line all later
 output_by o a b c before between now (Err NoMemory) done front stops line all silent later =
@@ -143,6 +147,11 @@ complete_by o a b (Err TextTooLong) done stops = record {
   faults = λ e. absurd (omega (arith, e, stops.status_is));
   limits = λ e. inl refl;
 }
+complete_by o a b (Err RecordTooLong) done stops = record {
+  done = λ e. absurd (omega (arith, e, stops.status_is));
+  faults = λ e. absurd (omega (arith, e, stops.status_is));
+  limits = λ e. inl refl;
+}
 complete_by o a b (Err (Faulty text)) done stops = record {
   done = λ e. absurd (omega (arith, e, stops.status_is));
   faults = λ e. inl refl;
@@ -157,6 +166,11 @@ complete_by o a b (Err Unwritten) done stops = record {
   done = λ e. inr (inr (inl refl));
   faults = λ e. absurd (stops.1 e);
   limits = λ e. inr (inr (inl refl));
+}
+complete_by o a b (Err TranscriptFull) done stops = record {
+  done = λ e. absurd (omega (arith, e, stops.status_is));
+  faults = λ e. absurd (omega (arith, e, stops.status_is));
+  limits = λ e. inl refl;
 }
 complete_by o a b (Err InstancesFull) done stops = record {
   done = λ e. absurd (omega (arith, e, stops.status_is));
@@ -204,12 +218,16 @@ answers_words command a b c before between now (Err TooLong) words none same lin
     words_else command 8 a c before now (λ s. omega (arith, s)) (λ is. absurd (none is))
 answers_words command a b c before between now (Err TextTooLong) words none same line all later =
     words_else command 8 a c before now (λ s. omega (arith, s)) (λ is. absurd (none is))
+answers_words command a b c before between now (Err RecordTooLong) words none same line all later =
+    words_else command 8 a c before now (λ s. omega (arith, s)) (λ is. absurd (none is))
 answers_words command a b c before between now (Err (Faulty text)) words none same line all later =
     words_else command 3 a c before now (λ s. omega (arith, s)) (λ is. absurd (none is))
 answers_words command a b c before between now (Err Unread) words none same line all later =
     words_else command 4 a c before now (λ s. omega (arith, s)) (λ is. absurd (none is))
 answers_words command a b c before between now (Err Unwritten) words none same line all later =
     words_else command 5 a c before now (λ s. omega (arith, s)) (λ is. absurd (none is))
+answers_words command a b c before between now (Err TranscriptFull) words none same line all later =
+    words_else command 8 a c before now (λ s. omega (arith, s)) (λ is. absurd (none is))
 answers_words command a b c before between now (Err InstancesFull) words none same line all later =
     words_else command 8 a c before now (λ s. omega (arith, s)) (λ is. absurd (none is))
 answers_words command a b c before between now (Err NoMemory) words none same line all later =
@@ -240,6 +258,8 @@ reads_input_so command left before now a b c (Err TooLong) end unread keeps read
     reads_else command 8 left before now a c (λ s. omega (arith, s)) (λ s. absurd (omega (arith, s)))
 reads_input_so command left before now a b c (Err TextTooLong) end unread keeps reads silent =
     reads_else command 8 left before now a c (λ s. omega (arith, s)) (λ s. absurd (omega (arith, s)))
+reads_input_so command left before now a b c (Err RecordTooLong) end unread keeps reads silent =
+    reads_else command 8 left before now a c (λ s. omega (arith, s)) (λ s. absurd (omega (arith, s)))
 reads_input_so command left before now a b c (Err (Faulty text)) end unread keeps reads silent =
     reads_else command 3 left before now a c (λ s. omega (arith, s)) (λ s. absurd (omega (arith, s)))
 reads_input_so command left before now a b c (Err Unread) end unread keeps reads silent = record {
@@ -250,6 +270,8 @@ reads_input_so command left before now a b c (Err Unread) end unread keeps reads
 }
 reads_input_so command left before now a b c (Err Unwritten) end unread keeps reads silent =
     reads_else command 5 left before now a c (λ s. omega (arith, s)) (λ s. absurd (omega (arith, s)))
+reads_input_so command left before now a b c (Err TranscriptFull) end unread keeps reads silent =
+    reads_else command 8 left before now a c (λ s. omega (arith, s)) (λ s. absurd (omega (arith, s)))
 reads_input_so command left before now a b c (Err InstancesFull) end unread keeps reads silent =
     reads_else command 8 left before now a c (λ s. omega (arith, s)) (λ s. absurd (omega (arith, s)))
 reads_input_so command left before now a b c (Err NoMemory) end unread keeps reads silent =

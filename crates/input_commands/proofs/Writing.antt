@@ -19,7 +19,7 @@ use Rattle.input_commands.specs.declared.stop.Stop.TheVariants.{InstancesFull}
 use Rattle.input_commands.specs.Outputs.{lines_text}
 use Rattle.input_commands.specs.Playing.{nothing, then_on, unless, behind}
 use Rattle.input_commands.specs.Standing.{IsAt}
-use Rattle.input_commands.specs.Writing.{Gains, Plays, Taken, Takes, TakesFront}
+use Rattle.input_commands.specs.Writing.{Gains, LogsAt, Plays, Taken, Takes, TakesFront}
 
 gains_none : (a : Option (List OutLine)) → Gains a a []
 gains_none None = tt
@@ -117,6 +117,10 @@ ends_over : (a b : Taken) (part : Played) (after : Course → Played) (whole : P
     part.over ≡ true → IsTakenUpTo a b (then_on part after) whole → whole.over ≡ true
 ends_over a b part after whole e h = sym h.over ∙ (ap (λ (p : Played). p.over) (ends_by part after e) ∙ e)
 
+ends_course : (a b : Taken) (part : Played) (after : Course → Played) (whole : Played) →
+    part.over ≡ true → IsTakenUpTo a b (then_on part after) whole → part.course ≡ whole.course
+ends_course a b part after whole e h = ap (λ (p : Played). p.course) (sym (ends_by part after e)) ∙ h.course
+
 nil_taken : (a b : Taken) (w : Course) (whole : Played) →
     IsTakenUpTo a b (nothing w) whole → Takes a b whole.lines
 nil_taken a b w whole h = subst (Takes a b) (sym (append-nil h.front) ∙ h.rest) h.out
@@ -156,6 +160,9 @@ module _ {F : Type 0} (stage : Stage) where
                 part_last a b c (part h.w) after whole (k.performs.ended full) so_far (k.performs.all full);
           };
           state = tt;
+          stopped = λ full.
+              subst (λ w. LogsAt stage w next)
+              (ends_course a b (part h.w) after whole (k.performs.ended full) so_far) (k.stopped full);
         }
 
     pub more : (result : Result (Unit {0}) Stop) → is_err result ≡ false →
@@ -213,4 +220,5 @@ module _ {F : Type 0} (stage : Stage) where
           all = λ full. absurd (ok_other u InstancesFull full);
         };
         state = subst (λ w. IsAt stage w world) end.course h.here;
+        stopped = λ full. absurd (ok_other u InstancesFull full);
       }

@@ -17,8 +17,11 @@ use Rattle.play_script.specs.declared.fault.ScriptFault.{ScriptFault}
 use Rattle.play_script.specs.Script.{no_memory}
 use Rattle.input_commands.specs.declared.stop.Stop.{Stop}
 use Rattle.input_commands.specs.declared.stop.Stop.TheVariants.{NotACommand, TooLong, TextTooLong, Faulty}
-use Rattle.input_commands.specs.declared.stop.Stop.TheVariants.{Unread, Unwritten, InstancesFull, NoMemory}
+use Rattle.input_commands.specs.declared.stop.Stop.TheVariants.{RecordTooLong, Unread, Unwritten}
+use Rattle.input_commands.specs.declared.stop.Stop.TheVariants.{TranscriptFull, InstancesFull, NoMemory}
 use Rattle.input_commands.specs.Outputs.{Output, fault_line, whole, input_limit, instances_limit}
+use Rattle.input_commands.specs.Outputs.{record_limit}
+use Rattle.input_commands.specs.Recording.{transcript_limit}
 
 -- the stop for words that weren't read
 abbrev pub stop_of_words : WordsFault → Stop
@@ -36,6 +39,12 @@ abbrev pub stop_of_text : ReadFault → Stop
 stop_of_text reading.Failed = Unread
 stop_of_text reading.TooLong = TextTooLong
 stop_of_text reading.NoMemory = NoMemory
+
+-- the stop for a record that wasn't read
+abbrev pub stop_of_record : ReadFault → Stop
+stop_of_record reading.Failed = Unread
+stop_of_record reading.TooLong = RecordTooLong
+stop_of_record reading.NoMemory = NoMemory
 
 -- the stop for the end of a world's run
 abbrev pub stop_of_world : WorldStop → Stop
@@ -64,9 +73,11 @@ abbrev pub StopsAt : Output → Option (List ℕ) → Option (List ℕ) → Stop
 StopsAt o old new NotACommand = EndsBefore o 2 usage_line old new
 StopsAt o old new TooLong = EndsBefore o 8 input_limit old new
 StopsAt o old new TextTooLong = EndsBefore o 8 limit_line old new
+StopsAt o old new RecordTooLong = EndsBefore o 8 record_limit old new
 StopsAt o old new (Faulty line) = EndsBefore o 3 line.items old new
 StopsAt o old new Unread = Keeps old new × (o.status ≡ 2 → ⊥)
 StopsAt o old new Unwritten = (o.status ≡ 2 → ⊥) × (o.status ≡ 3 → ⊥)
+StopsAt o old new TranscriptFull = EndsBefore o 8 transcript_limit old new
 StopsAt o old new InstancesFull = EndsBefore o 8 instances_limit old new
 StopsAt o old new NoMemory = ⊤
 
@@ -76,9 +87,11 @@ EndsAtWords (Ok u) = ⊥
 EndsAtWords (Err NotACommand) = ⊤
 EndsAtWords (Err TooLong) = ⊥
 EndsAtWords (Err TextTooLong) = ⊥
+EndsAtWords (Err RecordTooLong) = ⊥
 EndsAtWords (Err (Faulty line)) = ⊥
 EndsAtWords (Err Unread) = ⊥
 EndsAtWords (Err Unwritten) = ⊥
+EndsAtWords (Err TranscriptFull) = ⊥
 EndsAtWords (Err InstancesFull) = ⊥
 EndsAtWords (Err NoMemory) = ⊤
 
@@ -87,9 +100,11 @@ abbrev pub IsFaultStop : ScriptFault → Stop → Type 0
 IsFaultStop fault NotACommand = ⊥
 IsFaultStop fault TooLong = ⊥
 IsFaultStop fault TextTooLong = ⊥
+IsFaultStop fault RecordTooLong = ⊥
 IsFaultStop fault (Faulty line) = (line.items ≡ fault_line fault) × (fault ≡ no_memory → ⊥)
 IsFaultStop fault Unread = ⊥
 IsFaultStop fault Unwritten = ⊥
+IsFaultStop fault TranscriptFull = ⊥
 IsFaultStop fault InstancesFull = ⊥
 IsFaultStop fault NoMemory = ⊤
 
@@ -99,9 +114,11 @@ status_of (Ok u) = 0
 status_of (Err NotACommand) = 2
 status_of (Err TooLong) = 8
 status_of (Err TextTooLong) = 8
+status_of (Err RecordTooLong) = 8
 status_of (Err (Faulty line)) = 3
 status_of (Err Unread) = 4
 status_of (Err Unwritten) = 5
+status_of (Err TranscriptFull) = 8
 status_of (Err InstancesFull) = 8
 status_of (Err NoMemory) = 9
 
@@ -111,9 +128,11 @@ last_of (Ok u) = []
 last_of (Err NotACommand) = usage_line
 last_of (Err TooLong) = input_limit
 last_of (Err TextTooLong) = limit_line
+last_of (Err RecordTooLong) = record_limit
 last_of (Err (Faulty line)) = line.items
 last_of (Err Unread) = []
 last_of (Err Unwritten) = []
+last_of (Err TranscriptFull) = transcript_limit
 last_of (Err InstancesFull) = instances_limit
 last_of (Err NoMemory) = []
 
@@ -123,8 +142,10 @@ IsSilent (Ok u) = ⊤
 IsSilent (Err NotACommand) = ⊥
 IsSilent (Err TooLong) = ⊥
 IsSilent (Err TextTooLong) = ⊥
+IsSilent (Err RecordTooLong) = ⊥
 IsSilent (Err (Faulty line)) = ⊥
 IsSilent (Err Unread) = ⊤
 IsSilent (Err Unwritten) = ⊤
+IsSilent (Err TranscriptFull) = ⊥
 IsSilent (Err InstancesFull) = ⊥
 IsSilent (Err NoMemory) = ⊤

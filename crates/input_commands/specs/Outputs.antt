@@ -6,9 +6,11 @@ use Rattle.std.specs.List.{flat_map}
 use Rattle.std.specs.Option.{option_map}
 use Rattle.hmr_types.specs.declared.limits.TheConstants.{SCRIPT_BYTES, TEXT_BYTES}
 use Rattle.output_lines.specs.declared.out_line.OutLine.{OutLine}
+use Rattle.core_model.specs.Core.{Event}
 use Rattle.core_model.specs.Names.{Name}
 use Rattle.core_model.specs.Sources.{Text}
 use Rattle.world_model.specs.Playing.{Stage}
+use Rattle.event_world.specs.Logs.{fits}
 use Rattle.event_world.specs.Playing.{Played}
 use Rattle.play_script.specs.declared.fault.ScriptFault.{ScriptFault}
 use Rattle.play_script.specs.Script.{Contents, kind_word, script_of}
@@ -19,8 +21,11 @@ use Rattle.command_words.specs.Words.{command_of, usage_line}
 use Rattle.text_check.specs.Checking.{limit_line, report}
 use Rattle.page_maker.specs.Making.{generated}
 use Rattle.page_maker.specs.Summary.{summary}
+use Rattle.record_laws.specs.Course.{verdict_of}
+use Rattle.input_commands.specs.Auditing.{record_bytes, verdict_line}
 use Rattle.input_commands.specs.Instances.{first_made}
 use Rattle.input_commands.specs.Playing.{script_played, stage_on}
+use Rattle.input_commands.specs.Recording.{events_of, events_text, transcript_limit}
 
 -- the line for an input that is no script
 abbrev pub fault_line : ScriptFault → List ℕ
@@ -30,6 +35,10 @@ fault_line fault =
 -- the line for a script of too many bytes
 abbrev pub input_limit : List ℕ
 input_limit = codes "limit input 16777216\n"
+
+-- the line for a record of too many bytes
+abbrev pub record_limit : List ℕ
+record_limit = codes "limit input 268435456\n"
 
 -- the line where a client would make too many instances
 abbrev pub instances_limit : List ℕ
@@ -91,6 +100,42 @@ output_of_make shelves count seed =
     summary_of_run (stage_on shelves (generated count seed).roots) count
     (script_played shelves (generated count seed))
 
+-- the output of an audit of at most so many bytes, or of more
+abbrev pub audit_within : List ℕ → Bool → Output
+audit_within bytes true = record { status = 0; lines = verdict_line (verdict_of bytes); last = [] }
+audit_within bytes false = record { status = 8; lines = []; last = record_limit }
+
+-- the output of `audit`: the verdict on the bytes of the input
+abbrev pub output_of_audit : List ℕ → Output
+output_of_audit bytes = audit_within bytes (nat_le (length bytes) record_bytes)
+
+-- the output of a run whose events have places in a transcript or not, and that came to its end or didn't:
+-- their record, or a limit alone
+abbrev pub recorded : Bool → Bool → List Name → List Event → Output
+recorded true false roots events = record { status = 0; lines = events_text roots events; last = [] }
+recorded true true roots events = record { status = 8; lines = []; last = instances_limit }
+recorded false over roots events = record { status = 8; lines = []; last = transcript_limit }
+
+abbrev pub record_of_run : Stage → Played → Output
+record_of_run stage p =
+    let events = events_of stage p in
+    recorded (fits events) p.over stage.roots events
+
+-- the record of a script, or its first fault
+abbrev pub record_of_script : List (List (Text × ℕ)) → Result Contents ScriptFault → Output
+record_of_script shelves (Ok script) =
+    record_of_run (stage_on shelves script.roots) (script_played shelves script)
+record_of_script shelves (Err fault) = record { status = 3; lines = []; last = fault_line fault }
+
+-- the record of an input of at most so many bytes, or of more
+abbrev pub record_within : List (List (Text × ℕ)) → List ℕ → Bool → Output
+record_within shelves bytes true = record_of_script shelves (script_of bytes)
+record_within shelves bytes false = record { status = 8; lines = []; last = input_limit }
+
+-- the output of `record`: the record of the run of the script that the input is
+abbrev pub output_of_record : List (List (Text × ℕ)) → List ℕ → Output
+output_of_record shelves bytes = record_within shelves bytes (nat_le (length bytes) SCRIPT_BYTES)
+
 -- the output where the words are no command
 abbrev pub usage : Output
 usage = record { status = 2; lines = []; last = usage_line }
@@ -105,6 +150,8 @@ output_meant shelves (Some (commands.Make count seed)) left = Some (output_of_ma
 output_meant shelves (Some (commands.Serve plan)) left = None
 output_meant shelves (Some (commands.Join port roots turns)) left = None
 output_meant shelves (Some (commands.Page folder)) left = None
+output_meant shelves (Some commands.Record) left = option_map (output_of_record shelves) left
+output_meant shelves (Some commands.Audit) left = option_map output_of_audit left
 
 -- the output of these words, where the input tells the bytes that they read
 abbrev pub output_of : List (List (Text × ℕ)) → List (List ℕ) → Option (List ℕ) → Option Output
@@ -119,6 +166,8 @@ reads_input (Some (commands.Make count seed)) = false
 reads_input (Some (commands.Serve plan)) = plan.edits
 reads_input (Some (commands.Join port roots turns)) = false
 reads_input (Some (commands.Page folder)) = false
+reads_input (Some commands.Record) = true
+reads_input (Some commands.Audit) = true
 
 -- the words are `page`, which reads its input request by request
 abbrev pub is_page : Option Command → Bool
@@ -129,6 +178,8 @@ is_page (Some (commands.Make count seed)) = false
 is_page (Some (commands.Serve plan)) = false
 is_page (Some (commands.Join port roots turns)) = false
 is_page (Some (commands.Page folder)) = true
+is_page (Some commands.Record) = false
+is_page (Some commands.Audit) = false
 
 -- all of its bytes
 abbrev pub whole : Output → List ℕ
@@ -146,3 +197,5 @@ WorksAlone (commands.Make count seed) = ⊤
 WorksAlone (commands.Serve plan) = ⊥
 WorksAlone (commands.Join port roots turns) = ⊥
 WorksAlone (commands.Page folder) = ⊥
+WorksAlone commands.Record = ⊤
+WorksAlone commands.Audit = ⊤

@@ -7,11 +7,14 @@ use Rattle.hmr_base.specs.Causes.{Rose}
 use Rattle.hmr_base.specs.Fronts.{WritesFront}
 use Rattle.output_lines.specs.declared.out_line.OutLine.{OutLine}
 use Rattle.world_model.specs.Playing.{Stage}
+use Rattle.event_world.specs.Courses.{Course}
+use Rattle.event_world.specs.Logs.{IsLogOf, core_events}
 use Rattle.event_world.specs.Playing.{Played}
 use Rattle.event_world.specs.declared.event_world.EventWorld.{EventWorld}
 use Rattle.input_commands.specs.declared.stop.Stop.{Stop}
 use Rattle.input_commands.specs.declared.stop.Stop.TheVariants.{NotACommand, TooLong, TextTooLong, Faulty}
-use Rattle.input_commands.specs.declared.stop.Stop.TheVariants.{Unread, Unwritten, InstancesFull, NoMemory}
+use Rattle.input_commands.specs.declared.stop.Stop.TheVariants.{RecordTooLong, Unread, Unwritten}
+use Rattle.input_commands.specs.declared.stop.Stop.TheVariants.{TranscriptFull, InstancesFull, NoMemory}
 use Rattle.input_commands.specs.Outputs.{lines_text}
 use Rattle.input_commands.specs.Standing.{IsAt}
 
@@ -41,6 +44,10 @@ Gains None new lines = ⊤
 Gains (Some before) None lines = ⊥
 Gains (Some before) (Some after) lines = after ≡ before ++ lines
 
+-- lines aren't kept, and aren't written
+abbrev pub dropped : Taken
+dropped = record { bytes = None; lines = None }
+
 -- all of these lines were taken
 pub record Takes (old new : Taken) (lines : List OutLine) : Type 0 where
   pub written : Appends old.bytes new.bytes (lines_text lines)
@@ -60,20 +67,28 @@ pub record Performs (old new : Taken) (part : Played) (result : Result (Unit {0}
   pub ended : IsErrOf result InstancesFull → part.over ≡ true
   pub all : IsErrOf result InstancesFull → Takes old new part.lines
 
--- and the world is where the part ends
+-- the world's log is that of what the core is told in a course
+abbrev pub LogsAt : {F : Type 0} → Stage → Course → EventWorld F → Type 0
+LogsAt stage c world = IsLogOf (core_events stage c.steps) world.log
+
+-- And the world is where the part ends; where that ends the run by too many instances, its log is that of the
+-- whole part.
 pub record Plays {F : Type 0} (stage : Stage) (old new : Taken) (part : Played)
     (after : EventWorld F) (result : Result (Unit {0}) Stop) : Type 0 where
   pub performs : Performs old new part result
   pub state : OnOk result (IsAt stage part.course after)
+  pub stopped : IsErrOf result InstancesFull → LogsAt stage part.course after
 
 -- writing stops only at the output or for want of memory
 abbrev pub IsWriteStop : Stop → Type 0
 IsWriteStop NotACommand = ⊥
 IsWriteStop TooLong = ⊥
 IsWriteStop TextTooLong = ⊥
+IsWriteStop RecordTooLong = ⊥
 IsWriteStop (Faulty line) = ⊥
 IsWriteStop Unread = ⊥
 IsWriteStop Unwritten = ⊤
+IsWriteStop TranscriptFull = ⊥
 IsWriteStop InstancesFull = ⊥
 IsWriteStop NoMemory = ⊤
 
@@ -82,9 +97,11 @@ abbrev pub IsPlayStop : Stop → Type 0
 IsPlayStop NotACommand = ⊥
 IsPlayStop TooLong = ⊥
 IsPlayStop TextTooLong = ⊥
+IsPlayStop RecordTooLong = ⊥
 IsPlayStop (Faulty line) = ⊥
 IsPlayStop Unread = ⊥
 IsPlayStop Unwritten = ⊤
+IsPlayStop TranscriptFull = ⊥
 IsPlayStop InstancesFull = ⊤
 IsPlayStop NoMemory = ⊤
 
@@ -93,9 +110,11 @@ abbrev pub IsKeepStop : Stop → Type 0
 IsKeepStop NotACommand = ⊥
 IsKeepStop TooLong = ⊥
 IsKeepStop TextTooLong = ⊥
+IsKeepStop RecordTooLong = ⊥
 IsKeepStop (Faulty line) = ⊥
 IsKeepStop Unread = ⊥
 IsKeepStop Unwritten = ⊥
+IsKeepStop TranscriptFull = ⊥
 IsKeepStop InstancesFull = ⊤
 IsKeepStop NoMemory = ⊤
 

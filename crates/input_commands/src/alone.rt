@@ -12,8 +12,10 @@ ghost use Rattle.input_commands.specs.Ends.{EndsAtWords, Finishes, IsSilent, Sto
 ghost use Rattle.input_commands.specs.Outputs.{IsOwnStatus, WorksAlone, output_of, reads_input, whole};
 ghost use Rattle.input_commands.specs.Runs.{AnswersWords, IsComplete, ReadsInput, WritesOutput};
 
+use crate::audit::audit;
 use crate::check::check;
 use crate::make::make;
+use crate::record::record;
 use crate::script::play;
 use crate::shelves::discard;
 use crate::stop::Stop;
@@ -25,15 +27,15 @@ use retained_data::Bag;
 use std::alloc::{AllocError, Global};
 use text_check::limit_line;
 
-/// Carries out `play`, `check` or `make`, for words that were read so, and writes the line of what ended it
-/// before its end: of the words, of a fault, or of a limit. It answers the exit status; what there is to
-/// write is the definition `output_of`.
+/// Carries out `play`, `check`, `make`, `record` or `audit`, for words that were read so, and writes the line
+/// of what ended it before its end: of the words, of a fault, or of a limit. It answers the exit status; what
+/// there is to write is the definition `output_of`.
 ///
 /// 0: the whole output is written, and an input that is read was read to its end. 2: the words are no
-/// command. 3: the input of `play` is no script. 4: the input failed, and nothing is written. 5: the output
-/// failed. 8: the input, a text or a client's instances passed their limit. 9: memory ran out. At 3, 5, 8
-/// and 9 a front of the output is written. The closures of the shelves go to the clients of a script, or are
-/// let go.
+/// command. 3: the input of `play` or `record` is no script. 4: the input failed, and nothing is written. 5:
+/// the output failed. 8: the input, a text, a client's instances or the events to be recorded passed their
+/// limit. 9: memory ran out. At 3, 5, 8 and 9 a front of the output is written. The closures of the shelves
+/// go to the clients of a script, or are let go.
 pub fn run_alone<F: FnOnce(Bag) -> Result<Ran, AllocError> + Drop, S: Source, K: Sink>(
     alloc: Global,
     words: &[String],
@@ -91,12 +93,20 @@ fn tell_end<K: Sink>(ended: Result<(), Stop>, out: &mut K) -> u8
             let _ = write_all(out, limit_line().as_bytes());
             8
         }
+        Err(Stop::RecordTooLong) => {
+            let _ = write_all(out, b"limit input 268435456\n");
+            8
+        }
         Err(Stop::Faulty(line)) => {
             let _ = write_all(out, &line);
             3
         }
         Err(Stop::Unread) => 4,
         Err(Stop::Unwritten) => 5,
+        Err(Stop::TranscriptFull) => {
+            let _ = write_all(out, b"limit transcript 1000000\n");
+            8
+        }
         Err(Stop::InstancesFull) => {
             let _ = write_all(out, b"limit instances 20000\n");
             8
@@ -149,6 +159,11 @@ fn carry_out<F: FnOnce(Bag) -> Result<Ran, AllocError> + Drop, S: Source, K: Sin
         Ok(Command::Check(name)) => {
             discard(shelves);
             check(alloc, &name, input, out)
+        }
+        Ok(Command::Record) => record(alloc, input, out, shelves),
+        Ok(Command::Audit) => {
+            discard(shelves);
+            audit(alloc, input, out)
         }
         Ok(Command::Make { count, seed }) => make(alloc, count, seed, out, shelves),
         Ok(Command::Serve(_) | Command::Join { .. } | Command::Page(_)) => unreachable!(),

@@ -1,18 +1,21 @@
-//! The commands that work on their input alone: `play`, `check` and `make`.
+//! The commands that work on their input alone: `play`, `check`, `make`, `record` and `audit`.
 //!
 //! `play` reads a script, plays it, and writes the lines of each step as the step is made; `check` reads a
 //! module text and writes what there is to tell of it; `make` plays a script that is generated and writes a
-//! summary of its run. Stands on the words, on worlds and on what they are played by. Keeps: what is written
-//! is a front of the definition's text of the words and of the bytes read, and the whole of it at status 0.
-//! Knows nothing of folders, nets or threads.
+//! summary of its run; `record` plays a script and writes the record of what the core was told in its run;
+//! `audit` reads a record and writes the verdict on it. Stands on the words, on worlds and what they are
+//! played by, and on the check of records. Keeps: what is written is a front of the definition's text of the
+//! words and of the bytes read, and the whole of it at status 0. Knows nothing of folders, nets or threads.
 #![tactic(auto)]
 
 mod alone;
+mod audit;
 mod check;
 mod command;
 mod line_sink;
 mod make;
 mod play;
+mod record;
 mod script;
 mod shelves;
 mod showing;

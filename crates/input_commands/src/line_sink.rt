@@ -1,9 +1,9 @@
-// Where the lines of a play go: a sink takes them as bytes, and a list keeps them as values.
+// Where the lines of a play go: a sink takes them as bytes, a list keeps them as values, or they are dropped.
 ghost use Rattle.std.specs.Prelude.{◌≡◌, ◌++◌, ◌∷◌, [], ℕ, IfErr, OnOk};
 ghost use Rattle.output_lines.specs.declared.out_line.OutLine.{OutLine};
 ghost use Rattle.input_commands.specs.Playing.{shown};
 ghost use Rattle.input_commands.specs.Writing.{HasCause, IsWriteStop, Taken, Takes};
-ghost use Rattle.input_commands.specs.Writing.{TakesFront, kept_as, written_as};
+ghost use Rattle.input_commands.specs.Writing.{TakesFront, dropped, kept_as, written_as};
 
 use crate::showing::{show_lines, went_well};
 use crate::stop::Stop;
@@ -54,6 +54,20 @@ impl LineSink for KeptLines {
 
     fn show(&mut self, _alloc: Global, quiet: bool, lines: Vec<OutLine>) -> Result<(), Stop> {
         keep_lines(&mut self.lines, quiet, lines)?;
+        Ok(())
+    }
+}
+
+/// Lines that are dropped.
+#[derive(Drop)]
+pub struct DroppedLines {}
+
+impl LineSink for DroppedLines {
+    ghost taken = { λ _. dropped };
+
+    ghost faults = { λ _. 0 };
+
+    fn show(&mut self, _alloc: Global, _quiet: bool, _lines: Vec<OutLine>) -> Result<(), Stop> {
         Ok(())
     }
 }

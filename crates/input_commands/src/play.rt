@@ -2,6 +2,7 @@
 ghost use Rattle.std.specs.List.{All};
 ghost use Rattle.std.specs.Prelude.{◌≡◌, IfErr, IfOk, OnOk, false};
 ghost use Rattle.event_world.specs.Courses.{Course};
+ghost use Rattle.event_world.specs.Logs.{is_on};
 ghost use Rattle.event_world.specs.Standing.{IsRunning, KeepsWords};
 ghost use Rattle.event_world.specs.Steps.{HasFormat, event_step_of};
 ghost use Rattle.play_script.specs.Asked as asked;
@@ -41,6 +42,7 @@ pub fn play_lines<F: FnOnce(Bag) -> Result<Ran, AllocError> + Drop, K: LineSink>
     ensures plays { (stage : Stage) (c : Course) → IsAt stage c world.old
         → Plays stage (K.taken out.old) (K.taken out.new)
         (perform stage commands.entry false c) world.new result }
+    ensures on { is_on world.new.log ≡ is_on world.old.log }
     ensures stops { IfErr result IsPlayStop }
     ensures faults { HasCause (K.faults out.old) (K.faults out.new) result }
 {
@@ -83,6 +85,7 @@ pub fn play_all<F: FnOnce(Bag) -> Result<Ran, AllocError> + Drop, K: LineSink>(
         (perform stage lines.items false c) world.new result }
     ensures words { KeepsWords F.post world.new }
     ensures running { OnOk result (IsRunning world.new) }
+    ensures on { is_on world.new.log ≡ is_on world.old.log }
     ensures stops { IfErr result IsPlayStop }
     ensures faults { HasCause (K.faults out.old) (K.faults out.new) result }
 {
@@ -117,6 +120,7 @@ fn play_command<F: FnOnce(Bag) -> Result<Ran, AllocError> + Drop, K: LineSink>(
         (quieted quiet (commanded stage (command_seen command) c)) world.new result }
     ensures words { KeepsWords F.post world.new }
     ensures running { OnOk result (IsRunning world.new) }
+    ensures on { is_on world.new.log ≡ is_on world.old.log }
     ensures stops { IfErr result IsPlayStop }
     ensures faults { HasCause (K.faults out.old) (K.faults out.new) result }
 {
@@ -141,6 +145,7 @@ fn settle_all<F: FnOnce(Bag) -> Result<Ran, AllocError> + Drop, K: LineSink>(
         (quieted quiet (commanded stage model.settle_all c)) world.new result }
     ensures words { KeepsWords F.post world.new }
     ensures running { OnOk result (IsRunning world.new) }
+    ensures on { is_on world.new.log ≡ is_on world.old.log }
     ensures stops { IfErr result IsPlayStop }
     ensures faults { HasCause (K.faults out.old) (K.faults out.new) result }
 {
@@ -165,6 +170,7 @@ fn settle_jobs<F: FnOnce(Bag) -> Result<Ran, AllocError> + Drop, K: LineSink>(
         (quieted quiet (settled_by stage jobs.now c)) world.new result }
     ensures words { KeepsWords F.post world.new }
     ensures running { OnOk result (IsRunning world.new) }
+    ensures on { is_on world.new.log ≡ is_on world.old.log }
     ensures stops { IfErr result IsPlayStop }
     ensures faults { HasCause (K.faults out.old) (K.faults out.new) result }
 {
@@ -203,6 +209,7 @@ fn turn_client<F: FnOnce(Bag) -> Result<Ran, AllocError> + Drop, K: LineSink>(
         (quieted quiet (commanded stage (model.turns client most) c)) world.new result }
     ensures words { KeepsWords F.post world.new }
     ensures running { OnOk result (IsRunning world.new) }
+    ensures on { is_on world.new.log ≡ is_on world.old.log }
     ensures stops { IfErr result IsPlayStop }
     ensures faults { HasCause (K.faults out.old) (K.faults out.new) result }
 {
@@ -235,6 +242,7 @@ fn take_turns<F: FnOnce(Bag) -> Result<Ran, AllocError> + Drop, K: LineSink>(
         (quieted quiet (play_turns stage client most (nothing c))) world.new result }
     ensures words { KeepsWords F.post world.new }
     ensures running { OnOk result (IsRunning world.new) }
+    ensures on { is_on world.new.log ≡ is_on world.old.log }
     ensures stops { IfErr result IsPlayStop }
     ensures faults { HasCause (K.faults out.old) (K.faults out.new) result }
 {
@@ -272,6 +280,7 @@ fn play_step<F: FnOnce(Bag) -> Result<Ran, AllocError> + Drop, K: LineSink>(
         (quieted quiet (play_step stage (nothing c) (event_step_of step))) world.new result }
     ensures words { KeepsWords F.post world.new }
     ensures running { OnOk result (IsRunning world.new) }
+    ensures on { is_on world.new.log ≡ is_on world.old.log }
     ensures stops { IfErr result IsPlayStop }
     ensures faults { HasCause (K.faults out.old) (K.faults out.new) result }
 {

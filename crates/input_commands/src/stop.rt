@@ -15,12 +15,16 @@ pub enum Stop {
     TooLong,
     /// The input has more bytes than a module text may have.
     TextTooLong,
+    /// The input has more bytes than a record may have.
+    RecordTooLong,
     /// The input is no script. This is the line of its first fault.
     Faulty(Vec<u8>),
     /// The input failed.
     Unread,
     /// The output failed.
     Unwritten,
+    /// The events of the core have no places in a transcript.
+    TranscriptFull,
     /// A client would have made too many instances.
     InstancesFull,
     /// Memory ran out.

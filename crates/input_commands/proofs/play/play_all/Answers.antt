@@ -1,4 +1,4 @@
-use Rattle.std.proofs.Common.{◌≡◌, ◌∷◌, [], ◌∙◌, length, true, false, ap, sym, arith, rules}
+use Rattle.std.proofs.Common.{◌≡◌, ◌∷◌, [], ◌∙◌, length, true, false, ap, sym, refl, arith, rules}
 use Rattle.std.specs.Prelude.{is_err}
 use Rattle.std.specs.Vec.Iter.{into_iter_items}
 use Rattle.std.proofs.lemmas.List.{nil_from_length}
@@ -23,6 +23,7 @@ lines-init g c =
           c.requires.formats;
       words = c.requires.words;
       running = c.requires.running;
+      on = refl;
       later = omega arith;
     }
 
@@ -62,6 +63,7 @@ lines-preserved-else-is_err-3 g c =
       formats = All-rest HasFormat line behind left first c.lines.invariant.formats;
       words = call.ensures.words;
       running = from_ok call.result e call.ensures.running;
+      on = call.ensures.on ∙ c.lines.invariant.on;
       later = omega (arith, call.ensures.faults.later, c.lines.invariant.later);
     }
 
@@ -82,6 +84,7 @@ lines-preserved g c =
       formats = All-rest HasFormat line behind left first c.lines.invariant.formats;
       words = c.lines.invariant.words;
       running = c.lines.invariant.running;
+      on = c.lines.invariant.on;
       later = c.lines.invariant.later;
     }
 

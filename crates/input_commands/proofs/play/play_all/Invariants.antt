@@ -3,6 +3,7 @@ use Rattle.std.specs.List.{All}
 use Rattle.std.specs.Vec.Iter.{into_iter_items, into_iter_len}
 use Rattle.world_model.specs.Playing.{Stage}
 use Rattle.event_world.specs.Courses.{Course}
+use Rattle.event_world.specs.Logs.{is_on}
 use Rattle.event_world.specs.Standing.{IsRunning, KeepsWords}
 use Rattle.play_script.specs.Asked.{HasFormat}
 use Rattle.input_commands.specs.Playing.{perform}
@@ -23,5 +24,6 @@ invariant-lines g l =
       formats : All HasFormat (into_iter_items l.line-iterator);
       words : KeepsWords (goal.F-post g) l.world;
       running : IsRunning l.world;
+      on : is_on l.world.log ≡ is_on l.fn.world.log;
       later : faults l.fn.out ≤ faults l.out;
     }

@@ -1,4 +1,4 @@
-use Rattle.std.proofs.Common.{◌≡◌, ◌∷◌, true, false, arith, rules}
+use Rattle.std.proofs.Common.{◌∙◌, ◌≡◌, ◌∷◌, true, false, arith, rules}
 use Rattle.std.specs.Prelude.{is_err}
 use Rattle.std.proofs.Math.Path.{subst}
 use Rattle.play_script.specs.Asked.{IsNext}
@@ -44,5 +44,6 @@ lines-preserved-else-is_err-3 g c =
           call.result e (λ v at. call.ensures.plays stage v at) (c.lines.invariant.so_far stage w h);
       words = call.ensures.words;
       running = from_ok call.result e call.ensures.running;
+      on = call.ensures.on ∙ c.lines.invariant.on;
       later = omega (arith, call.ensures.faults.later);
     }

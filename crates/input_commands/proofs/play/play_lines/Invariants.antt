@@ -1,6 +1,7 @@
-use Rattle.std.proofs.Common.{◌≤◌, length, false}
+use Rattle.std.proofs.Common.{◌≡◌, ◌≤◌, length, false}
 use Rattle.world_model.specs.Playing.{Stage}
 use Rattle.event_world.specs.Courses.{Course}
+use Rattle.event_world.specs.Logs.{is_on}
 use Rattle.event_world.specs.Standing.{IsRunning, KeepsWords}
 use Rattle.input_commands.specs.Playing.{perform}
 use Rattle.input_commands.specs.Standing.{IsAt}
@@ -18,6 +19,7 @@ invariant-lines g l =
           (perform stage l.fn.commands false w) l.world;
       words : KeepsWords (goal.F-post g) l.world;
       running : IsRunning l.world;
+      on : is_on l.world.log ≡ is_on l.fn.world.log;
       later : faults l.fn.out ≤ faults l.out;
     }
 

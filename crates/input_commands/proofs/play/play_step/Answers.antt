@@ -9,7 +9,7 @@ returns-in-Ok-clause-plays g c = λ stage w h.
     let made = c.in-Ok.ensures in
     step_plays stage w c.args.world.now h (event_step_of c.args.step) c.args.quiet c.in-Ok.lines c.step.new.self
     (g.K.LineSink.taken c.args.out.now) (g.K.LineSink.taken call.new.self) call.result
-    (made.lines h.run h.stands) (made.stands h.run h.stands) call.ensures.front call.ensures.done
+    (made.lines h.run h.stands) (made.stands h.run h.stands) (made.logged h.run h.stands h.logged) call.ensures.front call.ensures.done
     (never_full call.result call.ensures.stops)
 
 pub returns-in-Ok-clause-running : goal.returns-in-Ok-clause-running
@@ -22,7 +22,7 @@ pub returns-in-Err-clause-plays : goal.returns-in-Err-clause-plays
 returns-in-Err-clause-plays g c = λ stage w h.
     step_stops stage w c.args.world.now h (event_step_of c.args.step) c.args.quiet c.in-Err.ended c.step.new.self _
     c.from.result
-    (c.in-Err.ensures.lines h.run h.stands) c.from.ensures
+    (c.in-Err.ensures.lines h.run h.stands) (c.in-Err.ensures.stopped h.run h.stands h.logged) c.from.ensures
 
 pub returns-in-Err-clause-stops : goal.returns-in-Err-clause-stops
 returns-in-Err-clause-stops g c = world_stops c.in-Err.ended c.from.result c.from.ensures

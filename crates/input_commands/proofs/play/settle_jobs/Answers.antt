@@ -1,4 +1,4 @@
-use Rattle.std.proofs.Common.{◌≡◌, ◌+◌, true, false, drop, arith, rules}
+use Rattle.std.proofs.Common.{◌∙◌, ◌≡◌, ◌+◌, true, false, drop, arith, rules}
 use Rattle.std.specs.Prelude.{is_err}
 use Rattle.world_model.specs.World.{settles}
 use Rattle.event_world.specs.Courses.{plain}
@@ -42,5 +42,6 @@ loop-name-preserved g c =
           call.result e (λ v at. call.ensures.plays stage v at) (c.loop-name.invariant.so_far stage w h);
       words = call.ensures.words;
       running = from_ok call.result e call.ensures.running;
+      on = call.ensures.on ∙ c.loop-name.invariant.on;
       later = omega (arith, call.ensures.faults.later);
     }

@@ -1,6 +1,7 @@
-use Rattle.std.proofs.Common.{◌≤◌, drop}
+use Rattle.std.proofs.Common.{◌≡◌, ◌≤◌, drop}
 use Rattle.world_model.specs.Playing.{Stage}
 use Rattle.event_world.specs.Courses.{Course}
+use Rattle.event_world.specs.Logs.{is_on}
 use Rattle.event_world.specs.Standing.{IsRunning, KeepsWords}
 use Rattle.input_commands.specs.Playing.{quieted, settled_by}
 use Rattle.input_commands.specs.Standing.{IsAt}
@@ -19,5 +20,6 @@ invariant-loop-name g l =
           (quieted l.quiet (settled_by stage l.jobs w)) l.world;
       words : KeepsWords (goal.F-post g) l.world;
       running : IsRunning l.world;
+      on : is_on l.world.log ≡ is_on l.fn.world.log;
       later : faults l.fn.out ≤ faults l.out;
     }

@@ -63,6 +63,7 @@ turns-preserved g c =
           call.result e (λ v at. call.ensures.plays stage v at) (c.turns.invariant.so_far stage w h);
       words = call.ensures.words;
       running = from_ok call.result e call.ensures.running;
+      on = call.ensures.on ∙ c.turns.invariant.on;
       later = omega (arith, call.ensures.faults.later);
     }
 

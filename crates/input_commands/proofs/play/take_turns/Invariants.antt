@@ -1,7 +1,8 @@
-use Rattle.std.proofs.Common.{◌≤◌, ◌-◌}
+use Rattle.std.proofs.Common.{◌≡◌, ◌≤◌, ◌-◌}
 use Rattle.world_model.specs.Playing.{Stage}
 use Rattle.event_world.specs.Playing.{play_turns}
 use Rattle.event_world.specs.Courses.{Course}
+use Rattle.event_world.specs.Logs.{is_on}
 use Rattle.event_world.specs.Standing.{IsRunning, KeepsWords}
 use Rattle.input_commands.specs.Playing.{nothing, quieted}
 use Rattle.input_commands.specs.Standing.{IsAt}
@@ -20,5 +21,6 @@ invariant-turns g l =
           (quieted l.quiet (play_turns stage l.client l.most (nothing w))) l.world;
       words : KeepsWords (goal.F-post g) l.world;
       running : IsRunning l.world;
+      on : is_on l.world.log ≡ is_on l.fn.world.log;
       later : faults l.fn.out ≤ faults l.out;
     }

@@ -4,7 +4,7 @@ use Rattle.handler_table.specs.Shelf.{marks_of}
 use Rattle.event_world.specs.Playing.{Played}
 use Rattle.input_commands.specs.Playing.{page_played}
 use Rattle.input_commands.specs.Writing.{Performs, written_as}
-use Rattle.input_commands.proofs.Summing.{begun, made_no_fault}
+use Rattle.input_commands.proofs.Summing.{at_start, begun, made_no_fault}
 use Rattle.input_commands.proofs.script.play_script.Goals as goal
 
 pub new-events-requires-clause-none : goal.new-events-requires-clause-none
@@ -21,4 +21,5 @@ returns-in-Ok-new-clause-performs g c =
     (subst (λ ls. Ends (page_played shelves roots ls)) c.commands.ensures
     (begun shelves roots c.commands.result c.new-events.result Ends
     (λ none. made_no_fault c.new.result c.in-Ok-new.world _ c.in-Ok-new.is (c.new.ensures.none.1 none))
-    (c.new-events.ensures.stands _ c.in-Ok-new.ensures.stands (λ i. refl)) c.play_on.ensures.performs))
+    (c.new-events.ensures.stands _ c.in-Ok-new.ensures.stands (λ i. refl))
+    (c.new-events.ensures.logged (at_start shelves roots)) c.play_on.ensures.performs))
