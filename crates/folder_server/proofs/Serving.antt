@@ -15,9 +15,10 @@ use Rattle.folders.specs.Files.{files_after}
 use Rattle.turn_lock.specs.Histories.{calls, has}
 use Rattle.turn_lock.proofs.Histories.{calls_append}
 use Rattle.transform_pool.specs.Tasks.{Task}
+use Rattle.hmr_hub.specs.declared.pass.Hub.{Hub}
 use Rattle.hmr_hub.specs.declared.pass.Pass.{Pass}
 use Rattle.hmr_hub.specs.Calls.{IsFirst, SameKnower}
-use Rattle.hmr_hub.specs.Passes.{HasTranscript, all_given, known_of, number_of, roots_of, seen_of}
+use Rattle.hmr_hub.specs.Passes.{HasTranscript, IsPassOf, all_given, known_of, number_of, roots_of, seen_of}
 use Rattle.hub_moves.specs.Fullness.{IsNearlyFull}
 use Rattle.hub_moves.specs.Moves.{KnowsOwn, Moved, own_of}
 use Rattle.hub_moves.proofs.Fullness.{nearly_full_longer}
@@ -47,7 +48,7 @@ use Rattle.folder_server.specs.Causes.{IsCause, IsEarlyEnd, IsFirstCause, IsWork
 use Rattle.folder_server.specs.Openings.{Opens}
 use Rattle.folder_server.specs.Rounds.{Files}
 use Rattle.folder_server.specs.Running.{Finds, Later}
-use Rattle.folder_server.specs.Serving.{End, EndsBy, HasCause, IsReported, JobEnds, Reported, Served, StopsEarly, WroteEarly, WroteReport, Wrote, header, job_ends, report_with, status_after}
+use Rattle.folder_server.specs.Serving.{End, EndsBy, EndsReported, HasCause, IsReported, JobEnds, Reported, Served, StopsEarly, WindsUp, WroteEarly, WroteReport, Wrote, header, job_ends, record_part, report_with, status_after}
 use Rattle.folder_server.specs.Stops.{last_text, stop_outside}
 use Rattle.folder_server.proofs.Causes.{Passes, err_is, first_written, rose_later, work_cause, work_written}
 use Rattle.folder_server.proofs.Makings.{makes_nothing}
@@ -228,50 +229,77 @@ front_longer a b text more w = record {
   out = w.out;
 }
 
--- the text of a report is that of the transcript of the pass that has gone on
-report_is : (p q : Pass) (logs : List Log) (lines : List ReportLine) (text : List ℕ) → Moved p q [] → text ≡ report_text lines
-    → lines ≡ report_of (roots_of p) (seen_of q) ++ map Line (flat_map log_lines logs) → text ≡ report_with q logs
-report_is p q logs lines text m is all =
-    is ∙ (ap report_text all ∙ ap (λ roots. report_text (report_of roots (seen_of q) ++ map Line (flat_map log_lines logs))) (sym m.roots))
+-- the text of a report, and of the record behind it, is that of the transcript of the pass that has gone on
+pub report_is : (asked : Bool) (p q : Pass) (logs : List Log) (lines : List ReportLine) (text : List ℕ) → Moved p q []
+    → text ≡ report_text lines ++ record_part asked q
+    → lines ≡ report_of (roots_of p) (seen_of q) ++ map Line (flat_map log_lines logs) → text ≡ report_with asked q logs
+report_is asked p q logs lines text m is all =
+    is ∙ ap (λ t. t ++ record_part asked q)
+    (ap report_text all ∙ ap (λ roots. report_text (report_of roots (seen_of q) ++ map Line (flat_map log_lines logs))) (sym m.roots))
 
-pub reported_all : (p q : Pass) (logs : List Log) (lines : List ReportLine) (text : List ℕ) (ended : End) (old new : Option (List ℕ)) → Moved p q [] → text ≡ report_text lines
-    → lines ≡ report_of (roots_of p) (seen_of q) ++ map Line (flat_map log_lines logs) → Appends old new text → Reported q ended old new
-reported_all p q logs lines text ended old new m is all w =
-    let whole = subst (Appends old new) (report_is p q logs lines text m is all) w in
-    record { logs = logs; front = front_all old new (report_with q logs) whole; whole = λ _. whole }
+pub reported_all : (asked : Bool) (q : Pass) (logs : List Log) (text : List ℕ) (ended : End) (old new : Option (List ℕ))
+    → text ≡ report_with asked q logs → Appends old new text → Reported asked q ended old new
+reported_all asked q logs text ended old new is w =
+    let whole = subst (Appends old new) is w in
+    record { logs = logs; front = front_all old new (report_with asked q logs) whole; whole = λ _. whole }
 
-pub reported_front : (p q : Pass) (logs : List Log) (lines : List ReportLine) (text : List ℕ) (old new : Option (List ℕ)) → Moved p q [] → text ≡ report_text lines
-    → lines ≡ report_of (roots_of p) (seen_of q) ++ map Line (flat_map log_lines logs) → WritesFront old new text → Reported q (Err Unwritten) old new
-reported_front p q logs lines text old new m is all w =
-    record { logs = logs; front = subst (WritesFront old new) (report_is p q logs lines text m is all) w; whole = λ h. absurd h }
+pub reported_cut : (asked : Bool) (q : Pass) (logs : List Log) (text : List ℕ) (r : End) (old new : Option (List ℕ))
+    → r ≡ Err Unwritten → text ≡ report_with asked q logs → WritesFront old new text → Reported asked q r old new
+reported_cut asked q logs text r old new e is w =
+    subst (λ x. Reported asked q x old new) (sym e)
+    (record { logs = logs; front = subst (WritesFront old new) is w; whole = λ h. absurd h })
 
 -- nothing of the report was written
-pub reported_none : (p : Pass) (old : Option (List ℕ)) → Reported p (Err NoMemory) old old
-reported_none p old = record { logs = []; front = front_none old (report_with p []); whole = λ h. absurd h }
+pub reported_none : (asked : Bool) (p : Pass) (old : Option (List ℕ)) → Reported asked p (Err NoMemory) old old
+reported_none asked p old = record { logs = []; front = front_none old (report_with asked p []); whole = λ h. absurd h }
 
-pub reported_memory : (p : Pass) (r : End) (old : Option (List ℕ)) → r ≡ Err NoMemory → Reported p r old old
-reported_memory p r old e = subst (λ x. Reported p x old old) (sym e) (reported_none p old)
+pub reported_memory : (asked : Bool) (p : Pass) (r : End) (old : Option (List ℕ)) → r ≡ Err NoMemory → Reported asked p r old old
+reported_memory asked p r old e = subst (λ x. Reported asked p x old old) (sym e) (reported_none asked p old)
 
-pub reported_cut : (p q : Pass) (logs : List Log) (lines : List ReportLine) (text : List ℕ) (r : End) (old new : Option (List ℕ)) → r ≡ Err Unwritten → Moved p q [] → text ≡ report_text lines
-    → lines ≡ report_of (roots_of p) (seen_of q) ++ map Line (flat_map log_lines logs) → WritesFront old new text → Reported q r old new
-reported_cut p q logs lines text r old new e m is all w = subst (λ x. Reported q x old new) (sym e) (reported_front p q logs lines text old new m is all w)
-
--- the line of the port was written, or a front of it
-pub wrote_header : (port : ℕ) (p : Pass) (stop : ServeStop) (old new : Option (List ℕ)) → WritesFront old new (header port) → ¬ IsReported (Err stop) → WroteReport port p (Err stop) old new
-wrote_header port p stop old new w never = record { logs = []; front = front_longer old new (header port) (report_with p []) w; whole = λ h. absurd (never h) }
-
--- and the report
-pub wrote_report : (port : ℕ) (p : Pass) (result : End) (a b c : Option (List ℕ)) → Appends a b (header port) → Reported p result b c → WroteReport port p result a c
-wrote_report port p result a b c head r = record {
-  logs = r.logs;
-  front = front_more a b c (header port) (report_with p r.logs) [] (header port ++ report_with p r.logs) head r.front (ap (λ x. header port ++ x) (append-nil (report_with p r.logs)));
-  whole = λ h. Appends-trans a b c (header port) (report_with p r.logs) head (r.whole h);
+-- an end for want of memory before the passes were joined
+pub ends_before : (asked : Bool) (hub : Hub) (p : Pass) (full : Bool) (old : Option (List ℕ)) → IsPassOf hub p → HasTranscript p
+    → EndsReported asked hub p full (Err NoMemory) old old
+ends_before asked hub p full old of transcript = record {
+  pass = p;
+  winds = record { of = of; transcript = transcript; own = moved_none p; given = λ h. h };
+  is_full = λ e f. absurd (cc);
+  reported = reported_none asked p old;
 }
 
-later_appends : (port : ℕ) (p : Pass) (logs : List Log) (a b c : Option (List ℕ)) (last : List ℕ) → Appends a b (header port ++ report_with p logs) → Appends b c last
-    → Appends a c (header port ++ (report_with p logs ++ last))
-later_appends port p logs a b c last w l =
-    subst (Appends a c) (append_assoc (header port) (report_with p logs) last) (Appends-trans a b c (header port ++ report_with p logs) last w l)
+-- and after that, with nothing written, a front written, or all
+pub ends_memory : (asked : Bool) (hub : Hub) (p q : Pass) (full : Bool) (r : End) (old : Option (List ℕ)) → WindsUp hub p q
+    → (full ≡ true → IsNearlyFull (seen_of q)) → r ≡ Err NoMemory → EndsReported asked hub p full r old old
+ends_memory asked hub p q full r old winds is_full e =
+    record { pass = q; winds = winds; is_full = λ _. is_full; reported = reported_memory asked q r old e }
+
+pub ends_cut : (asked : Bool) (hub : Hub) (p q : Pass) (full : Bool) (logs : List Log) (text : List ℕ) (r : End) (old new : Option (List ℕ))
+    → WindsUp hub p q → (full ≡ true → IsNearlyFull (seen_of q)) → r ≡ Err Unwritten → text ≡ report_with asked q logs
+    → WritesFront old new text → EndsReported asked hub p full r old new
+ends_cut asked hub p q full logs text r old new winds is_full e is w =
+    record { pass = q; winds = winds; is_full = λ _. is_full; reported = reported_cut asked q logs text r old new e is w }
+
+pub ends_all : (asked : Bool) (hub : Hub) (p q : Pass) (full : Bool) (logs : List Log) (text : List ℕ) (ended : End) (old new : Option (List ℕ))
+    → WindsUp hub p q → (full ≡ true → IsNearlyFull (seen_of q)) → text ≡ report_with asked q logs → Appends old new text
+    → EndsReported asked hub p full ended old new
+ends_all asked hub p q full logs text ended old new winds is_full is w =
+    record { pass = q; winds = winds; is_full = λ _. is_full; reported = reported_all asked q logs text ended old new is w }
+
+-- the line of the port was written, or a front of it
+pub wrote_header : (asked : Bool) (port : ℕ) (p : Pass) (stop : ServeStop) (old new : Option (List ℕ)) → WritesFront old new (header port) → ¬ IsReported (Err stop) → WroteReport asked port p (Err stop) old new
+wrote_header asked port p stop old new w never = record { logs = []; front = front_longer old new (header port) (report_with asked p []) w; whole = λ h. absurd (never h) }
+
+-- and the report
+pub wrote_report : (asked : Bool) (port : ℕ) (p : Pass) (result : End) (a b c : Option (List ℕ)) → Appends a b (header port) → Reported asked p result b c → WroteReport asked port p result a c
+wrote_report asked port p result a b c head r = record {
+  logs = r.logs;
+  front = front_more a b c (header port) (report_with asked p r.logs) [] (header port ++ report_with asked p r.logs) head r.front (ap (λ x. header port ++ x) (append-nil (report_with asked p r.logs)));
+  whole = λ h. Appends-trans a b c (header port) (report_with asked p r.logs) head (r.whole h);
+}
+
+later_appends : (asked : Bool) (port : ℕ) (p : Pass) (logs : List Log) (a b c : Option (List ℕ)) (last : List ℕ) → Appends a b (header port ++ report_with asked p logs) → Appends b c last
+    → Appends a c (header port ++ (report_with asked p logs ++ last))
+later_appends asked port p logs a b c last w l =
+    subst (Appends a c) (append_assoc (header port) (report_with asked p logs) last) (Appends-trans a b c (header port ++ report_with asked p logs) last w l)
 
 appends_none : (old : Option (List ℕ)) → Appends old old []
 appends_none None = tt
@@ -294,38 +322,38 @@ front_still a b c text w l = record {
   out = subst (Appends a c) (append-nil w.front) (Appends-trans a b c w.front [] w.out l);
 }
 
-as_last : (port : ℕ) (p : Pass) (logs : List Log) → header port ++ report_with p logs ≡ header port ++ (report_with p logs ++ [])
-as_last port p logs = ap (λ x. header port ++ x) (sym (append-nil (report_with p logs)))
+as_last : (asked : Bool) (port : ℕ) (p : Pass) (logs : List Log) → header port ++ report_with asked p logs ≡ header port ++ (report_with asked p logs ++ [])
+as_last asked port p logs = ap (λ x. header port ++ x) (sym (append-nil (report_with asked p logs)))
 
-no_last : (port : ℕ) (p : Pass) (stop : ServeStop) (a b c : Option (List ℕ)) (before now : ℕ) → last_text {T = Unit {0}} (Err stop) ≡ [] → ¬ IsReported (Err stop)
-    → WroteReport port p (Err stop) a b → WritesFront b c (last_text {T = Unit {0}} (Err stop)) → Wrote port p (Err stop) a c before now
-no_last port p stop a b c before now none never w l = record {
+no_last : (asked : Bool) (port : ℕ) (p : Pass) (stop : ServeStop) (a b c : Option (List ℕ)) (before now : ℕ) → last_text {T = Unit {0}} (Err stop) ≡ [] → ¬ IsReported (Err stop)
+    → WroteReport asked port p (Err stop) a b → WritesFront b c (last_text {T = Unit {0}} (Err stop)) → Wrote asked port p (Err stop) a c before now
+no_last asked port p stop a b c before now none never w l = record {
   logs = w.logs;
   front =
-      subst (WritesFront a c) (as_last port p w.logs ∙ ap (λ x. header port ++ (report_with p w.logs ++ x)) (sym none))
-      (front_still a b c (header port ++ report_with p w.logs) w.front (nothing_more b c (subst (WritesFront b c) none l)));
+      subst (WritesFront a c) (as_last asked port p w.logs ∙ ap (λ x. header port ++ (report_with asked p w.logs ++ x)) (sym none))
+      (front_still a b c (header port ++ report_with asked p w.logs) w.front (nothing_more b c (subst (WritesFront b c) none l)));
   whole = λ h _. absurd (never h);
 }
 
-with_last : (port : ℕ) (p : Pass) (result : End) (a b c : Option (List ℕ)) (before mid now : ℕ) → IsReported result
-    → WroteReport port p result a b → WroteEarly result b c mid now → before ≤ mid → mid ≤ now → Wrote port p result a c before now
-with_last port p result a b c before mid now is w l less more = record {
+with_last : (asked : Bool) (port : ℕ) (p : Pass) (result : End) (a b c : Option (List ℕ)) (before mid now : ℕ) → IsReported result
+    → WroteReport asked port p result a b → WroteEarly result b c mid now → before ≤ mid → mid ≤ now → Wrote asked port p result a c before now
+with_last asked port p result a b c before mid now is w l less more = record {
   logs = w.logs;
   front =
-      front_more a b c (header port ++ report_with p w.logs) (last_text result) [] (header port ++ (report_with p w.logs ++ last_text result)) (w.whole is) l.front
-      (ap (λ x. (header port ++ report_with p w.logs) ++ x) (append-nil (last_text result)) ∙ append_assoc (header port) (report_with p w.logs) (last_text result));
-  whole = λ _ not_risen. later_appends port p w.logs a b c (last_text result) (w.whole is) (l.whole (λ r. not_risen (rose_later before mid now now less (omega arith) r)));
+      front_more a b c (header port ++ report_with asked p w.logs) (last_text result) [] (header port ++ (report_with asked p w.logs ++ last_text result)) (w.whole is) l.front
+      (ap (λ x. (header port ++ report_with asked p w.logs) ++ x) (append-nil (last_text result)) ∙ append_assoc (header port) (report_with asked p w.logs) (last_text result));
+  whole = λ _ not_risen. later_appends asked port p w.logs a b c (last_text result) (w.whole is) (l.whole (λ r. not_risen (rose_later before mid now now less (omega arith) r)));
 }
 
 -- and the line of a limit
-pub wrote_last : (port : ℕ) (p : Pass) (result : End) (a b c : Option (List ℕ)) (before mid now : ℕ)
-    → WroteReport port p result a b → WroteEarly result b c mid now → before ≤ mid → mid ≤ now → Wrote port p result a c before now
-wrote_last port p (Ok x) a b c before mid now w l less more = with_last port p (Ok x) a b c before mid now tt w l less more
-wrote_last port p (Err Unwritten) a b c before mid now w l less more = no_last port p Unwritten a b c before now refl (λ h. h) w l.front
-wrote_last port p (Err Tree) a b c before mid now w l less more = with_last port p (Err Tree) a b c before mid now tt w l less more
-wrote_last port p (Err Fault) a b c before mid now w l less more = with_last port p (Err Fault) a b c before mid now tt w l less more
-wrote_last port p (Err (AtLimit limit)) a b c before mid now w l less more = with_last port p (Err (AtLimit limit)) a b c before mid now tt w l less more
-wrote_last port p (Err NoMemory) a b c before mid now w l less more = no_last port p NoMemory a b c before now refl (λ h. h) w l.front
+pub wrote_last : (asked : Bool) (port : ℕ) (p : Pass) (result : End) (a b c : Option (List ℕ)) (before mid now : ℕ)
+    → WroteReport asked port p result a b → WroteEarly result b c mid now → before ≤ mid → mid ≤ now → Wrote asked port p result a c before now
+wrote_last asked port p (Ok x) a b c before mid now w l less more = with_last asked port p (Ok x) a b c before mid now tt w l less more
+wrote_last asked port p (Err Unwritten) a b c before mid now w l less more = no_last asked port p Unwritten a b c before now refl (λ h. h) w l.front
+wrote_last asked port p (Err Tree) a b c before mid now w l less more = with_last asked port p (Err Tree) a b c before mid now tt w l less more
+wrote_last asked port p (Err Fault) a b c before mid now w l less more = with_last asked port p (Err Fault) a b c before mid now tt w l less more
+wrote_last asked port p (Err (AtLimit limit)) a b c before mid now w l less more = with_last asked port p (Err (AtLimit limit)) a b c before mid now tt w l less more
+wrote_last asked port p (Err NoMemory) a b c before mid now w l less more = no_last asked port p NoMemory a b c before now refl (λ h. h) w l.front
 
 pub early_last : (result : End) (a b c : Option (List ℕ)) (before mid now : ℕ) → b ≡ a → before ≤ mid → WroteEarly result b c mid now → WroteEarly result a c before now
 early_last result a b c before mid now same less w = record {
@@ -346,12 +374,12 @@ wrote_line result r old new text k k' is w done failed = record {
 }
 
 -- all that the call says it wrote
-pub serve_wrote : (roots : List Name) (coming : Option (List Files)) (script : List Edit) (many : ℕ) (result : End) (heard : Option ℕ) (a b c : Option (List ℕ)) (before mid now : ℕ)
-    → ((port : ℕ) × (p : Pass) × (heard ≡ Some port) × Served roots coming script many result p × WroteReport port p result a b) ⊎ (StopsEarly roots coming result × (b ≡ a))
+pub serve_wrote : (asked : Bool) (roots : List Name) (coming : Option (List Files)) (script : List Edit) (many : ℕ) (result : End) (heard : Option ℕ) (a b c : Option (List ℕ)) (before mid now : ℕ)
+    → ((port : ℕ) × (p : Pass) × (heard ≡ Some port) × Served roots coming script many result p × WroteReport asked port p result a b) ⊎ (StopsEarly roots coming result × (b ≡ a))
     → WroteEarly result b c mid now → before ≤ mid → mid ≤ now
-    → ((port : ℕ) × (p : Pass) × (heard ≡ Some port) × Served roots coming script many result p × Wrote port p result a c before now) ⊎ (StopsEarly roots coming result × WroteEarly result a c before now)
-serve_wrote roots coming script many result heard a b c before mid now (inl (port, p, h, s, w)) l x y = inl (port, p, h, s, wrote_last port p result a b c before mid now w l x y)
-serve_wrote roots coming script many result heard a b c before mid now (inr (s, e)) l x y = inr (s, early_last result a b c before mid now e x l)
+    → ((port : ℕ) × (p : Pass) × (heard ≡ Some port) × Served roots coming script many result p × Wrote asked port p result a c before now) ⊎ (StopsEarly roots coming result × WroteEarly result a c before now)
+serve_wrote asked roots coming script many result heard a b c before mid now (inl (port, p, h, s, w)) l x y = inl (port, p, h, s, wrote_last asked port p result a b c before mid now w l x y)
+serve_wrote asked roots coming script many result heard a b c before mid now (inr (s, e)) l x y = inr (s, early_last result a b c before mid now e x l)
 
 -- it stopped before it listened
 pub stops_memory : (roots : List Name) (coming : Option (List Files)) (r : End) → r ≡ Err NoMemory → StopsEarly roots coming r
@@ -388,10 +416,10 @@ end_as result ended other (inl e) f = inl (e ∙ f)
 end_as result ended other (inr x) f = inr x
 
 -- it stopped when it had listened, and before the work
-pub served_early : (roots : List Name) (coming : Option (List Files)) (listing : Files) (script : List Edit) (many port : ℕ) (stop : ServeStop) (r : End) (p o : Pass) (old new : Option (List ℕ))
+pub served_early : (asked : Bool) (roots : List Name) (coming : Option (List Files)) (listing : Files) (script : List Edit) (many port : ℕ) (stop : ServeStop) (r : End) (p o : Pass) (old new : Option (List ℕ))
     → r ≡ Err stop → IsFirst roots p → SameKnower p o → Opens coming listing (seen_of o) → HasTranscript o → (stop ≡ Unwritten) ⊎ (stop ≡ NoMemory) → ¬ IsReported (Err stop) → WritesFront old new (header port)
-    → Served roots coming script many r o × WroteReport port o r old new
-served_early roots coming listing script many port stop r p o old new e first same opens transcript which never w = (
+    → Served roots coming script many r o × WroteReport asked port o r old new
+served_early asked roots coming listing script many port stop r p o old new e first same opens transcript which never w = (
   subst (λ x. Served roots coming script many x o) (sym e) (served_start roots coming listing script many stop p o first same opens transcript which),
-  subst (λ x. WroteReport port o x old new) (sym e) (wrote_header port o stop old new w never),
+  subst (λ x. WroteReport asked port o x old new) (sym e) (wrote_header asked port o stop old new w never),
 )

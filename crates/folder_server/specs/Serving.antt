@@ -1,6 +1,6 @@
 -- What a server writes, and of which transcript.
 use Rattle.std.specs.Prelude.{◌≡◌, ◌≢◌, ◌⊎◌, ℕ, ⊤, Bool, List, [], ◌∷◌, ◌++◌, map, flat_map, codes, decimal}
-use Rattle.std.specs.Prelude.{All, Option, Result, Ok, Err, OnOk, if◌then◌else◌}
+use Rattle.std.specs.Prelude.{All, Option, Result, Ok, Err, OnOk, true, false, if◌then◌else◌}
 use Rattle.std.specs.Option.{option_map}
 use Rattle.std.specs.Io.KnownBytes.{Appends}
 use Rattle.std.specs.List.Sorted.{IsPermutation}
@@ -8,18 +8,23 @@ use Prim.{⊥}
 use Rattle.hmr_base.specs.Causes.{Rose}
 use Rattle.hmr_base.specs.Fronts.{WritesFront}
 use Rattle.core_model.specs.Names.{Name}
-use Rattle.core_model.specs.Transcript.{Recorded}
+use Rattle.core_model.specs.Transcript.{Recorded, events_of}
 use Rattle.folders.specs.Files.{files_after}
 use Rattle.turn_lock.specs.Histories.{calls}
 use Rattle.transform_pool.specs.Tasks.{Task}
+use Rattle.hmr_hub.specs.declared.pass.Hub.{Hub}
 use Rattle.hmr_hub.specs.declared.pass.Pass.{Pass}
 use Rattle.hmr_hub.specs.declared.report_line.ReportLine.TheVariants.{Line}
-use Rattle.hmr_hub.specs.Passes.{HasTranscript, number_of, roots_of, seen_of}
+use Rattle.hmr_hub.specs.Passes.{HasTranscript, IsPassOf, all_given, number_of, roots_of, seen_of}
 use Rattle.hmr_hub.specs.Reports.{report_of}
+use Rattle.hub_moves.specs.Fullness.{IsNearlyFull}
+use Rattle.hub_moves.specs.Moves.{Moved}
 use Rattle.hub_editor.specs.Edits.{Edit, Made, jobs_at_end}
 use Rattle.hub_editor.specs.Editing.{AreAnswered, HaveLastResults, entries_of}
 use Rattle.hub_editor.specs.Openings.{AreAccepted, opening}
 use Rattle.hub_editor.specs.Results.{HasOwnResults, result_entry}
+use Rattle.record_text.specs.Texts.{record_text}
+use Rattle.record_laws.specs.Written.{record_told}
 use Rattle.serve_crew.specs.declared.gathered.Gathered.{Gathered}
 use Rattle.serve_reports.specs.declared.log.Log.{Log}
 use Rattle.serve_reports.specs.Logs.{log_lines}
@@ -62,9 +67,16 @@ status_after gathered ended = status_by (job_ends gathered) ended
 abbrev pub header : ℕ → List ℕ
 header port = codes "listening " ++ decimal port ++ codes "\n"
 
--- the report of what a pass has seen, and the lines of the program's own clients
-abbrev pub report_with : Pass → List Log → List ℕ
-report_with p logs = report_text (report_of (roots_of p) (seen_of p) ++ map Line (flat_map log_lines logs))
+-- the record of what a pass has seen, where it is asked for
+abbrev pub record_part : Bool → Pass → List ℕ
+record_part false p = []
+record_part true p = codes "record\n" ++ record_text (record_told (roots_of p) (events_of (seen_of p)))
+
+-- the report of what a pass has seen, the lines of the program's own clients, and the record where it is
+-- asked for
+abbrev pub report_with : Bool → Pass → List Log → List ℕ
+report_with asked p logs =
+    report_text (report_of (roots_of p) (seen_of p) ++ map Line (flat_map log_lines logs)) ++ record_part asked p
 
 -- the report is written whole: the output didn't fail, and there was memory
 abbrev pub IsReported : End → Type 0
@@ -76,10 +88,26 @@ IsReported (Err (AtLimit limit)) = ⊤
 IsReported (Err NoMemory) = ⊥
 
 -- a front of the report is written, and all of it where the server ended so
-pub record Reported (p : Pass) (ended : End) (old new : Option (List ℕ)) : Type 0 where
+pub record Reported (asked : Bool) (p : Pass) (ended : End) (old new : Option (List ℕ)) : Type 0 where
   pub logs : List Log
-  pub front : WritesFront old new (report_with p logs)
-  pub whole : IsReported ended → Appends old new (report_with p logs)
+  pub front : WritesFront old new (report_with asked p logs)
+  pub whole : IsReported ended → Appends old new (report_with asked p logs)
+
+-- the passes of the jobs were joined into a pass, which has then seen the transcript that is reported
+pub record WindsUp (hub : Hub) (old q : Pass) : Type 0 where
+  pub of : IsPassOf hub q
+  pub transcript : HasTranscript q
+  pub own : Moved old q []
+  pub given : all_given old ≡ true → all_given q ≡ true
+
+-- The end of a server, whose report is that of the transcript which a pass has then seen. Where it ended since a
+-- job found that full, it is nearly so.
+pub record EndsReported (asked : Bool) (hub : Hub) (old : Pass) (full : Bool) (result : End)
+    (before after : Option (List ℕ)) : Type 0 where
+  pub pass : Pass
+  pub winds : WindsUp hub old pass
+  pub is_full : result ≡ Err (AtLimit Transcript) → full ≡ true → IsNearlyFull (seen_of pass)
+  pub reported : Reported asked pass result before after
 
 -- the cause of an end
 abbrev pub HasCause : Pass → End → Type 0
@@ -122,21 +150,22 @@ pub record Served (roots : List Name) (coming : Option (List Files)) (script : L
   pub status : EndsBy jobs edited ended
   pub cause : HasCause p ended
 
--- The port that it listens at was written, and the report of that transcript; at a limit its line stands
--- last. Where the output failed or memory ran out, a front of that was written. The counts are those of the
--- output.
-pub record Wrote (port : ℕ) (p : Pass) (ended : End) (old new : Option (List ℕ))
+-- The port that it listens at was written, and the report of that transcript, with its record where that is
+-- asked for; at a limit its line stands last. Where the output failed or memory ran out, a front of that was
+-- written. The counts are those of the output.
+pub record Wrote (asked : Bool) (port : ℕ) (p : Pass) (ended : End) (old new : Option (List ℕ))
     (before now : ℕ) : Type 0 where
   pub logs : List Log
-  pub front : WritesFront old new (header port ++ (report_with p logs ++ last_text ended))
+  pub front : WritesFront old new (header port ++ (report_with asked p logs ++ last_text ended))
   pub whole : IsReported ended → ¬ Rose before now
-      → Appends old new (header port ++ (report_with p logs ++ last_text ended))
+      → Appends old new (header port ++ (report_with asked p logs ++ last_text ended))
 
 -- the same before the line of a limit
-pub record WroteReport (port : ℕ) (p : Pass) (ended : End) (old new : Option (List ℕ)) : Type 0 where
+pub record WroteReport (asked : Bool) (port : ℕ) (p : Pass) (ended : End)
+    (old new : Option (List ℕ)) : Type 0 where
   pub logs : List Log
-  pub front : WritesFront old new (header port ++ report_with p logs)
-  pub whole : IsReported ended → Appends old new (header port ++ report_with p logs)
+  pub front : WritesFront old new (header port ++ report_with asked p logs)
+  pub whole : IsReported ended → Appends old new (header port ++ report_with asked p logs)
 
 -- The server ended before it listened, and not by its output. Where it wasn't for want of memory, a pass of
 -- a hub with these roots has seen just what the first scan and its edits had come to, and the cause.

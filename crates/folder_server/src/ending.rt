@@ -1,18 +1,20 @@
-// The end of a server: its report and the logs of its own clients are written.
-ghost use Rattle.std.specs.Prelude.{◌≡◌, ◌≢◌, ◌≤◌, ◌⊎◌, [], Err, IfOk, true};
+// The end of a server: its report, the logs of its own clients and its record are written.
+ghost use Rattle.std.specs.Prelude.{◌≡◌, ◌≢◌, ◌≤◌, ◌⊎◌, ◌++◌, ◌∷◌, Err, IfOk, List, length};
 ghost use Rattle.hmr_base.specs.Causes.{Rose};
-ghost use Rattle.hmr_hub.specs.Passes.{HasTranscript, IsPassOf, all_given, seen_of};
-ghost use Rattle.hub_moves.specs.Fullness.{IsNearlyFull};
-ghost use Rattle.hub_moves.specs.Moves.{KnowsOwn, Moved};
+ghost use Rattle.hmr_hub.specs.Passes.{HasTranscript, IsPassOf, roots_of, seen_of};
+ghost use Rattle.hmr_hub.specs.declared.report_line.ReportLine.{ReportLine};
+ghost use Rattle.hmr_hub.specs.declared.report_line.ReportLine.TheVariants.{Steps};
+ghost use Rattle.hub_moves.specs.Moves.{KnowsOwn};
 ghost use Rattle.serve_crew.specs.Gathers.{IsGathered};
 ghost use Rattle.serve_reports.specs.Texts.{report_text};
-ghost use Rattle.folder_server.specs.Serving.{Reported, status_after};
-ghost use Rattle.folder_server.specs.declared.stop.Limit.TheVariants.{Transcript};
+ghost use Rattle.folder_server.specs.Serving.{EndsReported, record_part, status_after};
 
+use crate::recording::{entries_in, put_record};
 use crate::running::RunEnd;
 use crate::stop::{Limit, ServeStop};
 use hmr_base::{Sink, write_all};
 use hmr_hub::{Hub, Pass, ReportLine};
+use hmr_types::ModName;
 use serve_crew::Gathered;
 use serve_reports::{put_report_line, wind_up};
 use std::alloc::{AllocError, Global};
@@ -36,14 +38,17 @@ pub(crate) fn end_of(run: &RunEnd) -> Result<(), ServeStop>
     Ok(())
 }
 
-/// Joins the passes of the jobs, and writes the report and the lines of the program's own clients. It is
-/// left away where memory ran out before. The end is the one that was given, or `Unwritten` where the output
-/// failed, or `NoMemory`.
+/// Joins the passes of the jobs, and writes the report, the lines of the program's own clients, and the record
+/// of the transcript that is reported, where that is asked for. It is left away where memory ran out before,
+/// and where memory runs out for it nothing of it is written. The end is the one that was given, or
+/// `Unwritten` where the output failed, or `NoMemory`.
 pub(crate) fn write_end<R: Wait, K: Sink>(
     rt: &R,
     alloc: Global,
     hub: &Hub,
     pass: &mut Pass,
+    roots: &[ModName],
+    recorded: bool,
     gathered: Gathered,
     ended: Result<(), ServeStop>,
     out: &mut K,
@@ -51,16 +56,12 @@ pub(crate) fn write_end<R: Wait, K: Sink>(
     requires of { IsPassOf hub.now pass.old }
     requires knows { KnowsOwn pass.old }
     requires transcript { HasTranscript pass.old }
+    requires roots { roots_of pass.old ≡ roots.now }
     requires gathered { IsGathered hub.now gathered }
     requires ended { ended ≢ Err ServeStop.Unwritten }
-    ensures of { IsPassOf hub.now pass.new }
-    ensures transcript { HasTranscript pass.new }
-    ensures own { Moved pass.old pass.new [] }
-    ensures given { all_given pass.old ≡ true → all_given pass.new ≡ true }
-    ensures full { result ≡ Err (ServeStop.Limit Transcript) → gathered.full ≡ true
-        → IsNearlyFull (seen_of pass.new) }
+    ensures reported { EndsReported recorded hub.now pass.old gathered.full result
+        (K.written out.old) (K.written out.new) }
     ensures end { (result ≡ ended) ⊎ (result ≡ Err ServeStop.Unwritten) ⊎ (result ≡ Err ServeStop.NoMemory) }
-    ensures reported { Reported pass.new result (K.written out.old) (K.written out.new) }
     ensures unwritten { result ≡ Err ServeStop.Unwritten → Rose (K.faults out.old) (K.faults out.new) }
     ensures later { K.faults out.old ≤ K.faults out.new }
 {
@@ -75,9 +76,32 @@ pub(crate) fn write_end<R: Wait, K: Sink>(
         fault: _,
     } = gathered;
     let report = wind_up(rt, hub, pass, passes, logs)?;
-    let text = text_of(alloc, &report)?;
+    let text = whole_text(rt, alloc, hub, pass, roots, recorded, &report)?;
     write_all(out, &text)?;
     ended
+}
+
+// The bytes of a report of all that the pass has seen, and of the record of that, where it is asked for.
+fn whole_text<R: Wait>(
+    rt: &R,
+    alloc: Global,
+    hub: &Hub,
+    pass: &mut Pass,
+    roots: &[ModName],
+    recorded: bool,
+    report: &[ReportLine],
+) -> Result<Vec<u8>, AllocError>
+    requires of { IsPassOf hub.now pass.old }
+    requires transcript { HasTranscript pass.old }
+    requires roots { roots_of pass.old ≡ roots.now }
+    requires steps { (more : List ReportLine) × (report.now ≡ Steps (length (seen_of pass.old)) ∷ more) }
+    ensures { IfOk result (λ text. text.items ≡ report_text report.now ++ record_part recorded pass.old) }
+{
+    let mut text = text_of(alloc, report)?;
+    if recorded {
+        put_record(rt, alloc, hub, pass, roots, entries_in(report), &mut text)?;
+    }
+    Ok(text)
 }
 
 // The bytes of a report.

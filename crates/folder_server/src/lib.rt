@@ -12,6 +12,7 @@ mod changes;
 mod ending;
 mod opening;
 mod plan;
+mod recording;
 mod rounds;
 mod running;
 mod stop;

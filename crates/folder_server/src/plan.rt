@@ -15,4 +15,6 @@ pub struct Plan {
     pub workers: u32,
     /// How often the folder is scanned again.
     pub rounds: u32,
+    /// Whether the record of the transcript is written behind the report.
+    pub recorded: bool,
 }

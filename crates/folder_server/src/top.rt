@@ -24,6 +24,7 @@ use hmr_base::{Sink, write_all};
 use hmr_types::ModName;
 use jobs::{Gate, Spawner};
 use links::Net;
+use module_graph::copy_of;
 use retained_data::Bag;
 use std::alloc::{AllocError, Global};
 use std::sync::{Arc, Wait};
@@ -38,7 +39,8 @@ use transform_pool::JobQueue;
 /// thread is the editor: it scans the folder `rounds` times more, makes the edits between each two scans,
 /// and then those of the script, each of a name and a text of at most 16,777,216 bytes together. At the end
 /// all jobs are finished, what is left of results is settled, all ends are given back to the net, and the
-/// report is written with the lines of the program's own clients. The closures of the shelves are for these.
+/// report is written with the lines of the program's own clients, and behind it, where the plan asks for it, the
+/// record of the transcript that it reports. The closures of the shelves are for these.
 /// After the net refused an end it is asked for no more, and where it did, the answer isn't Ok.
 ///
 /// [`ServeStop::Unwritten`], [`ServeStop::Tree`] and [`ServeStop::Fault`] come only where the count of
@@ -81,7 +83,7 @@ where
     requires hosts { All (All (IsHost F.post)) shelves.old }
     ensures wrote { ((port : ℕ) × (p : Pass) × (N.heard net.new ≡ Some port)
         × Served roots.items (T.coming tree.old) (edits_in script.items) plan.now.rounds result p
-        × Wrote port p result (K.written out.old) (K.written out.new) (K.faults out.old) (K.faults out.new))
+        × Wrote plan.now.recorded port p result (K.written out.old) (K.written out.new) (K.faults out.old) (K.faults out.new))
         ⊎ (StopsEarly roots.items (T.coming tree.old) result
         × WroteEarly result (K.written out.old) (K.written out.new) (K.faults out.old) (K.faults out.new)) }
     ensures begun { OnOk result (P.begun spawner.new
@@ -160,7 +162,7 @@ where
     requires hosts { All (All (IsHost F.post)) shelves.old }
     ensures wrote { ((port : ℕ) × (p : Pass) × (N.heard net.new ≡ Some port)
         × Served roots.items (T.coming tree.old) (edits_in script.items) plan.now.rounds result p
-        × WroteReport port p result (K.written out.old) (K.written out.new))
+        × WroteReport plan.now.recorded port p result (K.written out.old) (K.written out.new))
         ⊎ (StopsEarly roots.items (T.coming tree.old) result × (K.written out.new ≡ K.written out.old)) }
     ensures begun { OnOk result (P.begun spawner.new
         ≡ plan.now.workers ∷ (plan.now.clients + plan.now.outside) ∷ plan.now.clients ∷ []) }
@@ -176,6 +178,7 @@ where
     ensures opened { MayOpen (T.asked tree.new) folder.now }
     ensures hosts { All (All (IsHost F.post)) shelves.new }
 {
+    let names = copy_of(alloc, &roots)?;
     let (hub, mut pass) = new_hub(alloc, roots)?;
     let listing = open_folder(rt, alloc, &hub, &mut pass, tree, folder, plan.workers)?;
     let hub = Arc::new(alloc, hub)?;
@@ -189,5 +192,15 @@ where
         net, spawner, gate, shelves,
     )?;
     let ended = end_of(&left);
-    write_end(rt, alloc, &hub, &mut pass, left.gathered, ended, out)
+    write_end(
+        rt,
+        alloc,
+        &hub,
+        &mut pass,
+        &names,
+        plan.recorded,
+        left.gathered,
+        ended,
+        out,
+    )
 }

@@ -68,6 +68,7 @@ fn each_client_has_the_page_that_it_told(rt: HostRuntime) -> Result<(), Fail> {
         turns: MODULES as u32 + 280,
         workers: 16,
         rounds: 20,
+        recorded: false,
     };
     let none = Vec::new(alloc);
     let over = served(

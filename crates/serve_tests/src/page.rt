@@ -43,6 +43,7 @@ pub fn plan(clients: u32, outside: u32) -> Plan
         turns: 4,
         workers: 2,
         rounds: 1,
+        recorded: false,
     }
 }
 

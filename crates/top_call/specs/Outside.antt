@@ -26,7 +26,8 @@ use Rattle.folder_server.specs.Rounds.{Files}
 use Rattle.folder_server.specs.Serving.{Served, StopsEarly, Wrote, WroteEarly}
 use Rattle.input_commands.specs.declared.stop.Stop.{Stop}
 use Rattle.input_commands.specs.declared.stop.Stop.TheVariants.{NotACommand, TooLong, TextTooLong, Faulty}
-use Rattle.input_commands.specs.declared.stop.Stop.TheVariants.{Unread, Unwritten, InstancesFull, NoMemory}
+use Rattle.input_commands.specs.declared.stop.Stop.TheVariants.{RecordTooLong, Unread, Unwritten}
+use Rattle.input_commands.specs.declared.stop.Stop.TheVariants.{TranscriptFull, InstancesFull, NoMemory}
 use Rattle.input_commands.specs.Outputs.{fault_line, input_limit, instances_limit}
 
 -- no other status is answered
@@ -60,7 +61,7 @@ pub record IsServed (plan : ServePlan) (left : Option (List ℕ)) (coming : Opti
   pub ended : Result (Unit {0}) ServeStop
   pub status_is : status ≡ status_of_serve ended
   pub served : ((port : ℕ) × (p : Pass) × (heard ≡ Some port)
-      × Served plan.roots coming script plan.rounds ended p × Wrote port p ended old new before now)
+      × Served plan.roots coming script plan.rounds ended p × Wrote plan.recorded port p ended old new before now)
       ⊎ (StopsEarly plan.roots coming ended × WroteEarly ended old new before now)
 
 -- the line is written, or a front of it where the count of the output's faults rose
@@ -97,9 +98,11 @@ abbrev pub IsEditStop : List ℕ → Stop → Type 0
 IsEditStop bytes NotACommand = ⊥
 IsEditStop bytes TooLong = ⊥
 IsEditStop bytes TextTooLong = ⊥
+IsEditStop bytes RecordTooLong = ⊥
 IsEditStop bytes (Faulty line) = HasFaultLine bytes line.items
 IsEditStop bytes Unread = ⊥
 IsEditStop bytes Unwritten = ⊥
+IsEditStop bytes TranscriptFull = ⊥
 IsEditStop bytes InstancesFull = ⊥
 IsEditStop bytes NoMemory = ⊤
 
@@ -108,9 +111,11 @@ abbrev pub IsScriptStop : Option (List ℕ) → Stop → Type 0
 IsScriptStop left NotACommand = ⊥
 IsScriptStop left TooLong = IfSome left (λ bytes. SCRIPT_BYTES < length bytes)
 IsScriptStop left TextTooLong = ⊥
+IsScriptStop left RecordTooLong = ⊥
 IsScriptStop left (Faulty line) = IfSome left (λ bytes. HasFaultLine bytes line.items)
 IsScriptStop left Unread = ⊤
 IsScriptStop left Unwritten = ⊥
+IsScriptStop left TranscriptFull = ⊥
 IsScriptStop left InstancesFull = ⊥
 IsScriptStop left NoMemory = ⊤
 
@@ -179,6 +184,8 @@ IfServe (Some (commands.Make count seed)) told = ⊤
 IfServe (Some (commands.Serve plan)) told = told plan
 IfServe (Some (commands.Join port roots turns)) told = ⊤
 IfServe (Some (commands.Page folder)) told = ⊤
+IfServe (Some commands.Record) told = ⊤
+IfServe (Some commands.Audit) told = ⊤
 
 -- of the port, the roots and the turns of `join`, where the words are that command
 abbrev pub IfJoin : Option Command → (ℕ → List (List ℕ) → ℕ → Type 0) → Type 0
@@ -189,6 +196,8 @@ IfJoin (Some (commands.Make count seed)) told = ⊤
 IfJoin (Some (commands.Serve plan)) told = ⊤
 IfJoin (Some (commands.Join port roots turns)) told = told port roots turns
 IfJoin (Some (commands.Page folder)) told = ⊤
+IfJoin (Some commands.Record) told = ⊤
+IfJoin (Some commands.Audit) told = ⊤
 
 abbrev pub is_join : Option Command → Bool
 is_join None = false
@@ -198,6 +207,8 @@ is_join (Some (commands.Make count seed)) = false
 is_join (Some (commands.Serve plan)) = false
 is_join (Some (commands.Join port roots turns)) = true
 is_join (Some (commands.Page folder)) = false
+is_join (Some commands.Record) = false
+is_join (Some commands.Audit) = false
 
 -- what the net may have been asked first: nothing, or by `serve` to listen, or by `join` to connect
 abbrev pub MayAsk : Option Command → Option Asked → Type 0

@@ -37,3 +37,5 @@ IfPage (Some (commands.Make count seed)) told = ⊤
 IfPage (Some (commands.Serve plan)) told = ⊤
 IfPage (Some (commands.Join port roots turns)) told = ⊤
 IfPage (Some (commands.Page folder)) told = told folder
+IfPage (Some commands.Record) told = ⊤
+IfPage (Some commands.Audit) told = ⊤

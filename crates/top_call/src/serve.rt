@@ -93,6 +93,7 @@ where
         turns: plan.turns,
         workers: plan.workers,
         rounds: plan.rounds,
+        recorded: plan.recorded,
     };
     let ServePlan { folder, roots, .. } = plan;
     let ended = serve(

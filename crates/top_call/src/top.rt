@@ -36,20 +36,23 @@ use std::thread::Threads;
 /// and writes the lines of each step as the step is made. `check NAME` reads a module text from the input,
 /// and writes its canonical text and its analysis, or the line of its first fault. `make N SEED` reads
 /// nothing: it plays the script of a page of N modules that the seed gives, and writes one line that sums
-/// the run up. What there is to write for these and an input is the definition `output_of`. `serve FOLDER
-/// ROOT..` serves the modules of a folder, with the edits of the input where its words ask for them. `join
-/// PORT` is one client to a server on this machine, with the closures of the first shelf. `page FOLDER`
-/// answers the HTTP requests of the input by the modules of a folder.
+/// the run up. `record` reads a script as `play` does, plays it, and writes the record of what the server's
+/// core was told in its run. `audit` reads a record of what a server's core was told from the input, and
+/// writes whether it is sound, or the first line that is wrong and why. What there is to write for these and
+/// an input is the definition `output_of`. `serve FOLDER ROOT..` serves the modules of a folder, with the
+/// edits of the input and with the record of what its core was told behind its report, where its words ask
+/// for them. `join PORT` is one client to a server on this machine, with the closures of the first shelf.
+/// `page FOLDER` answers the HTTP requests of the input by the modules of a folder.
 ///
 /// 0: the whole output is written, and a command that reads the input read it to its end. 2: the words are
-/// no command; the usage line is written. 3: the input of `play` is no script, or that of `serve` no edits;
-/// the line of its first fault is written. 4: the input failed; nothing is written, but for the answers of
-/// `page` so far. 5: the output failed; a front of the output is written. 6: the folder failed, in `serve`
-/// and `page`. 7: the net, an end of a connection or the start of a thread failed, in `serve` and `join`. 8:
-/// a limit was passed, whose line is written last: of the input, a text, the names, the sources, the
-/// transcript or the passes, of a client's instances, or of the answers of `page`. 9: memory ran out; a front
-/// of the output is written. 10: what the server sent is no answer, in `join`. A cause keeps its status where
-/// its line can't be written.
+/// no command; the usage line is written. 3: the input of `play` or `record` is no script, or that of
+/// `serve` no edits; the line of its first fault is written. 4: the input failed; nothing is written, but
+/// for the answers of `page` so far. 5: the output failed; a front of the output is written. 6: the folder
+/// failed, in `serve` and `page`. 7: the net, an end of a connection or the start of a thread failed, in
+/// `serve` and `join`. 8: a limit was passed, whose line is written last: of the input, a text, the names,
+/// the sources, the transcript or the passes, of a client's instances, or of the answers of `page`. 9:
+/// memory ran out; a front of the output is written. 10: what the server sent is no answer, in `join`. A
+/// cause keeps its status where its line can't be written.
 ///
 /// `fresh_load`: at each place of a script where a client is shown and is up, its lines are those of the
 /// modules that a fresh load of its own roots writes there, and behind them stale edges alone.

@@ -32,7 +32,8 @@ const HOSTED: (&str, &str) = (
 const SERVED: &str = "listening 5173\nsteps 8\nfresh\n/m.js 1\nclient 1\n/m.js 1\n1 loaded\n";
 
 const USAGE: &str =
-    "usage: hmr play | check NAME | make N SEED | serve FOLDER ROOT.. | join PORT [ROOT..] | page FOLDER\n";
+    "usage: hmr play | check NAME | make N SEED | serve FOLDER ROOT.. | join PORT [ROOT..] | page FOLDER \
+     | record | audit\n";
 
 #[test]
 fn commands_write_what_the_rules_say(rt: HostRuntime) -> Result<(), Fail> {

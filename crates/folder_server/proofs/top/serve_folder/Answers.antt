@@ -12,6 +12,11 @@ use Rattle.folder_server.proofs.Serving.{end_as, served_early, served_end, statu
 use Rattle.folder_server.proofs.Works.{on_ok}
 use Rattle.folder_server.proofs.top.serve_folder.Goals as goal
 
+pub returns-in_err-names-clause-wrote : goal.returns-in_err-names-clause-wrote
+returns-in_err-names-clause-wrote g c =
+    let told = err_from_is_err_and c.from_residual.result c.from_residual.ensures.1 in
+    inr (stops_memory c.args.roots.items (g.T.Tree.coming c.args.tree.now) c.from_residual.result (told.1 ∙ ap Err told.2), refl)
+
 pub returns-in_err-listing-clause-wrote : goal.returns-in_err-listing-clause-wrote
 returns-in_err-listing-clause-wrote g c =
     inr (
@@ -19,6 +24,11 @@ returns-in_err-listing-clause-wrote g c =
           c.in_ok-hub.ensures.first c.open_folder.ensures.same c.open_folder.ensures.transcript c.in_err-listing.ensures.cause,
       refl,
     )
+
+pub returns-in_err-hub-2-clause-wrote : goal.returns-in_err-hub-2-clause-wrote
+returns-in_err-hub-2-clause-wrote g c =
+    let told = err_from_is_err_and c.from_residual-in_err-hub-2.result c.from_residual-in_err-hub-2.ensures.1 in
+    inr (stops_memory c.args.roots.items (g.T.Tree.coming c.args.tree.now) c.from_residual-in_err-hub-2.result (told.1 ∙ ap Err told.2), refl)
 
 pub returns-in_err-queue-clause-wrote : goal.returns-in_err-queue-clause-wrote
 returns-in_err-queue-clause-wrote g c =
@@ -49,7 +59,7 @@ returns-in_err-write_all-clause-wrote g c =
     let port = c.in_ok-port.port in
     let text : c.as_bytes.result.now ≡ header port = search rules in
     let all =
-    served_early c.args.roots.items (g.T.Tree.coming c.args.tree.now) c.in_ok-listing.listing (edits_in c.args.script.items) c.args.plan.now.rounds port Unwritten c.from_residual-in_err-write_all.result
+    served_early c.args.plan.now.recorded c.args.roots.items (g.T.Tree.coming c.args.tree.now) c.in_ok-listing.listing (edits_in c.args.script.items) c.args.plan.now.rounds port Unwritten c.from_residual-in_err-write_all.result
     c.in_ok-hub.pass c.open_folder.new.pass (g.K.Sink.written c.args.out.now) (g.K.Sink.written c.write_all.new.sink) (told.1 ∙ ap Err told.2) c.in_ok-hub.ensures.first c.open_folder.ensures.same c.in_ok-listing.ensures.opens
     c.open_folder.ensures.transcript (inl refl) (λ h. h) (subst (WritesFront (g.K.Sink.written c.args.out.now) (g.K.Sink.written c.write_all.new.sink)) text c.write_all.ensures.front) in
     inl (port, c.open_folder.new.pass, c.in_ok-port.ensures.heard, all.0, all.1)
@@ -60,7 +70,7 @@ returns-in_err-left-clause-wrote g c =
     let port = c.in_ok-port.port in
     let text : c.as_bytes.result.now ≡ header port = search rules in
     let all =
-    served_early c.args.roots.items (g.T.Tree.coming c.args.tree.now) c.in_ok-listing.listing (edits_in c.args.script.items) c.args.plan.now.rounds port NoMemory c.from_residual-in_err-left.result
+    served_early c.args.plan.now.recorded c.args.roots.items (g.T.Tree.coming c.args.tree.now) c.in_ok-listing.listing (edits_in c.args.script.items) c.args.plan.now.rounds port NoMemory c.from_residual-in_err-left.result
     c.in_ok-hub.pass c.open_folder.new.pass (g.K.Sink.written c.args.out.now) (g.K.Sink.written c.write_all.new.sink) (told.1 ∙ ap Err (told.2 ∙ c.in_err-left.ensures.memory)) c.in_ok-hub.ensures.first c.open_folder.ensures.same c.in_ok-listing.ensures.opens
     c.open_folder.ensures.transcript (inr refl) (λ h. h) (subst (WritesFront (g.K.Sink.written c.args.out.now) (g.K.Sink.written c.write_all.new.sink)) text c.write_all.ensures.front) in
     inl (port, c.open_folder.new.pass, c.run.ensures.same_asked.1 ∙ c.in_ok-port.ensures.heard, all.0, all.1)
@@ -73,7 +83,8 @@ returns-clause-wrote g c =
     let many = c.args.plan.now.rounds in
     let opened = c.open_folder.new.pass in
     let worked = c.run.new.pass in
-    let last = c.write_end.new.pass in
+    let wound = c.write_end.ensures.reported in
+    let last = wound.pass in
     let left = c.in_ok-left.left in
     let result = c.write_end.result in
     let port = c.in_ok-port.port in
@@ -86,10 +97,10 @@ returns-clause-wrote g c =
       c.run.ensures.same_asked.1 ∙ c.in_ok-port.ensures.heard,
       served_end c.args.roots.items coming listing script many later.0 (job_ends left.gathered) left.ended result c.in_ok-hub.pass opened worked last c.in_ok-hub.ensures.first c.open_folder.ensures.same c.in_ok-listing.ensures.opens
           (subst (λ x. Later x listing script many opened worked later.0 left.ended) c.in_ok-listing.ensures.coming later.1)
-          end c.write_end.ensures.own c.write_end.ensures.transcript
-          (status_cause worked last left.gathered left.ended result end c.in_ok-left.ensures.cause c.write_end.ensures.own c.write_end.ensures.given c.write_end.ensures.full),
-      wrote_report port last result (g.K.Sink.written c.args.out.now) (g.K.Sink.written c.write_all.new.sink) (g.K.Sink.written c.write_end.new.out)
-          (subst (Appends (g.K.Sink.written c.args.out.now) (g.K.Sink.written c.write_all.new.sink)) text c.in_ok-write_all.ensures.done) c.write_end.ensures.reported,
+          end wound.winds.own wound.winds.transcript
+          (status_cause worked last left.gathered left.ended result end c.in_ok-left.ensures.cause wound.winds.own wound.winds.given wound.is_full),
+      wrote_report c.args.plan.now.recorded port last result (g.K.Sink.written c.args.out.now) (g.K.Sink.written c.write_all.new.sink) (g.K.Sink.written c.write_end.new.out)
+          (subst (Appends (g.K.Sink.written c.args.out.now) (g.K.Sink.written c.write_all.new.sink)) text c.in_ok-write_all.ensures.done) wound.reported,
     )
 
 pub returns-clause-fault : goal.returns-clause-fault
