@@ -191,3 +191,30 @@ fn a_full_queue_gives_its_first_job_for_a_mark(rt: HostRuntime) -> Result<(), Fa
     assert_eq!(rt; next, 65);
     Ok(())
 }
+
+#[test]
+fn a_taker_ends_behind_the_last_job(rt: HostRuntime) -> Result<(), Fail> {
+    let alloc = rt.alloc();
+    let (queue, mut putter, mut passes) = JobQueue::new(alloc, 2)?;
+    let queue = Arc::new(alloc, queue)?;
+    let put = put_all(&rt, &queue, &mut putter, jobs_to(alloc, 3)?);
+    assert_eq!(rt; put, 2);
+    assert!(rt; queue.close(&rt, &mut putter).is_none());
+    let Some(mut first) = passes.pop() else {
+        panic!(rt; "there are two passes")
+    };
+    let Some(mut second) = passes.pop() else {
+        panic!(rt; "there are two passes")
+    };
+    let Some(job) = queue.take(&rt, &mut first) else {
+        panic!(rt; "a taker ended before the first job")
+    };
+    assert_eq!(rt; job.ver(), 1);
+    let Some(job) = queue.take(&rt, &mut first) else {
+        panic!(rt; "a taker ended before the last job")
+    };
+    assert_eq!(rt; job.ver(), 2);
+    assert!(rt; queue.take(&rt, &mut second).is_none());
+    assert!(rt; queue.take(&rt, &mut first).is_none());
+    Ok(())
+}
