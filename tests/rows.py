@@ -5,13 +5,14 @@ from typing import NamedTuple
 
 class Run(NamedTuple):
     """A run: the words behind the program's name, its whole input, and the status and the output that it has to have:
-    all of it, or only its end; or the pattern of all of it."""
+    all of it, or only its end; or the pattern of all of it; and perhaps what a message says of it."""
 
     words: list
     text: bytes
     status: int
     output: bytes | re.Pattern
     is_end: bool = False
+    about: str = ""
 
     def is_as_told(self, output):
         """Whether an output is the one that is expected."""

@@ -7,7 +7,8 @@ import re
 
 from rows import Run
 
-USAGE = b"usage: hmr play | check NAME | make N SEED | serve FOLDER ROOT.. | join PORT [ROOT..] | page FOLDER\n"
+USAGE = (b"usage: hmr play | check NAME | make N SEED | serve FOLDER ROOT.. | join PORT [ROOT..] | page FOLDER"
+         b" | record | audit\n")
 SIXTEEN = "/a /b /c /d /e /f /g /h /i /j /k /l /m /n /o /p"
 
 # Words that are no command.
@@ -66,6 +67,21 @@ page
 page . /m.js
 page . --port 80
 page --help
+Record
+record /m.js
+record record
+record --help
+audit /m.js
+audit audit
+audit --help
+play --record
+serve --record
+serve . --record
+serve . /m.js --record --record
+serve . /m.js --record=true
+serve . /m.js --records
+join 80 --record
+page . --record
 """
 
 # The first fault of what `serve --edits` reads: its line and its word, and the input, where `~` stands for LF. Edits are

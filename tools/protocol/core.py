@@ -9,6 +9,10 @@ from .language import Fault
 
 MOST_CLIENTS = 32
 MOST_ROOTS = 16
+MOST_TEXT = 131_072
+MOST_NAMES = 8_192
+MOST_SOURCES = 33_554_432
+LARGEST = 9_007_199_254_740_991
 OUTSTANDING = "outstanding"
 GOOD = "good"
 
@@ -59,6 +63,11 @@ def refused(code, path=None, told=None, kept=None):
     return {"type": "refused", "code": code, "path": path, "told": told, "kept": kept}
 
 
+def size_of(text):
+    """The bytes of a text, which may have bytes that are no UTF-8 in the form of `surrogateescape`."""
+    return len(text.encode("utf-8", "surrogateescape"))
+
+
 def reached(roots, imports_of):
     """The names that imports lead to from the roots, those among them."""
     known, left = set(), list(roots)
@@ -70,6 +79,10 @@ def reached(roots, imports_of):
     return known
 
 
+def listed(names):
+    return ", ".join(sorted(names))
+
+
 def in_view(view, name):
     return view[name].analysis.imports if name in view else []
 
@@ -79,6 +92,10 @@ class Spread:
 
     def __init__(self, view, roots, changed, forced):
         self.view, self.roots, self.changed, self.forced = view, roots, changed, forced
+        self.importers = {}
+        for name, entry in view.items():
+            for imported in entry.analysis.imports:
+                self.importers.setdefault(imported, []).append(name)
 
     def goes_on(self, name):
         """Whether a change of this module is passed to those that import it."""
@@ -89,8 +106,7 @@ class Spread:
         """The modules that a change is passed to."""
         if not self.goes_on(name):
             return []
-        found = [(m, entry.analysis) for m, entry in self.view.items()]
-        return [m for m, analysis in found if name in analysis.imports and name not in analysis.accepted]
+        return [m for m in self.importers.get(name, []) if name not in self.view[m].analysis.accepted]
 
     def ends_badly(self, name):
         declines = name in self.view and self.view[name].analysis.declined
@@ -119,10 +135,10 @@ class Spread:
 
     def pairs(self, replaced):
         """Each boundary with each module that it is told of."""
-        found = []
+        found, replaced = [], set(replaced)
         for m in sorted(self.view):
             analysis = self.view[m].analysis
-            for n in sorted(self.view):
+            for n in sorted(name for name in {m, *analysis.accepted} if name in self.view):
                 own = m == n and n in replaced and analysis.self_accepts
                 named = n in analysis.accepted and m not in replaced and (n in replaced or n in self.forced)
                 if own or named:
@@ -137,6 +153,7 @@ class Core:
         self.roots = roots
         self.analyse = analyse
         self.counted = 0
+        self.source_bytes = 0
         self.current = {}
         self.served = {}
         self.served_no = 0
@@ -147,40 +164,59 @@ class Core:
 
     # Sources.
 
-    def edit(self, name, text):
-        """An edit, a removal where the text is None; the version of its job, if it has one."""
-        self.steps += 1
+    def edit_answer(self, name, text):
+        """What an edit is answered, as `job 3`, a removal where the text is None."""
         old = self.current.get(name)
         if text is None:
-            if old:
-                self.counted += 1
+            answer = "removed" if old else "same"
+        elif size_of(text) > MOST_TEXT:
+            answer = "text-too-long"
+        elif old and old.text == text:
+            answer = "same"
+        elif not old and len(self.current) >= MOST_NAMES:
+            answer = "too-many-names"
+        elif self.source_bytes - (size_of(old.text) if old else 0) + size_of(text) > MOST_SOURCES:
+            answer = "source-total"
+        else:
+            answer = "job"
+        if answer not in ("job", "removed"):
+            return answer
+        return f"{answer} {self.counted + 1}" if self.counted < LARGEST else "numbers-spent"
+
+    def edit(self, name, text):
+        """An edit, a removal where the text is None; what it is answered."""
+        self.steps += 1
+        answer = self.edit_answer(name, text)
+        if answer.startswith(("job ", "removed ")):
+            self.counted += 1
+            old = self.current.pop(name, None)
+            self.source_bytes -= size_of(old.text) if old else 0
+            if text is None:
                 self.served_no += 1
-                del self.current[name]
                 self.served.pop(name, None)
                 self.drop_notices(name)
-            return None
-        if old and old.text == text:
-            return None
-        self.counted += 1
-        self.current[name] = Source(self.counted, text)
-        return self.counted
+            else:
+                self.source_bytes += size_of(text)
+                self.current[name] = Source(self.counted, text)
+        return answer
 
     def settle(self, name, text, version):
-        """The result of a job."""
+        """The result of a job; what it is answered."""
         self.steps += 1
         source = self.current.get(name)
         if not source or (source.version, source.text, source.verdict) != (version, text, OUTSTANDING):
-            return
+            return "late"
         result = self.analyse(name, text)
         if isinstance(result, Fault):
             source.verdict = result
             for client in self.clients.values():
                 client.notices[name] = result
-        else:
-            source.verdict = GOOD
-            self.served[name] = Entry(version, text, result)
-            self.served_no += 1
-            self.drop_notices(name)
+            return f"refused {result.line}:{result.column} {result.kind}"
+        source.verdict = GOOD
+        self.served[name] = Entry(version, text, result)
+        self.served_no += 1
+        self.drop_notices(name)
+        return "served"
 
     def drop_notices(self, name):
         for client in self.clients.values():
@@ -212,13 +248,38 @@ class Core:
         if not client:
             return refused(1)
         answer = getattr(self, message["type"])(number, client, message)
-        self.pages[number] = sorted((name, entry.version) for name, entry in client.view.items())
+        if message["type"] in ("ask", "applied"):
+            self.pages[number] = self.table(number)
         return answer
 
     def changed(self, client):
         """The modules of a page that aren't as they are served."""
         is_served = lambda name, entry: name in self.served and self.served[name].version == entry.version
         return [name for name, entry in client.view.items() if not is_served(name, entry)]
+
+    def dropped(self, client):
+        """The modules of a page that no imports from a root reach."""
+        return sorted(set(client.view) - reached(client.roots, lambda name: in_view(client.view, name)))
+
+    def table(self, number):
+        """The modules of a client's page with their versions, none for a client that isn't connected."""
+        client = self.clients.get(number)
+        return sorted((name, entry.version) for name, entry in client.view.items()) if client else []
+
+    def rest_faults(self, number):
+        """Why a client isn't at rest, in words; nothing where it is."""
+        client = self.clients.get(number)
+        if not client:
+            return ["it isn't connected"]
+        told = [
+            (not client.loaded, "its page isn't loaded yet"),
+            (client.loaded and client.plan, "an update or a reload is under way"),
+            (self.changed(client), f"{listed(self.changed(client))} of its page isn't as it is served"),
+            (client.forced, f"{listed(client.forced)} was invalidated"),
+            (self.dropped(client), f"{listed(self.dropped(client))} is to be pruned"),
+            (client.notices, f"a fault of {listed(client.notices)} waits to be told"),
+        ]
+        return [fault for holds, fault in told if holds]
 
     def ask(self, number, client, _):
         if client.plan:
@@ -230,8 +291,7 @@ class Core:
         is_held = client.held_at == self.served_no
         if not client.loaded:
             return {"type": "idle"} if is_held else self.begin_load(number, client)
-        met = reached(client.roots, lambda name: in_view(client.view, name))
-        dropped = sorted(set(client.view) - met)
+        dropped = self.dropped(client)
         if dropped:
             for name in dropped:
                 del client.view[name]

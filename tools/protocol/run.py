@@ -47,9 +47,8 @@ class Run:
 
     def change(self, name, text):
         """An edit and its result."""
-        version = self.core.edit(name, text)
-        if version:
-            self.core.settle(name, text, version)
+        if self.core.edit(name, text).startswith("job "):
+            self.core.settle(name, text, self.core.counted)
 
     def start(self):
         words = [self.program, "serve", str(self.folder), *self.roots, "--outside", str(self.count), "--port", "0"]
