@@ -60,4 +60,4 @@ function valuesIn(rows) {
   return values;
 }
 
-module.exports = { REPORTS, compareShow, compareFates, compareFresh, valuesIn };
+module.exports = { REPORTS, difference, compareShow, compareFates, compareFresh, valuesIn };

@@ -421,4 +421,4 @@ function follow(script, output) {
   return { items, states, texts: server.texts, differences };
 }
 
-module.exports = { follow };
+module.exports = { follow, Player };

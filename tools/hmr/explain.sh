@@ -8,6 +8,7 @@ TEXT_BYTES=131072
 SOURCE_NAMES=8192
 SOURCE_BYTES=33554432
 SCRIPT_BYTES=16777216
+RECORD_BYTES=268435456
 
 # nearest WORD CANDIDATE..: the candidate that fewest edits of a letter lead to, if three or fewer do.
 nearest() {
@@ -198,15 +199,19 @@ limit_cause() {
         echo "the last line of the output names the limit that was passed, as that on the answers of a connection: connect again"
       fi
       ;;
-    play | check)
+    play | record | check)
       most=$SCRIPT_BYTES
-      [ "$command" = play ] || most=$TEXT_BYTES
+      [ "$command" != check ] || most=$TEXT_BYTES
       size=$(input_size)
       if [ -n "$size" ] && [ "$size" -gt "$most" ]; then
         echo "the input, $(readlink /proc/self/fd/0), has $size bytes, and $command reads at most $most: shorten it"
       else
         echo "the last line of the output names the limit that was passed, one of docs/LIMITS.md: make the input smaller"
       fi
+      ;;
+    audit)
+      size=$(input_size)
+      echo "a record has at most $RECORD_BYTES bytes, and the input has ${size:-more}: audit the record of a shorter run"
       ;;
     *) echo "a client makes at most 20000 instances, and that was passed, as the last line of the output says: $(
       [ "$command" = make ] && echo 'make a smaller page' || echo 'join again')" ;;
