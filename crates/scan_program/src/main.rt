@@ -1,11 +1,13 @@
 //! Prints the outlines of JavaScript modules, for people who want to see why something isn't followed.
 //!
 //! Its words name files; each has its name as a heading, and then its lines. Without words the standard input
-//! is read, and has no heading. Stands on `es_scan`. Keeps: every line begins with the line and column of
-//! what it tells. Knows nothing of what specifiers mean.
+//! is read, and has no heading. By a word `--skeleton=PATH` the skeleton of the standard input is printed,
+//! as that of the file at this path of its folder. Stands on `es_scan` and, for skeletons, on `skeletons`.
+//! Keeps: every line of an outline begins with the line and column of what it tells.
 #![tactic(auto)]
 
 mod lines;
+mod skeletons_of_files;
 
 use std::io::{self, Read, Write};
 use std::{env, fs};
@@ -16,6 +18,12 @@ fn main(rt: HostRuntime) -> io::Result<()> {
     let mut is_named = false;
     for name in env::args(&rt)?.skip(1) {
         is_named = true;
+        if let Some(path) = name.as_str().strip_prefix("--skeleton=") {
+            let mut text = Vec::new(alloc);
+            rt.stdin().read_to_end(&mut text)?;
+            skeletons_of_files::write_skeleton(alloc, &mut out, path, &text)?;
+            continue;
+        }
         let text = fs::read(&rt, name.as_str())?;
         writeln!(out, "{name}")?;
         lines::write_outline(alloc, &mut out, &text)?;

@@ -1,0 +1,203 @@
+// The desk of a page: asks wait, and what is shown of the page is told.
+ghost use Rattle.std.specs.Prelude.{◌≡◌, ◌≤◌, IfOk, None, false, refl, ℕ, true};
+ghost use Rattle.std.proofs.Common.{◌∙◌};
+ghost use Rattle.std.specs.Arc.{arc_value};
+ghost use Rattle.hmr_types.specs.declared.limits.TheConstants.{MESSAGE_BYTES};
+ghost use Rattle.update_msgs.specs.Desk.{bytes_of};
+ghost use Rattle.update_msgs.specs.Writable.{IsFormat, IsWritable};
+ghost use Rattle.hmr_hub.specs.Passes.{IsPassOf, seen_of};
+ghost use Rattle.hub_moves.specs.Fullness.{IsNearlyFull};
+
+use crate::bell::Bell;
+use crate::exchange::{is_ask, is_change, is_idle};
+use crate::news_board::NewsBoard;
+use hmr_hub::{Hub, Pass};
+use hmr_types::ClientId;
+use hub_desks::HubDesk;
+use live_lines::{Asked, News, PageLog, PageNews};
+use std::alloc::Global;
+use std::sync::{Arc, Wait};
+use update_msgs::{ClientMsg, Desk, HubStop, ServerMsg};
+
+/// The desk of one page: a desk of the hub, the bell that asks wait at, and where news go. It has what is
+/// known of the page.
+#[derive(Drop)]
+pub struct LiveDesk<R: Drop> {
+    rt: R,
+    alloc: Global,
+    desk: HubDesk<R>,
+    bell: Arc<Bell, Global>,
+    news: Arc<NewsBoard, Global>,
+    log: PageLog,
+}
+
+impl<R: Copy + Drop> LiveDesk<R> {
+    /// A desk without a client. It takes no memory.
+    pub fn new(
+        rt: R,
+        alloc: Global,
+        hub: Arc<Hub, Global>,
+        pass: Pass,
+        bell: Arc<Bell, Global>,
+        news: Arc<NewsBoard, Global>,
+    ) -> Self
+        requires of { IsPassOf (arc_value hub) pass }
+        ensures hub { result.desk.hub ≡ hub }
+        ensures pass { result.desk.pass ≡ pass }
+        ensures client { result.desk.client ≡ 0 }
+        ensures full { result.desk.full ≡ false }
+    {
+        LiveDesk {
+            rt,
+            alloc,
+            desk: HubDesk::new(rt, hub, pass),
+            bell,
+            news,
+            log: PageLog::new(alloc),
+        }
+    }
+}
+
+impl<R: Drop> LiveDesk<R> {
+    /// Whether the hub answered that its transcript is full. It takes no memory.
+    pub fn is_full(&self) -> bool
+        ensures { result ≡ self.now.desk.full }
+    {
+        self.desk.is_full()
+    }
+
+    /// The pass of the desk. It takes no memory.
+    pub fn into_pass(self) -> Pass
+        ensures pass { result ≡ self.desk.pass }
+        ensures of { IsPassOf (arc_value self.desk.hub) result }
+        ensures near_full { self.desk.full ≡ true → IsNearlyFull (seen_of result) }
+    {
+        let LiveDesk {
+            rt: _,
+            alloc: _,
+            desk,
+            bell: _,
+            news: _,
+            log: _,
+        } = self;
+        desk.into_pass()
+    }
+}
+
+impl<R: Wait + Drop> LiveDesk<R> {
+    ghost use Rattle.hub_desks.specs.Desks.{Left, SameDesk};
+    ghost use Rattle.live_desk.specs.Waiting.{Answered, Asked as IsAsked};
+
+    /// Answers a message whose names and texts have at most 16,777,216 bytes together, and tells what the
+    /// exchange shows of the page. It waits.
+    ///
+    /// An ask to which there is something to say is dealt once. One to which there is nothing waits until
+    /// the bell rings, or for 25 seconds, and is dealt again. Every other message is dealt once; the bell is
+    /// rung where others may then have something to do. Refusals are those of the hub's desk.
+    pub fn deal(&mut self, msg: ClientMsg) -> Result<ServerMsg, HubStop>
+        requires size { bytes_of msg ≤ MESSAGE_BYTES }
+        ensures answered { Answered msg self.old.desk self.new.desk result }
+        ensures written { IfOk result (λ m. (format : ℕ) → IsFormat format → IsWritable format m) }
+    {
+        let asked = Asked::of(&msg);
+        let answer = self.answer_to(msg)?;
+        if let Ok(asked) = asked {
+            self.tell(asked, &answer);
+        }
+        Ok(answer)
+    }
+
+    /// Tells the hub that the desk's client is gone, where there is one, for a session that ended otherwise
+    /// than by an answered bye, and tells it as news. It waits.
+    #[tactic(auto, using(crate::proofs::Waiting::left_same))]
+    pub fn leave(&mut self)
+        ensures left { Left self.old.desk self.new.desk }
+        ensures stays { SameDesk self.old.desk self.new.desk }
+    {
+        let client = self.desk.client();
+        self.desk.leave();
+        self.tell_gone(client);
+    }
+
+    // Tells that the page of this client is gone, where there is one.
+    fn tell_gone(&self, client: ClientId) {
+        if client != 0 {
+            self.tell_of(client, PageNews::Closed);
+            self.bell.ring();
+        }
+    }
+
+    // Answers a message.
+    #[tactic(auto, using(crate::proofs::Waiting::answered_ask, crate::proofs::Waiting::answered_once))]
+    fn answer_to(&mut self, msg: ClientMsg) -> Result<ServerMsg, HubStop>
+        requires size { bytes_of msg ≤ MESSAGE_BYTES }
+        ensures answered { Answered msg self.old.desk self.new.desk result }
+        ensures written { IfOk result (λ m. (format : ℕ) → IsFormat format → IsWritable format m) }
+    {
+        if is_ask(&msg) {
+            return self.ask();
+        }
+        let rings = is_change(&msg);
+        let answer = self.desk.deal(msg);
+        self.ring_if(rings);
+        answer
+    }
+
+    // Rings, where others may have something to do.
+    fn ring_if(&self, rings: bool) {
+        if rings {
+            self.bell.ring();
+        }
+    }
+
+    // Answers an ask at once, where there is something to say, and else when it was waited for.
+    #[tactic(auto, using(crate::proofs::Waiting::asked_once, crate::proofs::Waiting::asked_again))]
+    fn ask(&mut self) -> Result<ServerMsg, HubStop>
+        ensures asked { IsAsked self.old.desk self.new.desk result }
+        ensures written { IfOk result (λ m. (format : ℕ) → IsFormat format → IsWritable format m) }
+    {
+        let seen = self.bell.count();
+        let first = self.desk.deal(ClientMsg::Ask)?;
+        if !is_idle(&first) {
+            return Ok(first);
+        }
+        self.bell.wait(&self.rt, seen);
+        self.desk.deal(ClientMsg::Ask)
+    }
+
+    // Tells what an exchange shows of the page. Where memory runs out, it isn't told.
+    fn tell(&mut self, asked: Asked, answer: &ServerMsg)
+        ensures desk { self.new.desk ≡ self.old.desk }
+    {
+        let before = self.log.client();
+        let news = self.log.answered(self.alloc, asked, answer);
+        let now = self.log.client();
+        if let Ok(Some(news)) = news {
+            self.tell_of(if now == 0 { before } else { now }, news);
+        }
+    }
+
+    // Tells something of the page of this client.
+    fn tell_of(&self, client: ClientId, news: PageNews) {
+        self.news.tell(&self.rt, News::Page { client, news });
+    }
+}
+
+impl<R: Wait + Drop> Desk for LiveDesk<R> {
+    ghost use Rattle.live_desk.specs.Desks.{SameLive, is_full};
+
+    ghost full = { is_full };
+
+    ghost told = { λ desk. None };
+
+    ghost stays = { SameLive };
+
+    #[tactic(auto, using(crate::proofs::Waiting::answered_same, crate::proofs::Waiting::answered_full))]
+    fn answer(&mut self, msg: ClientMsg) -> Result<ServerMsg, HubStop> {
+        self.deal(msg)
+    }
+
+    ghost same = { λ desk. record { hub = refl; number = refl } };
+
+    ghost then = { λ desk next last p q. record { hub = q.hub ∙ p.hub; number = q.number ∙ p.number } };
+}

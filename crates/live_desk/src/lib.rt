@@ -1,0 +1,23 @@
+//! The desk of a page that stays open, and the board of a worker whose results pages wait for.
+//!
+//! A [`LiveDesk`] stands round a desk of the hub: an ask to which there is nothing to say waits until a
+//! [`Bell`] rings, or for 25 seconds, and is then dealt again. What each exchange shows of the page goes to a
+//! [`NewsBoard`], from which one thread takes it. A [`LiveBoard`] stands round a board of the hub, and rings
+//! for each result.
+//!
+//! Stands on `hub_desks` for desks and boards, and on `live_lines` for what an exchange shows. Keeps: each
+//! answer is one that the hub's desk dealt, the last where an ask was dealt twice, and the first of the two
+//! was idle; the pass and the hub are those of the desk and the board within. What is told is lost for want
+//! of memory, and never an answer. Knows nothing of links, of folders or of how news are written.
+#![tactic(auto)]
+
+mod bell;
+mod board;
+mod desk;
+mod exchange;
+mod news_board;
+
+pub use bell::Bell;
+pub use board::LiveBoard;
+pub use desk::LiveDesk;
+pub use news_board::NewsBoard;

@@ -1,0 +1,21 @@
+//! The modules of a folder as they change while a server runs.
+//!
+//! A [`Watched`] is looked at again and again, and each [`Look`] has what changed since the one before: the
+//! modules with their new texts, the modules that are gone, and the files that were passed over, with the
+//! cause. One file that can't be had doesn't keep the others. [`FolderMarks`] looks at a folder of the file
+//! system, [`ToldLooks`] gives looks that were made before.
+//!
+//! Stands on `hmr_types` for names and limits and on `hmr_base` for reading files. Keeps: each text has at
+//! most 131,072 bytes. Knows nothing of edits, of hubs or of pages.
+#![tactic(auto)]
+
+mod folder_marks;
+mod look;
+mod marks;
+mod told_looks;
+mod watched;
+
+pub use folder_marks::FolderMarks;
+pub use look::{Change, Look, PassedOver, SkipCause};
+pub use told_looks::ToldLooks;
+pub use watched::Watched;

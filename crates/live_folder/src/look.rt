@@ -1,0 +1,88 @@
+// What a look at a folder shows.
+ghost use Rattle.std.specs.Prelude.{◌≡◌, ◌≤◌, None, Some, length, true};
+ghost use Rattle.hmr_types.specs.ModName.{is_name};
+ghost use Rattle.std.specs.Option.{ForSome};
+ghost use Rattle.live_folder.specs.Texts.{IsShort};
+
+use hmr_types::{ModName, Text};
+use std::alloc::Global;
+
+/// A module that has a new text, or that is gone.
+#[derive(Drop)]
+pub struct Change {
+    name: ModName,
+    text: Option<Vec<u8>>,
+    ghost short: { ForSome text IsShort },
+}
+
+impl Change {
+    /// A module with a new text of at most 131,072 bytes. It takes no memory.
+    pub fn saved(name: ModName, text: Vec<u8>) -> Change
+        requires short { IsShort text }
+        ensures { (result.name ≡ name) × (result.text ≡ Some text) }
+    {
+        Change {
+            name,
+            text: Some(text),
+        }
+    }
+
+    /// A module that is gone. It takes no memory.
+    pub fn removed(name: ModName) -> Change
+        ensures { (result.name ≡ name) × (result.text ≡ None) }
+    {
+        Change { name, text: None }
+    }
+
+    /// The name, and the new text; None where the module is gone. It takes no memory.
+    pub fn into_parts(self) -> (ModName, Option<Vec<u8>>)
+        ensures name { result.0 ≡ self.name }
+        ensures text { result.1 ≡ self.text }
+        ensures is_name { is_name result.0 ≡ true }
+        ensures short { ForSome result.1 IsShort }
+    {
+        let Change { name, text } = self;
+        let _ = name.as_bytes();
+        (name, text)
+    }
+}
+
+/// Why a file was passed over.
+#[derive(Clone, Copy, Debug, PartialEq, Eq)]
+pub enum SkipCause {
+    /// It has more than 131,072 bytes.
+    TextTooLong,
+    /// No module can have its name.
+    BadName,
+    /// It couldn't be read.
+    Unreadable,
+}
+
+/// A file that was passed over: its path from the folder on, and why.
+#[derive(Debug, Drop)]
+pub struct PassedOver {
+    pub path: Text,
+    pub cause: SkipCause,
+}
+
+/// What changed since the look before.
+#[derive(Drop)]
+pub struct Look {
+    /// The modules that have a new text or are gone, in the order of their names, first those that have one.
+    pub changes: Vec<Change>,
+    /// The files that changed and were passed over. What they were before stays.
+    pub passed: Vec<PassedOver>,
+    /// Whether the folder couldn't be looked at. Nothing is then known to have changed.
+    pub away: bool,
+}
+
+impl Look {
+    /// A look that shows no change. It takes no memory.
+    pub fn of_nothing(alloc: Global, away: bool) -> Look {
+        Look {
+            changes: Vec::new(alloc),
+            passed: Vec::new(alloc),
+            away,
+        }
+    }
+}

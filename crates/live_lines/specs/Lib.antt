@@ -1,0 +1,9 @@
+pub mod Asking
+pub mod Pages
+pub mod Applying
+pub mod Answering
+pub mod Texts
+pub mod FaultLines
+pub mod PageLines
+pub mod Lines
+pub mod Objects

@@ -1,0 +1,22 @@
+// The help of `hmr dev`.
+
+/// The help.
+pub fn help_text() -> &'static str {
+    r#"usage: hmr dev FOLDER [ROOT..] [--port N] [--strict-port] [--workers N] [--json] [--record FILE]
+
+Serves the pages and modules of a folder to browsers on this machine until it is told to end, and updates
+each open page at each save.
+
+  FOLDER          the folder; a file that is no module is served as it is
+  ROOT..          the modules at which a page begins that names none itself; /main.js where none is named
+  --port N        the port, or the next free one; 5173 where it is left out, any where it is 0
+  --strict-port   that port and no other
+  --workers N     how many threads read changed texts, from 1 to 16; 2 where it is left out
+  --json          tells the same as one JSON object on each line
+  --record FILE   writes the record of the server's transcript at the end, for hmr audit
+
+At the terminal, with Enter: q ends it, s shows the stale bindings of each page, h shows the keys.
+Status: 0 after q, 2 wrong words, 5 the output or the record can't be written, 6 no such folder, 7 no port,
+9 no memory, 1 any other end.
+"#
+}

@@ -1,0 +1,10 @@
+pub mod Analyses
+pub mod Columns
+pub mod Fits
+pub mod Gathering
+pub mod Names
+pub mod Outcomes
+pub mod Refused
+pub mod Sayable
+pub mod Sets
+pub mod WrongBytes

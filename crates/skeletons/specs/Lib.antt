@@ -1,0 +1,4 @@
+pub mod Following
+pub mod Refusing
+pub mod Skeletons
+pub mod Texts

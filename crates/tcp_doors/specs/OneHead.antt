@@ -1,0 +1,11 @@
+-- What comes of a stream before an upgrade.
+use Rattle.std.specs.Prelude.{⊤}
+use Rattle.doors.specs.Coming.{IsHead}
+use Rattle.doors.specs.declared.visitor.Coming.{Coming}
+use Rattle.doors.specs.declared.visitor.Coming.TheVariants as coming
+
+-- what came is one head, where it is a head
+abbrev pub IsOneHead : Coming → Type 0
+IsOneHead (coming.Head head) = IsHead head.items
+IsOneHead coming.TooLong = ⊤
+IsOneHead coming.Gone = ⊤

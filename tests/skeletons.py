@@ -1,0 +1,76 @@
+"""What the skeletons of texts of JavaScript are: `tests/run SCAN_PROGRAM skeletons`.
+
+Each row was worked out by hand: by what browsers read of a specifier as a URL, by what `import.meta.hot` means, and by the
+rules of names in docs/JAVASCRIPT.md. A row of TAKEN has a text and what its skeleton says behind the stamp, as the file
+`/app/main.js`: modules that are imported, then `| self`, `| accept ..` and `| decline`, each in the order of a skeleton. A
+row of REFUSED has a text and its whole skeleton. A row of NAMES has the path of a file, and what `import "./a b.js"` of it
+imports.
+"""
+from rows import Run, encoded
+
+TAKEN = [
+    # where specifiers lead
+    ("import './a.js'", "/app/a.js"),
+    ("import a from '../lib/a.js'; export * from '/b.js'", "/lib/a.js /b.js"),
+    ("import './x/../a.js'; import './././b.js'", "/app/a.js /app/b.js"),
+    ("import '../../../a.js'", "/a.js"),
+    ("import './a.js'; import \"./a.js\"; export { b } from '/app/a.js'", "/app/a.js"),
+    ("import React from 'react'; import 'https://a.b/c.js'; import '//a.b/c.js'; import 'data:text/javascript,1'", ""),
+    ("import './a.js?raw'; import './b.js#x'; import './c.js'", "/app/c.js"),
+    ("import './'; import '..'; import './lib/'; import './lib/.'; import './lib/..'", ""),
+    ("import './a//b.js'; import './a//../b.js'", "/app/a/b.js"),
+    ("import './a%20b.js'; import './a b.js'; import './%61.js'", "/app/a.-20b.js /app/a.js"),
+    ("import '/lib/@scope/x.js'; import './\u00e9.js'; import './.-x.js'", "/lib/.-40scope/x.js /app/.-C3.-A9.js /app/.-2E-x.js"),
+    ("import './%2e%2e/a.js'; import './a%2Fb.js'", "/a.js /app/a/b.js"),
+    ("import '.\\\\a.js'; import './b.js '", ""),
+    # which of them are imported
+    ("const a = () => import('./a.js'); import './b.js'; import(c)", "/app/b.js /app/a.js"),
+    ("import data from './data.json' with { type: 'json' }", "/app/data.json"),
+    ("// import './a.js'\n`import './b.js'`; /import '.c.js'/", ""),
+    # accepts and declines
+    ("import.meta.hot.accept()", "| self"),
+    ("import.meta.hot?.accept((m) => {})", "| self"),
+    ("import './a.js'; import './b.js'; import.meta.hot.accept(['./b.js', './a.js'], f)", "/app/a.js /app/b.js | accept /app/a.js /app/b.js"),
+    ("import './a.js'; import.meta.hot.accept('./a.js', f); import.meta.hot.accept('./b.js', f)", "/app/a.js | accept /app/a.js"),
+    ("import './a.js'; import.meta.hot.accept('/app/a.js')", "/app/a.js | accept /app/a.js"),
+    ("import './a.js'; import.meta.hot.accept(deps, f)", "/app/a.js"),
+    ("import.meta.hot.decline()", "| decline"),
+    ("import './a.js'; import.meta.hot.accept('./a.js'); import.meta.hot.accept(); import.meta.hot.decline()", "/app/a.js | self | accept /app/a.js | decline"),
+    ("export const a = 1; export default function f() {}", ""),
+]
+
+REFUSED = [
+    ("'abc", '"1'),
+    ("a\n  `abc", "\n  `1"),
+    ("\n\nx = /ab", "\n\n    `1"),
+    ("x\n/* y", "\n/*1"),
+    ("f(\n", " )//1"),
+    ("a\n}", "\n)//1"),
+    (" " * 70000 + "}", " " * 64999 + ")//1"),
+]
+
+NAMES = [
+    ("/a.js", "/a.-20b.js"),
+    ("/lib/@scope/my file.js", "/lib/.-40scope/a.-20b.js"),
+    ("/\u00fc/x", "/.-C3.-BC/a.-20b.js"),
+]
+
+
+def skeleton(said):
+    """The text of a skeleton that says this."""
+    modules, *calls = [part.split() for part in said.split("|")]
+    lines = ["const $$stamp = 1;"] + [f'import "{name}";' for name in modules]
+    for word, *names in calls:
+        listed = ", ".join(f'"{name}"' for name in names)
+        lines.append({"self": "import.meta.hot.accept();", "decline": "import.meta.hot.decline();"}.get(word, f"import.meta.hot.accept([{listed}]);"))
+    return "".join(line + "\n" for line in lines)
+
+
+def runs():
+    for text, said in TAKEN:
+        yield Run(["--skeleton=/app/main.js"], encoded(text), 0, encoded(skeleton(said)))
+    for text, made in REFUSED:
+        yield Run(["--skeleton=/app/main.js"], encoded(text), 0, encoded(made))
+    for path, name in NAMES:
+        yield Run([f"--skeleton={path}"], b"import './a b.js'", 0, encoded(skeleton(name)))
+    yield Run(["--skeleton=a.js"], b"", 0, b"no file of a folder has this path\n")
