@@ -4,9 +4,20 @@ use Rattle.std.specs.Prelude.{take}
 use Rattle.std.specs.Prelude.{OnOk, Result, Ok, Err, fold}
 use Rattle.std.proofs.lemmas.List.{length-map, map-append, take-map}
 use Rattle.std.proofs.Math.Seq.{take-append_seam}
+use Rattle.module_semantics.specs.Analysis.{transformed}
+use Rattle.module_semantics.specs.ModuleText.{parsing}
 use Rattle.core_model.specs.Core.{Event}
-use Rattle.core_model.specs.Transcript.{Recorded, event_bytes, events_of, most_bytes, most_entries, transcript_bytes}
+use Rattle.core_model.specs.Names.{Name}
+use Rattle.core_model.specs.Transcript.{IsLegal, Recorded, event_bytes, events_of, most_bytes, most_entries, transcript_bytes}
+use Rattle.hmr_hub.specs.declared.pass.Pass.{Pass}
+use Rattle.hmr_hub.specs.Passes.{HasTranscript, roots_of, seen_of}
+use Rattle.record_text.specs.Texts.{record_text}
 use Rattle.record_laws.specs.Bounds.{entry_bytes, past_bytes}
+use Rattle.record_laws.specs.Course.{verdict_of}
+use Rattle.record_laws.specs.Sound.{rests_behind}
+use Rattle.record_laws.specs.Written.{lines_told, record_told}
+use Rattle.record_laws.specs.declared.verdict.Verdict.TheVariants.{Yes}
+use Rattle.folder_server.specs.Serving.{IsConfirmed}
 
 -- as many events as there are entries are those of the entries, where more came behind
 pub first_events : {X : Type 0} (f : X → Event) (told : List X) (before rest after : List Recorded)
@@ -46,3 +57,13 @@ pub put_behind : {X E : Type 0} (r : Result X E) (text mid out head body whole :
 put_behind (Ok x) text mid out head body whole first wrote is =
     wrote ∙ (ap (λ t. t ++ body) first ∙ (append_assoc text head body ∙ ap (λ t. text ++ (head ++ t)) is))
 put_behind (Err e) text mid out head body whole first wrote is = wrote
+
+-- the record of what a pass has seen is confirmed, where it is so on its roots
+pub confirmed_of : {X E : Type 0} (r : Result X E) (roots : List Name) (p : Pass) → HasTranscript p → roots_of p ≡ roots
+    → (IsLegal (transformed parsing) roots (seen_of p)
+    → verdict_of (record_text (record_told roots (events_of (seen_of p)))) ≡ Yes (length (seen_of p)) (rests_behind 0 (lines_told roots [] (events_of (seen_of p)))))
+    → OnOk r (IsConfirmed p)
+confirmed_of (Ok x) roots p transcript same h =
+    let yes = h (subst (λ rs. IsLegal (transformed parsing) rs (seen_of p)) same transcript.legal) in
+    subst (λ rs. verdict_of (record_text (record_told rs (events_of (seen_of p)))) ≡ Yes (length (seen_of p)) (rests_behind 0 (lines_told rs [] (events_of (seen_of p))))) (sym same) yes
+confirmed_of (Err e) roots p transcript same h = tt

@@ -48,7 +48,7 @@ use Rattle.folder_server.specs.Causes.{IsCause, IsEarlyEnd, IsFirstCause, IsWork
 use Rattle.folder_server.specs.Openings.{Opens}
 use Rattle.folder_server.specs.Rounds.{Files}
 use Rattle.folder_server.specs.Running.{Finds, Later}
-use Rattle.folder_server.specs.Serving.{End, EndsBy, EndsReported, HasCause, IsReported, JobEnds, Reported, Served, StopsEarly, WindsUp, WroteEarly, WroteReport, Wrote, header, job_ends, record_part, report_with, status_after}
+use Rattle.folder_server.specs.Serving.{End, EndsBy, EndsReported, HasCause, IsConfirmedPart, IsReported, JobEnds, Reported, Served, StopsEarly, WindsUp, WroteEarly, WroteReport, Wrote, header, job_ends, record_part, report_with, status_after}
 use Rattle.folder_server.specs.Stops.{last_text, stop_outside}
 use Rattle.folder_server.proofs.Causes.{Passes, err_is, first_written, rose_later, work_cause, work_written}
 use Rattle.folder_server.proofs.Makings.{makes_nothing}
@@ -238,20 +238,20 @@ report_is asked p q logs lines text m is all =
     (ap report_text all ∙ ap (λ roots. report_text (report_of roots (seen_of q) ++ map Line (flat_map log_lines logs))) (sym m.roots))
 
 pub reported_all : (asked : Bool) (q : Pass) (logs : List Log) (text : List ℕ) (ended : End) (old new : Option (List ℕ))
-    → text ≡ report_with asked q logs → Appends old new text → Reported asked q ended old new
-reported_all asked q logs text ended old new is w =
+    → text ≡ report_with asked q logs → IsConfirmedPart asked q → Appends old new text → Reported asked q ended old new
+reported_all asked q logs text ended old new is said w =
     let whole = subst (Appends old new) is w in
-    record { logs = logs; front = front_all old new (report_with asked q logs) whole; whole = λ _. whole }
+    record { logs = logs; front = front_all old new (report_with asked q logs) whole; whole = λ _. whole; confirmed = λ _. said }
 
 pub reported_cut : (asked : Bool) (q : Pass) (logs : List Log) (text : List ℕ) (r : End) (old new : Option (List ℕ))
     → r ≡ Err Unwritten → text ≡ report_with asked q logs → WritesFront old new text → Reported asked q r old new
 reported_cut asked q logs text r old new e is w =
     subst (λ x. Reported asked q x old new) (sym e)
-    (record { logs = logs; front = subst (WritesFront old new) is w; whole = λ h. absurd h })
+    (record { logs = logs; front = subst (WritesFront old new) is w; whole = λ h. absurd h; confirmed = λ h. absurd h })
 
 -- nothing of the report was written
 pub reported_none : (asked : Bool) (p : Pass) (old : Option (List ℕ)) → Reported asked p (Err NoMemory) old old
-reported_none asked p old = record { logs = []; front = front_none old (report_with asked p []); whole = λ h. absurd h }
+reported_none asked p old = record { logs = []; front = front_none old (report_with asked p []); whole = λ h. absurd h; confirmed = λ h. absurd h }
 
 pub reported_memory : (asked : Bool) (p : Pass) (r : End) (old : Option (List ℕ)) → r ≡ Err NoMemory → Reported asked p r old old
 reported_memory asked p r old e = subst (λ x. Reported asked p x old old) (sym e) (reported_none asked p old)
@@ -279,14 +279,14 @@ ends_cut asked hub p q full logs text r old new winds is_full e is w =
     record { pass = q; winds = winds; is_full = λ _. is_full; reported = reported_cut asked q logs text r old new e is w }
 
 pub ends_all : (asked : Bool) (hub : Hub) (p q : Pass) (full : Bool) (logs : List Log) (text : List ℕ) (ended : End) (old new : Option (List ℕ))
-    → WindsUp hub p q → (full ≡ true → IsNearlyFull (seen_of q)) → text ≡ report_with asked q logs → Appends old new text
+    → WindsUp hub p q → (full ≡ true → IsNearlyFull (seen_of q)) → text ≡ report_with asked q logs → IsConfirmedPart asked q → Appends old new text
     → EndsReported asked hub p full ended old new
-ends_all asked hub p q full logs text ended old new winds is_full is w =
-    record { pass = q; winds = winds; is_full = λ _. is_full; reported = reported_all asked q logs text ended old new is w }
+ends_all asked hub p q full logs text ended old new winds is_full is said w =
+    record { pass = q; winds = winds; is_full = λ _. is_full; reported = reported_all asked q logs text ended old new is said w }
 
 -- the line of the port was written, or a front of it
 pub wrote_header : (asked : Bool) (port : ℕ) (p : Pass) (stop : ServeStop) (old new : Option (List ℕ)) → WritesFront old new (header port) → ¬ IsReported (Err stop) → WroteReport asked port p (Err stop) old new
-wrote_header asked port p stop old new w never = record { logs = []; front = front_longer old new (header port) (report_with asked p []) w; whole = λ h. absurd (never h) }
+wrote_header asked port p stop old new w never = record { logs = []; front = front_longer old new (header port) (report_with asked p []) w; whole = λ h. absurd (never h); confirmed = λ h. absurd (never h) }
 
 -- and the report
 pub wrote_report : (asked : Bool) (port : ℕ) (p : Pass) (result : End) (a b c : Option (List ℕ)) → Appends a b (header port) → Reported asked p result b c → WroteReport asked port p result a c
@@ -294,6 +294,7 @@ wrote_report asked port p result a b c head r = record {
   logs = r.logs;
   front = front_more a b c (header port) (report_with asked p r.logs) [] (header port ++ report_with asked p r.logs) head r.front (ap (λ x. header port ++ x) (append-nil (report_with asked p r.logs)));
   whole = λ h. Appends-trans a b c (header port) (report_with asked p r.logs) head (r.whole h);
+  confirmed = r.confirmed;
 }
 
 later_appends : (asked : Bool) (port : ℕ) (p : Pass) (logs : List Log) (a b c : Option (List ℕ)) (last : List ℕ) → Appends a b (header port ++ report_with asked p logs) → Appends b c last
@@ -333,6 +334,7 @@ no_last asked port p stop a b c before now none never w l = record {
       subst (WritesFront a c) (as_last asked port p w.logs ∙ ap (λ x. header port ++ (report_with asked p w.logs ++ x)) (sym none))
       (front_still a b c (header port ++ report_with asked p w.logs) w.front (nothing_more b c (subst (WritesFront b c) none l)));
   whole = λ h _. absurd (never h);
+  confirmed = λ h. absurd (never h);
 }
 
 with_last : (asked : Bool) (port : ℕ) (p : Pass) (result : End) (a b c : Option (List ℕ)) (before mid now : ℕ) → IsReported result
@@ -343,6 +345,7 @@ with_last asked port p result a b c before mid now is w l less more = record {
       front_more a b c (header port ++ report_with asked p w.logs) (last_text result) [] (header port ++ (report_with asked p w.logs ++ last_text result)) (w.whole is) l.front
       (ap (λ x. (header port ++ report_with asked p w.logs) ++ x) (append-nil (last_text result)) ∙ append_assoc (header port) (report_with asked p w.logs) (last_text result));
   whole = λ _ not_risen. later_appends asked port p w.logs a b c (last_text result) (w.whole is) (l.whole (λ r. not_risen (rose_later before mid now now less (omega arith) r)));
+  confirmed = w.confirmed;
 }
 
 -- and the line of a limit

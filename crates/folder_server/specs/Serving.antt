@@ -1,6 +1,6 @@
 -- What a server writes, and of which transcript.
 use Rattle.std.specs.Prelude.{◌≡◌, ◌≢◌, ◌⊎◌, ℕ, ⊤, Bool, List, [], ◌∷◌, ◌++◌, map, flat_map, codes, decimal}
-use Rattle.std.specs.Prelude.{All, Option, Result, Ok, Err, OnOk, true, false, if◌then◌else◌}
+use Rattle.std.specs.Prelude.{All, Option, Result, Ok, Err, OnOk, length, true, false, if◌then◌else◌}
 use Rattle.std.specs.Option.{option_map}
 use Rattle.std.specs.Io.KnownBytes.{Appends}
 use Rattle.std.specs.List.Sorted.{IsPermutation}
@@ -24,7 +24,10 @@ use Rattle.hub_editor.specs.Editing.{AreAnswered, HaveLastResults, entries_of}
 use Rattle.hub_editor.specs.Openings.{AreAccepted, opening}
 use Rattle.hub_editor.specs.Results.{HasOwnResults, result_entry}
 use Rattle.record_text.specs.Texts.{record_text}
-use Rattle.record_laws.specs.Written.{record_told}
+use Rattle.record_laws.specs.Course.{verdict_of}
+use Rattle.record_laws.specs.Sound.{rests_behind}
+use Rattle.record_laws.specs.Written.{lines_told, record_told}
+use Rattle.record_laws.specs.declared.verdict.Verdict.TheVariants.{Yes}
 use Rattle.serve_crew.specs.declared.gathered.Gathered.{Gathered}
 use Rattle.serve_reports.specs.declared.log.Log.{Log}
 use Rattle.serve_reports.specs.Logs.{log_lines}
@@ -72,6 +75,18 @@ abbrev pub record_part : Bool → Pass → List ℕ
 record_part false p = []
 record_part true p = codes "record\n" ++ record_text (record_told (roots_of p) (events_of (seen_of p)))
 
+-- the check of records says yes of the record of what a pass has seen, with as many steps as that has entries
+abbrev pub IsConfirmed : Pass → Type 0
+IsConfirmed p =
+    let events = events_of (seen_of p) in
+    verdict_of (record_text (record_told (roots_of p) events)) ≡
+    Yes (length (seen_of p)) (rests_behind 0 (lines_told (roots_of p) [] events))
+
+-- the same where the record is asked for
+abbrev pub IsConfirmedPart : Bool → Pass → Type 0
+IsConfirmedPart false p = ⊤
+IsConfirmedPart true p = IsConfirmed p
+
 -- the report of what a pass has seen, the lines of the program's own clients, and the record where it is
 -- asked for
 abbrev pub report_with : Bool → Pass → List Log → List ℕ
@@ -87,11 +102,13 @@ IsReported (Err Fault) = ⊤
 IsReported (Err (AtLimit limit)) = ⊤
 IsReported (Err NoMemory) = ⊥
 
--- a front of the report is written, and all of it where the server ended so
+-- a front of the report is written, and all of it where the server ended so; then the check of records says
+-- yes of its record
 pub record Reported (asked : Bool) (p : Pass) (ended : End) (old new : Option (List ℕ)) : Type 0 where
   pub logs : List Log
   pub front : WritesFront old new (report_with asked p logs)
   pub whole : IsReported ended → Appends old new (report_with asked p logs)
+  pub confirmed : IsReported ended → IsConfirmedPart asked p
 
 -- the passes of the jobs were joined into a pass, which has then seen the transcript that is reported
 pub record WindsUp (hub : Hub) (old q : Pass) : Type 0 where
@@ -151,14 +168,15 @@ pub record Served (roots : List Name) (coming : Option (List Files)) (script : L
   pub cause : HasCause p ended
 
 -- The port that it listens at was written, and the report of that transcript, with its record where that is
--- asked for; at a limit its line stands last. Where the output failed or memory ran out, a front of that was
--- written. The counts are those of the output.
+-- asked for, of which the check of records says yes; at a limit its line stands last. Where the output failed
+-- or memory ran out, a front of that was written. The counts are those of the output.
 pub record Wrote (asked : Bool) (port : ℕ) (p : Pass) (ended : End) (old new : Option (List ℕ))
     (before now : ℕ) : Type 0 where
   pub logs : List Log
   pub front : WritesFront old new (header port ++ (report_with asked p logs ++ last_text ended))
   pub whole : IsReported ended → ¬ Rose before now
       → Appends old new (header port ++ (report_with asked p logs ++ last_text ended))
+  pub confirmed : IsReported ended → IsConfirmedPart asked p
 
 -- the same before the line of a limit
 pub record WroteReport (asked : Bool) (port : ℕ) (p : Pass) (ended : End)
@@ -166,6 +184,7 @@ pub record WroteReport (asked : Bool) (port : ℕ) (p : Pass) (ended : End)
   pub logs : List Log
   pub front : WritesFront old new (header port ++ report_with asked p logs)
   pub whole : IsReported ended → Appends old new (header port ++ report_with asked p logs)
+  pub confirmed : IsReported ended → IsConfirmedPart asked p
 
 -- The server ended before it listened, and not by its output. Where it wasn't for want of memory, a pass of
 -- a hub with these roots has seen just what the first scan and its edits had come to, and the cause.

@@ -1,5 +1,5 @@
 // The end of a server: its report, the logs of its own clients and its record are written.
-ghost use Rattle.std.specs.Prelude.{◌≡◌, ◌≢◌, ◌≤◌, ◌⊎◌, ◌++◌, ◌∷◌, Err, IfOk, List, length};
+ghost use Rattle.std.specs.Prelude.{◌≡◌, ◌≢◌, ◌≤◌, ◌⊎◌, ◌++◌, ◌∷◌, Err, IfOk, List, OnOk, length};
 ghost use Rattle.hmr_base.specs.Causes.{Rose};
 ghost use Rattle.hmr_hub.specs.Passes.{HasTranscript, IsPassOf, roots_of, seen_of};
 ghost use Rattle.hmr_hub.specs.declared.report_line.ReportLine.{ReportLine};
@@ -7,7 +7,7 @@ ghost use Rattle.hmr_hub.specs.declared.report_line.ReportLine.TheVariants.{Step
 ghost use Rattle.hub_moves.specs.Moves.{KnowsOwn};
 ghost use Rattle.serve_crew.specs.Gathers.{IsGathered};
 ghost use Rattle.serve_reports.specs.Texts.{report_text};
-ghost use Rattle.folder_server.specs.Serving.{EndsReported, record_part, status_after};
+ghost use Rattle.folder_server.specs.Serving.{EndsReported, IsConfirmedPart, record_part, status_after};
 
 use crate::recording::{entries_in, put_record};
 use crate::running::RunEnd;
@@ -81,7 +81,8 @@ pub(crate) fn write_end<R: Wait, K: Sink>(
     ended
 }
 
-// The bytes of a report of all that the pass has seen, and of the record of that, where it is asked for.
+// The bytes of a report of all that the pass has seen, and of the record of that, where it is asked for: one of
+// which the check of records says yes.
 fn whole_text<R: Wait>(
     rt: &R,
     alloc: Global,
@@ -95,7 +96,8 @@ fn whole_text<R: Wait>(
     requires transcript { HasTranscript pass.old }
     requires roots { roots_of pass.old ≡ roots.now }
     requires steps { (more : List ReportLine) × (report.now ≡ Steps (length (seen_of pass.old)) ∷ more) }
-    ensures { IfOk result (λ text. text.items ≡ report_text report.now ++ record_part recorded pass.old) }
+    ensures text { IfOk result (λ text. text.items ≡ report_text report.now ++ record_part recorded pass.old) }
+    ensures confirmed { OnOk result (IsConfirmedPart recorded pass.old) }
 {
     let mut text = text_of(alloc, report)?;
     if recorded {

@@ -3,16 +3,17 @@ ghost use Rattle.std.specs.Prelude.{◌≡◌, ◌++◌, ◌∷◌, ℕ, List, O
 ghost use Rattle.hmr_hub.specs.Passes.{HasTranscript, IsPassOf, roots_of, seen_of};
 ghost use Rattle.hmr_hub.specs.declared.report_line.ReportLine.{ReportLine};
 ghost use Rattle.hmr_hub.specs.declared.report_line.ReportLine.TheVariants.{Steps};
-ghost use Rattle.folder_server.specs.Serving.{record_part};
+ghost use Rattle.folder_server.specs.Serving.{IsConfirmed, record_part};
 
 use hmr_hub::{Hub, Pass, ReportLine};
 use hmr_types::ModName;
 use std::alloc::{AllocError, Global};
 use std::sync::Wait;
 use transcript_check::write_record;
+use written_records::records_are_confirmed;
 
 /// Puts the line `record` and the record of a transcript behind a text: it is the transcript that the pass has
-/// seen, of so many entries, on a hub of these roots.
+/// seen, of so many entries, on a hub of these roots. The check of records says yes of that record.
 pub(crate) fn put_record<R: Wait>(
     rt: &R,
     alloc: Global,
@@ -26,10 +27,12 @@ pub(crate) fn put_record<R: Wait>(
     requires transcript { HasTranscript pass.old }
     requires roots { roots_of pass.old ≡ roots.now }
     requires count { count ≡ length (seen_of pass.old) }
-    ensures { OnOk result (text.new.items ≡ text.old.items ++ record_part true pass.old) }
+    ensures text { OnOk result (text.new.items ≡ text.old.items ++ record_part true pass.old) }
+    ensures confirmed { OnOk result (IsConfirmed pass.old) }
 {
     let mut events = hub.events(rt, pass)?;
     events.truncate(count);
+    records_are_confirmed(roots, &events);
     let record = write_record(alloc, roots, &events)?;
     text.extend_from_slice(b"record\n")?;
     text.extend_from_slice(&record)

@@ -39,7 +39,7 @@ returns-in_err-write_all-clause-reported g c =
     (record { of = wound.of; transcript = wound.transcript; own = own; given = wound.given })
     (λ f. full_within _ _ (c.requires.gathered.full f) wound.within) (told.1 ∙ ap Err told.2)
     (report_is c.args.recorded c.args.pass.now c.wind_up.new.pass report.0 c.in_ok-report.report.items c.in_ok-text.text.items own
-    (c.in_ok-text.ensures ∙ ap (λ r. report_text r ++ record_part c.args.recorded c.wind_up.new.pass) c.deref.ensures.value) report.2)
+    (c.in_ok-text.ensures.text ∙ ap (λ r. report_text r ++ record_part c.args.recorded c.wind_up.new.pass) c.deref.ensures.value) report.2)
     (subst (WritesFront _ _) c.deref-2.ensures.value c.write_all.ensures.front)
 
 pub returns-clause-reported : goal.returns-clause-reported
@@ -52,5 +52,6 @@ returns-clause-reported g c =
     (record { of = wound.of; transcript = wound.transcript; own = own; given = wound.given })
     (λ f. full_within _ _ (c.requires.gathered.full f) wound.within)
     (report_is c.args.recorded c.args.pass.now c.wind_up.new.pass report.0 c.in_ok-report.report.items c.in_ok-text.text.items own
-    (c.in_ok-text.ensures ∙ ap (λ r. report_text r ++ record_part c.args.recorded c.wind_up.new.pass) c.deref.ensures.value) report.2)
+    (c.in_ok-text.ensures.text ∙ ap (λ r. report_text r ++ record_part c.args.recorded c.wind_up.new.pass) c.deref.ensures.value) report.2)
+    c.in_ok-text.ensures.confirmed
     (subst (Appends _ _) c.deref-2.ensures.value c.in_ok-write_all.ensures.done)
