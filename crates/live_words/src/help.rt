@@ -13,9 +13,10 @@ each open page at each save.
   --strict-port   that port and no other
   --workers N     how many threads read changed texts, from 1 to 16; 2 where it is left out
   --json          tells the same as one JSON object on each line
-  --record FILE   writes the record of the server's transcript at the end, for hmr audit
+  --record FILE   writes the record of the server's transcript at its end, for hmr audit
 
-At the terminal, with Enter: q ends it, s shows the stale bindings of each page, h shows the keys.
+At the terminal, with Enter: q ends it, r loads all pages again, s shows the stale bindings of each page,
+h shows the keys.
 Status: 0 after q, 2 wrong words, 5 the output or the record can't be written, 6 no such folder, 7 no port,
 9 no memory, 1 any other end.
 "#

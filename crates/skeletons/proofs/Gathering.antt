@@ -82,3 +82,15 @@ shown_is name text o ss imports exports accepted own declined same is_i is_e is_
     (is_a ∙ ap (λ l. filter (λ n. has_name n (targets relations.Accepted name text l)) (imports_shown name text l)) same)
     ∙ ap (analysis (imports_shown name text o.specifiers.items) [] (list_any (λ a. is_itself a.accepted) o.accepts.items)
     (filter (λ n. has_name n (targets relations.Accepted name text o.specifiers.items)) (imports_shown name text o.specifiers.items))) is_d
+
+-- the same of a list of names as it is
+pub list_on : (ns : List (List ℕ)) (i : ℕ) (n : List ℕ) (came next : List (List ℕ)) → i < length ns → n ≡ get_or ns i n → next ≡ add_import came n
+    → gathered next (drop (i + 1) ns) ≡ gathered came (drop i ns)
+list_on ns i n came next inside is added =
+    ap (λ l. gathered l (drop (i + 1) ns)) added
+    ∙ ap (λ x. gathered came (x ∷ drop (i + 1) ns)) is
+    ∙ sym (at_drop_more (λ l. gathered came l) ns i n inside)
+
+pub list_ends : (ns : List (List ℕ)) (i : ℕ) (came : List (List ℕ)) → length ns ≤ i → gathered came (drop i ns) ≡ gathered [] ns → came ≡ take 257 (firsts ns)
+list_ends ns i came all holds =
+    sym (at_drop_all (λ l. gathered came l) ns i all) ∙ holds ∙ same [] ns ∙ import_firsts ns

@@ -21,6 +21,7 @@ use Rattle.hmr_types.specs.Specifier.{segments, spelled, without_last}
 use Rattle.file_names.specs.FileNames.{encoded}
 use Rattle.file_names.specs.Specifiers.{begins, is_folder, is_path, module_at, module_by, named, resolved, walk}
 use Rattle.skeletons.specs.Following.{imported, inside, shown, stands_in, target, targets, told, told_of}
+use Rattle.skeletons.specs.Lists.{list_shown, list_told}
 use Rattle.skeletons.specs.declared.following.Relation.{Relation}
 use Rattle.skeletons.specs.declared.following.Relation.TheVariants as relations
 use Rattle.skeletons.proofs.Sayable.{CanBeSaid}
@@ -179,12 +180,18 @@ imported_are : (name text : List ℕ) (ss : List ModuleSpecifier) → are_names 
 imported_are name text ss =
     both_are (targets relations.Imported name text ss) (targets relations.Called name text ss) (targets_are relations.Imported name text ss) (targets_are relations.Called name text ss)
 
-pub shown_can : (name text : List ℕ) (o : Outline) → CanBeSaid (shown name text o)
-shown_can name text o =
-    let met = imported name text o.specifiers.items in
+-- the first of names, each once
+first_can : (met accepts : List (List ℕ)) (own declined : Bool) → are_names met ≡ true → CanBeSaid (told_of (take 257 (firsts met)) accepts own declined)
+first_can met accepts own declined are =
     let ns = firsts met in
-    can_be (take 257 ns) _ _ _ (different_take 257 ns (firsts_different met))
-    (all_take names.is_name 257 ns (all_firsts names.is_name met (imported_are name text o.specifiers.items))) (omega (arith, length-take 257 ns))
+    can_be (take 257 ns) accepts own declined (different_take 257 ns (firsts_different met))
+    (all_take names.is_name 257 ns (all_firsts names.is_name met are)) (omega (arith, length-take 257 ns))
+
+pub shown_can : (name text : List ℕ) (o : Outline) → CanBeSaid (shown name text o)
+shown_can name text o = first_can (imported name text o.specifiers.items) _ _ _ (imported_are name text o.specifiers.items)
+
+pub list_can : (imports accepts : List (List ℕ)) → are_names imports ≡ true → CanBeSaid (list_shown imports accepts)
+list_can imports accepts are = first_can imports accepts false false are
 
 many_step : (a : Analysis) → 256 < length a.imports → if_few a ≡ Err scan.TooManyImports
 many_step a many = ap (λ b. if b then Err scan.TooManyImports else Ok a) (lt-ltb 256 (length a.imports) many)
@@ -202,3 +209,8 @@ pub shown_tells : (name text : List ℕ) (o : Outline) → if_few (shown name te
 shown_tells name text o =
     let ns = firsts (imported name text o.specifiers.items) in
     by_count ns _ _ _ (nat_lt 257 (length ns)) refl
+
+pub list_tells : (imports accepts : List (List ℕ)) → if_few (list_shown imports accepts) ≡ if_few (list_told imports accepts)
+list_tells imports accepts =
+    let ns = firsts imports in
+    by_count ns accepts false false (nat_lt 257 (length ns)) refl

@@ -50,14 +50,18 @@ pub(crate) fn shown(
 
 /// The modules of the folder to which specifiers lead.
 #[derive(Drop)]
-struct Followed {
+pub struct Followed {
     /// Those that are imported, each once; of more than 256 the first 257.
-    imports: Vec<ModName>,
+    pub imports: Vec<ModName>,
     /// Those of them that are accepted.
-    accepted: Vec<ModName>,
+    pub accepted: Vec<ModName>,
 }
 
-fn modules(
+/// The modules of the folder to which the specifiers of the text of a module lead, as its scan has them: those
+/// that it imports, by declarations and then by calls, and those of them that it accepts. It takes time and
+/// memory linear in the text and the specifiers, but for the look-up of imported names, of which there are at
+/// most 257.
+pub fn modules(
     alloc: Global,
     name: &ModName,
     text: &[u8],
@@ -129,7 +133,7 @@ fn add_found(names: &mut Vec<ModName>, found: Option<ModName>) -> Result<(), All
     }
 }
 
-fn add_import(names: &mut Vec<ModName>, name: ModName) -> Result<(), AllocError>
+pub(crate) fn add_import(names: &mut Vec<ModName>, name: ModName) -> Result<(), AllocError>
     ensures { OnOk result (names.new.items ≡ add_import names.old.items name) }
 {
     let passed_over = names.contains(&name) || names.len() > IMPORTS;
@@ -168,7 +172,11 @@ fn put_found(names: &mut Vec<ModName>, found: Option<ModName>) -> Result<(), All
 }
 
 /// Those of the names that are among the others.
-fn among(alloc: Global, names: &[ModName], others: &[ModName]) -> Result<Vec<ModName>, AllocError>
+pub(crate) fn among(
+    alloc: Global,
+    names: &[ModName],
+    others: &[ModName],
+) -> Result<Vec<ModName>, AllocError>
     ensures { IfOk result (λ found. found.items ≡ filter (λ n. has_name n others.now) names.now) }
 {
     let mut found = Vec::new(alloc);

@@ -1,6 +1,6 @@
 //! Skeletons of real JavaScript: of a scanned text the short text of the module language that has the same
-//! imports, accepts and declines, or the same fault. The core plans on skeletons, and browsers evaluate the
-//! files themselves.
+//! imports, accepts and declines, or the same fault; and of a page or a stylesheet one that has a list of
+//! imports. The core plans on skeletons, and browsers evaluate the files themselves.
 //!
 //! A skeleton has no names of exports and imports, so no link is looked at: what `export *` gives hangs on
 //! other modules, and only the browser links.
@@ -11,8 +11,11 @@
 #![tactic(auto)]
 
 mod following;
+mod listing;
 mod refusal;
 mod text;
 mod tree;
 
+pub use following::{Followed, modules};
+pub use listing::list_skeleton;
 pub use text::{skeleton, skeletons_tell_their_stamps};

@@ -1,0 +1,38 @@
+use Rattle.std.proofs.Common.{◌≡◌, ◌∙◌, ◌+◌, ◌∷◌, [], ap, length, arith}
+use Rattle.std.proofs.lemmas.List.{length-append}
+use Rattle.std.specs.Arc.{arc_value}
+use Rattle.transform_pool.specs.Passes as queues
+use Rattle.transform_pool.specs.Passes.{role_of}
+use Rattle.transform_pool.specs.Roles.{taking}
+use Rattle.live_server.proofs.Elements.{all_front, all_last}
+use Rattle.live_server.proofs.crew.Crew.begin_workers.Goals as goal
+
+pub loop-jobs-preserved : goal.loop-jobs-preserved
+loop-jobs-preserved g c =
+    let i = c.loop-jobs.invariant in
+    let b = c.begin_worker.ensures in
+    record {
+      hub = b.hub ∙ i.hub;
+      crew = b.crew;
+      of = b.of;
+      number = b.number ∙ i.number;
+      takers = all_front (λ p. queues.IsPassOf (arc_value c.args.queue.now) p) c.pop.new.self.items c.loop-jobs.takers.items c.in-Some.jobs c.in-Some.ensures.items i.takers;
+      take = all_front (λ p. role_of p ≡ taking) c.pop.new.self.items c.loop-jobs.takers.items c.in-Some.jobs c.in-Some.ensures.items i.take;
+      made = i.made + 1;
+      all = omega (arith, i.all, ap (λ xs. length xs) c.in-Some.ensures.items, length-append c.pop.new.self.items (c.in-Some.jobs ∷ []));
+      few = omega (arith, i.few, b.few);
+      shut = b.shut ∙ i.shut;
+    }
+
+pub begin_worker-requires-clause-of_queue : goal.begin_worker-requires-clause-of_queue
+begin_worker-requires-clause-of_queue g c κs within =
+    all_last (λ p. queues.IsPassOf (arc_value c.args.queue.now) p) c.pop.new.self.items c.loop-jobs.takers.items c.in-Some.jobs c.in-Some.ensures.items c.loop-jobs.invariant.takers
+
+pub begin_worker-requires-clause-takes : goal.begin_worker-requires-clause-takes
+begin_worker-requires-clause-takes g c κs within =
+    all_last (λ p. role_of p ≡ taking) c.pop.new.self.items c.loop-jobs.takers.items c.in-Some.jobs c.in-Some.ensures.items c.loop-jobs.invariant.take
+
+pub begin_worker-requires-clause-few : goal.begin_worker-requires-clause-few
+begin_worker-requires-clause-few g c =
+    let i = c.loop-jobs.invariant in
+    omega (arith, c.requires.few, i.few, i.all, ap (λ xs. length xs) c.in-Some.ensures.items, length-append c.pop.new.self.items (c.in-Some.jobs ∷ []))

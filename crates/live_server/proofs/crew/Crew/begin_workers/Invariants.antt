@@ -1,0 +1,29 @@
+use Rattle.std.proofs.Common.{◌≡◌, ◌≤◌, ◌+◌, ℕ, length, sum}
+use Rattle.std.specs.List.{All}
+use Rattle.std.specs.Arc.{arc_value}
+use Rattle.transform_pool.specs.Passes as queues
+use Rattle.transform_pool.specs.Passes.{role_of}
+use Rattle.transform_pool.specs.Roles.{taking}
+use Rattle.hmr_hub.specs.Passes.{IsPassOf, number_of}
+use Rattle.live_server.specs.Crews.{IsCrew}
+use Rattle.live_server.proofs.crew.Crew.begin_workers.Given as goal
+
+-- workers were begun for the passes that are gone
+abbrev pub invariant-loop-jobs : goal.invariant-loop-jobs
+invariant-loop-jobs g l =
+    let count = g.P.Spawner.begun in
+    record {
+      hub : l.self.hub ≡ l.fn.self.hub;
+      crew : IsCrew g.E.Door.Door (arc_value l.self.hub) l.self.running l.self.passes;
+      of : IsPassOf (arc_value l.self.hub) l.pass;
+      number : number_of l.pass ≡ number_of l.fn.pass;
+      takers : All (λ p. queues.IsPassOf (arc_value l.queue) p) l.takers.items;
+      take : All (λ p. role_of p ≡ taking) l.takers.items;
+      made : ℕ;
+      all : made + length l.takers.items ≡ length l.fn.takers.items;
+      few : sum (count l.spawner) ≤ sum (count l.fn.spawner) + made;
+      shut : g.E.Entrance.is_shut l.entrance ≡ g.E.Entrance.is_shut l.fn.entrance;
+    }
+
+abbrev pub decreases-loop-jobs : goal.decreases-loop-jobs
+decreases-loop-jobs g l = length l.takers.items

@@ -1,0 +1,18 @@
+use Rattle.std.proofs.Common.{◌≡◌}
+use Rattle.std.specs.Prelude.{vec_len}
+use Rattle.std.specs.List.{All}
+use Rattle.hmr_hub.specs.Passes.{IsPassOf}
+use Rattle.live_server.specs.Crews.{HasRoom, RunsOn}
+use Rattle.live_server.proofs.finishing.finish_jobs.Given as goal
+
+-- those that are left run on, and there is room for what they leave
+abbrev pub invariant-loop-job : goal.invariant-loop-job
+invariant-loop-job g l = record {
+  jobs : All (RunsOn g.E.Door.Door l.hub) l.running.items;
+  room : HasRoom l.running l.passes;
+  of : All (IsPassOf l.hub) l.passes.items;
+  shut : g.E.Entrance.is_shut l.entrance ≡ g.E.Entrance.is_shut l.fn.entrance;
+}
+
+abbrev pub decreases-loop-job : goal.decreases-loop-job
+decreases-loop-job g l = vec_len l.running

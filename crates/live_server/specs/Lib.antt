@@ -1,0 +1,3 @@
+pub mod Attendants
+pub mod Outs
+pub mod Crews

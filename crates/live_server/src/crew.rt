@@ -1,0 +1,251 @@
+// The jobs of a live server, and how they are begun: workers, and doors. A job whose start is refused is given
+// up, and no more are begun.
+ghost use Rattle.std.specs.Prelude.{◌≡◌, ◌≤◌, ◌<◌, ◌+◌, All, IfOk, OnOk, false, length, sum, vec_len};
+ghost use Rattle.std.specs.Arc.{arc_value};
+ghost use Rattle.jobs.specs.Begun.{most_starts};
+ghost use Rattle.transform_pool.specs.Passes as queues;
+ghost use Rattle.transform_pool.specs.Passes.{role_of};
+ghost use Rattle.transform_pool.specs.Roles.{taking};
+ghost use Rattle.hmr_hub.specs.Passes.{IsPassOf, hub_mark, number_of};
+ghost use Rattle.live_server.specs.Crews.{HasPlace, HasRoom, IsCrew};
+ghost use Rattle.live_server.specs.Outs.{JobOf};
+
+use crate::attendant::HubAttendant;
+use crate::job::{LiveDoor, LiveJob, LiveOut, LiveWorker};
+use crate::plan::LiveEnd;
+use crate::shared::Shared;
+use crate::taking::{hand_back, take_in};
+use doors::{Door, Entrance};
+use hmr_hub::{Hub, Pass};
+use hub_desks::HubBoard;
+use jobs::{Running, Spawner, start};
+use live_answers::Files;
+use live_desk::LiveBoard;
+use std::alloc::{AllocError, Global};
+use std::sync::{Arc, Wait};
+use std::thread::Threads;
+use transform_pool::{JobPass, JobQueue};
+
+/// Jobs of a hub that were begun, and the passes of those that ended so far.
+#[derive(Drop)]
+pub(crate) struct Crew<R: Wait + Copy + Drop, E: Entrance, F: Files + Drop>
+where
+    E::Door: Drop,
+{
+    pub(crate) hub: Arc<Hub, Global>,
+    pub(crate) running: Vec<Running<LiveJob<R, E::Door, F>>>,
+    pub(crate) passes: Vec<Pass>,
+}
+
+impl<
+    R: Threads + Wait + Copy + Drop + Send + 'static,
+    E: Entrance,
+    F: Files + Drop + Send + Sync + 'static,
+> Crew<R, E, F>
+where
+    E::Door: Drop + Send + 'static,
+    <E::Door as Door>::End: Send + 'static,
+{
+    // A crew of a hub, of which no job was begun yet. It takes no memory.
+    pub(crate) fn new(alloc: Global, hub: Arc<Hub, Global>) -> Self
+        ensures hub { result.hub ≡ hub }
+        ensures crew { IsCrew ⟦<E::Door as Door>⟧ (arc_value result.hub) result.running result.passes }
+    {
+        Crew {
+            hub,
+            running: Vec::new(alloc),
+            passes: Vec::new(alloc),
+        }
+    }
+
+    // Begins a worker for each pass that takes.
+    pub(crate) fn begin_workers<P: Spawner>(
+        &mut self,
+        rt: &R,
+        alloc: Global,
+        pass: &mut Pass,
+        entrance: &mut E,
+        spawner: &mut P,
+        shared: &Shared<F>,
+        queue: &Arc<JobQueue, Global>,
+        mut takers: Vec<JobPass>,
+    ) -> Result<(), LiveEnd>
+        requires crew { IsCrew ⟦<E::Door as Door>⟧ (arc_value self.old.hub) self.old.running self.old.passes }
+        requires of { IsPassOf (arc_value self.old.hub) pass.old }
+        requires each_of { All (λ p. queues.IsPassOf (arc_value queue.now) p) takers.items }
+        requires each_takes { All (λ p. role_of p ≡ taking) takers.items }
+        requires few { sum (P.begun spawner.old) + length takers.items ≤ most_starts }
+        ensures hub { self.new.hub ≡ self.old.hub }
+        ensures crew { IsCrew ⟦<E::Door as Door>⟧ (arc_value self.new.hub) self.new.running self.new.passes }
+        ensures of { IsPassOf (arc_value self.new.hub) pass.new }
+        ensures number { number_of pass.new ≡ number_of pass.old }
+        ensures few { sum (P.begun spawner.new) ≤ sum (P.begun spawner.old) + length takers.items }
+        ensures shut { E.is_shut entrance.new ≡ E.is_shut entrance.old }
+    {
+        while let Some(jobs) = takers.pop() {
+            self.begin_worker(rt, alloc, pass, entrance, spawner, shared, queue, jobs)?;
+        }
+        Ok(())
+    }
+
+    // Begins a worker.
+    fn begin_worker<P: Spawner>(
+        &mut self,
+        rt: &R,
+        alloc: Global,
+        pass: &mut Pass,
+        entrance: &mut E,
+        spawner: &mut P,
+        shared: &Shared<F>,
+        queue: &Arc<JobQueue, Global>,
+        jobs: JobPass,
+    ) -> Result<(), LiveEnd>
+        requires crew { IsCrew ⟦<E::Door as Door>⟧ (arc_value self.old.hub) self.old.running self.old.passes }
+        requires of { IsPassOf (arc_value self.old.hub) pass.old }
+        requires of_queue { queues.IsPassOf (arc_value queue.now) jobs }
+        requires takes { role_of jobs ≡ taking }
+        requires few { sum (P.begun spawner.old) + 1 ≤ most_starts }
+        ensures hub { self.new.hub ≡ self.old.hub }
+        ensures crew { IsCrew ⟦<E::Door as Door>⟧ (arc_value self.new.hub) self.new.running self.new.passes }
+        ensures of { IsPassOf (arc_value self.new.hub) pass.new }
+        ensures number { number_of pass.new ≡ number_of pass.old }
+        ensures few { sum (P.begun spawner.new) ≤ sum (P.begun spawner.old) + 1 }
+        ensures shut { E.is_shut entrance.new ≡ E.is_shut entrance.old }
+    {
+        let queue = Arc::try_clone(queue)?;
+        let Shared {
+            site: _,
+            bell,
+            news,
+        } = shared.again()?;
+        let (hub, half) = self.split(rt, pass)?;
+        let board = LiveBoard::new(HubBoard::new(hub, half, queue, jobs), bell, news);
+        let job = LiveJob::Worker(LiveWorker::new(board));
+        self.begin(rt, alloc, entrance, spawner, job)
+    }
+
+    // Begins so many doors.
+    pub(crate) fn begin_doors<P: Spawner>(
+        &mut self,
+        rt: &R,
+        alloc: Global,
+        pass: &mut Pass,
+        entrance: &mut E,
+        spawner: &mut P,
+        shared: &Shared<F>,
+        doors: usize,
+    ) -> Result<(), LiveEnd>
+        requires crew { IsCrew ⟦<E::Door as Door>⟧ (arc_value self.old.hub) self.old.running self.old.passes }
+        requires of { IsPassOf (arc_value self.old.hub) pass.old }
+        requires going { E.is_shut entrance.old ≡ false }
+        requires few { sum (P.begun spawner.old) + doors ≤ most_starts }
+        ensures hub { self.new.hub ≡ self.old.hub }
+        ensures crew { IsCrew ⟦<E::Door as Door>⟧ (arc_value self.new.hub) self.new.running self.new.passes }
+        ensures of { IsPassOf (arc_value self.new.hub) pass.new }
+        ensures number { number_of pass.new ≡ number_of pass.old }
+    {
+        for _ in 0..doors {
+            self.begin_door(rt, alloc, pass, entrance, spawner, shared)?;
+        }
+        Ok(())
+    }
+
+    // Begins a door.
+    fn begin_door<P: Spawner>(
+        &mut self,
+        rt: &R,
+        alloc: Global,
+        pass: &mut Pass,
+        entrance: &mut E,
+        spawner: &mut P,
+        shared: &Shared<F>,
+    ) -> Result<(), LiveEnd>
+        requires crew { IsCrew ⟦<E::Door as Door>⟧ (arc_value self.old.hub) self.old.running self.old.passes }
+        requires of { IsPassOf (arc_value self.old.hub) pass.old }
+        requires going { E.is_shut entrance.old ≡ false }
+        requires few { sum (P.begun spawner.old) + 1 ≤ most_starts }
+        ensures hub { self.new.hub ≡ self.old.hub }
+        ensures crew { IsCrew ⟦<E::Door as Door>⟧ (arc_value self.new.hub) self.new.running self.new.passes }
+        ensures of { IsPassOf (arc_value self.new.hub) pass.new }
+        ensures number { number_of pass.new ≡ number_of pass.old }
+        ensures few { sum (P.begun spawner.new) ≤ sum (P.begun spawner.old) + 1 }
+        ensures going { E.is_shut entrance.new ≡ false }
+    {
+        let own = shared.again()?;
+        let (hub, half) = self.split(rt, pass)?;
+        let attendant = HubAttendant::new(*rt, hub, half, own);
+        match entrance.door(alloc) {
+            Ok(door) => {
+                let job = LiveJob::Door(LiveDoor::new(door, attendant));
+                self.begin(rt, alloc, entrance, spawner, job)
+            }
+            Err(fault) => {
+                hand_back(attendant, &mut self.passes);
+                Err(LiveEnd::from(fault))
+            }
+        }
+    }
+
+    // Splits a pass off for one more job, for which there is then a place.
+    fn split(&mut self, rt: &R, pass: &mut Pass) -> Result<(Arc<Hub, Global>, Pass), LiveEnd>
+        requires crew { IsCrew ⟦<E::Door as Door>⟧ (arc_value self.old.hub) self.old.running self.old.passes }
+        requires of { IsPassOf (arc_value self.old.hub) pass.old }
+        ensures hub { self.new.hub ≡ self.old.hub }
+        ensures crew { IsCrew ⟦<E::Door as Door>⟧ (arc_value self.new.hub) self.new.running self.new.passes }
+        ensures place { OnOk result (HasPlace self.new.running self.new.passes) }
+        ensures running { self.new.running.items ≡ self.old.running.items }
+        ensures passes { self.new.passes.items ≡ self.old.passes.items }
+        ensures of { IsPassOf (arc_value self.new.hub) pass.new }
+        ensures number { number_of pass.new ≡ number_of pass.old }
+        ensures own { IfOk result (λ made. arc_value made.0 ≡ arc_value self.new.hub) }
+        ensures half { IfOk result (λ made. IsPassOf (arc_value self.new.hub) made.1) }
+    {
+        reserve_place(&mut self.running, &mut self.passes)?;
+        let hub = Arc::try_clone(&self.hub)?;
+        let half = hub.split(rt, pass)?;
+        Ok((hub, half))
+    }
+
+    // Starts a job, for which there is a place. What a refused start hands back is taken in.
+    #[tactic(auto, using(crate::proofs::Counts::started_few, crate::proofs::Counts::same_few))]
+    fn begin<P: Spawner>(
+        &mut self,
+        rt: &R,
+        alloc: Global,
+        entrance: &mut E,
+        spawner: &mut P,
+        job: LiveJob<R, E::Door, F>,
+    ) -> Result<(), LiveEnd>
+        requires crew { IsCrew ⟦<E::Door as Door>⟧ (arc_value self.old.hub) self.old.running self.old.passes }
+        requires place { HasPlace self.old.running self.old.passes }
+        requires of { JobOf ⟦<E::Door as Door>⟧ (hub_mark (arc_value self.old.hub)) job }
+        requires few { sum (P.begun spawner.old) < most_starts }
+        ensures hub { self.new.hub ≡ self.old.hub }
+        ensures crew { IsCrew ⟦<E::Door as Door>⟧ (arc_value self.new.hub) self.new.running self.new.passes }
+        ensures few { sum (P.begun spawner.new) ≤ sum (P.begun spawner.old) + 1 }
+        ensures shut { E.is_shut entrance.new ≡ E.is_shut entrance.old }
+    {
+        match start(rt, alloc, spawner, job) {
+            Ok(running) => {
+                self.running.push_reserved(running);
+                Ok(())
+            }
+            Err(out) => {
+                take_in(&self.hub, entrance, out, &mut self.passes);
+                Err(LiveEnd::Fault)
+            }
+        }
+    }
+}
+
+// Makes room for one more job, and for what it leaves.
+fn reserve_place<J>(running: &mut Vec<J>, left: &mut Vec<Pass>) -> Result<(), AllocError>
+    ensures running { running.new.items ≡ running.old.items }
+    ensures left { left.new.items ≡ left.old.items }
+    ensures counts { (vec_len running.new ≡ vec_len running.old) × (vec_len left.new ≡ vec_len left.old) }
+    ensures room { HasRoom running.old left.old → HasRoom running.new left.new }
+    ensures place { OnOk result (HasPlace running.new left.new) }
+{
+    running.reserve(1)?;
+    left.reserve(running.len() + 1)
+}

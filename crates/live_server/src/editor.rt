@@ -1,0 +1,238 @@
+// Who makes the edits that a folder brings.
+ghost use Rattle.std.specs.Prelude.{◌≡◌, true};
+ghost use Rattle.std.specs.Arc.{arc_value};
+ghost use Rattle.std.specs.Option.{ForSome};
+ghost use Rattle.hmr_types.specs.ModName.{is_name};
+ghost use Rattle.live_folder.specs.Texts.{IsShort};
+ghost use Rattle.transform_pool.specs.Passes as pool;
+ghost use Rattle.transform_pool.specs.Roles.{putting};
+ghost use Rattle.hmr_hub.specs.Passes.{IsPassOf, number_of};
+
+use crate::known::{Known, text_of};
+use crate::live_editor::LiveEditor;
+use crate::plan::LiveEnd;
+use crate::shared::Shared;
+use hmr_hub::{Hub, Pass};
+use hmr_types::ModName;
+use hub_editor::{EditStop, Editor};
+use live_folder::{Change, Look, PassedOver, SkipCause};
+use live_lines::{News, PassedCause};
+use std::alloc::{AllocError, Global};
+use std::sync::{Arc, Wait};
+use std::thread::Parker;
+use std::time::Duration;
+use transform_pool::{JobPass, JobQueue};
+
+/// How many jobs may wait for workers before the next edit is made.
+const WAITING: u64 = 48;
+
+/// How often it is looked whether fewer wait, a millisecond apart.
+const LOOKS: u32 = 2000;
+
+impl LiveEditor {
+    /// An editor that made no edit. It takes no memory.
+    pub fn new(
+        alloc: Global,
+        hub: Arc<Hub, Global>,
+        queue: Arc<JobQueue, Global>,
+        pass: Pass,
+        jobs: JobPass,
+    ) -> LiveEditor
+        requires of { IsPassOf (arc_value hub) pass }
+        requires number { number_of pass ≡ 0 }
+        requires of_queue { pool.IsPassOf (arc_value queue) jobs }
+        requires puts { pool.role_of jobs ≡ putting }
+        ensures hub { result.hub ≡ hub }
+    {
+        LiveEditor {
+            hub,
+            queue,
+            pass,
+            jobs,
+            editor: Editor::new(alloc),
+        }
+    }
+
+    /// Makes the edits that a look brings, and tells what there is to tell. Some: the server ends. It waits.
+    pub fn take<R: Wait, F: Drop>(
+        &mut self,
+        rt: &R,
+        alloc: Global,
+        shared: &Shared<F>,
+        known: &mut Known,
+        look: Look,
+    ) -> Option<LiveEnd>
+        ensures hub { self.new.hub ≡ self.old.hub }
+    {
+        let Look {
+            changes,
+            passed,
+            away,
+        } = look;
+        if let Some(news) = known.note_away(away) {
+            shared.news.tell(rt, news);
+        }
+        tell_passed(rt, shared, passed);
+        self.make_each(rt, alloc, shared, known, changes)
+    }
+
+    // Makes edits one after another, up to the first that ends the server, and rings for them.
+    fn make_each<R: Wait, F: Drop>(
+        &mut self,
+        rt: &R,
+        alloc: Global,
+        shared: &Shared<F>,
+        known: &mut Known,
+        changes: Vec<Change>,
+    ) -> Option<LiveEnd>
+        ensures hub { self.new.hub ≡ self.old.hub }
+    {
+        let before = known.counted();
+        for change in changes {
+            if let Some(end) = self.make(rt, alloc, shared, known, change) {
+                return Some(end);
+            }
+        }
+        if known.counted() != before {
+            shared.bell.ring();
+        }
+        None
+    }
+
+    // Makes an edit, unless the module has this text.
+    fn make<R: Wait, F: Drop>(
+        &mut self,
+        rt: &R,
+        alloc: Global,
+        shared: &Shared<F>,
+        known: &mut Known,
+        change: Change,
+    ) -> Option<LiveEnd>
+        ensures hub { self.new.hub ≡ self.old.hub }
+    {
+        let (name, text) = change.into_parts();
+        if known.has(&name, &text) {
+            return None;
+        }
+        wait_for_workers(rt, shared, known);
+        let Ok((own_name, own_text)) = copies_of(alloc, &name, &text) else {
+            return Some(LiveEnd::NoMemory);
+        };
+        let made = self.edit(rt, alloc, name, text);
+        note(rt, alloc, shared, known, own_name, own_text, made)
+    }
+
+    // Makes an edit.
+    #[tactic(auto, using(crate::proofs::Editing::short_edit))]
+    fn edit<R: Wait>(
+        &mut self,
+        rt: &R,
+        alloc: Global,
+        name: ModName,
+        text: Option<Vec<u8>>,
+    ) -> Result<(), EditStop>
+        requires name { is_name name ≡ true }
+        requires short { ForSome text IsShort }
+        ensures hub { self.new.hub ≡ self.old.hub }
+    {
+        self.editor.edit(
+            rt,
+            alloc,
+            &self.hub,
+            &mut self.pass,
+            &self.queue,
+            &mut self.jobs,
+            name,
+            text,
+        )
+    }
+
+    /// Closes the queue, and works what it hands back, where there is memory and a place for the result. It
+    /// gives the pass. It waits.
+    pub fn close<R: Wait>(self, rt: &R, alloc: Global) -> Pass
+        ensures of { IsPassOf (arc_value self.hub) result }
+    {
+        let LiveEditor {
+            hub,
+            queue,
+            mut pass,
+            mut jobs,
+            mut editor,
+        } = self;
+        let _closed = editor.close(rt, alloc, &hub, &mut pass, &queue, &mut jobs);
+        pass
+    }
+}
+
+// Waits while many jobs wait for workers, for two seconds at most.
+fn wait_for_workers<R: Wait, F: Drop>(rt: &R, shared: &Shared<F>, known: &Known) {
+    wait_for_results(rt, shared, known.jobs().saturating_sub(WAITING));
+}
+
+/// Waits until workers have told so many results, for two seconds at most.
+pub(crate) fn wait_for_results<R: Wait, F: Drop>(rt: &R, shared: &Shared<F>, results: u64) {
+    let parker = Parker::new();
+    for _ in 0..LOOKS {
+        if shared.bell.results() >= results {
+            return;
+        }
+        parker.park_timeout(rt, Duration::from_millis(1));
+    }
+}
+
+// A name and a text once more.
+fn copies_of(
+    alloc: Global,
+    name: &ModName,
+    text: &Option<Vec<u8>>,
+) -> Result<(ModName, Option<Vec<u8>>), AllocError> {
+    let copy = match text {
+        Some(text) => Some(Vec::from_slice(alloc, text)?),
+        None => None,
+    };
+    Ok((name.clone()?, copy))
+}
+
+// Notes and tells what came of an edit. Some: the server ends.
+fn note<R: Wait, F: Drop>(
+    rt: &R,
+    alloc: Global,
+    shared: &Shared<F>,
+    known: &mut Known,
+    name: ModName,
+    text: Option<Vec<u8>>,
+    made: Result<(), EditStop>,
+) -> Option<LiveEnd> {
+    let cause = match made {
+        Ok(()) => {
+            return match known.note(name, text) {
+                Ok(news) => {
+                    shared.news.tell(rt, news);
+                    None
+                }
+                Err(_) => Some(LiveEnd::NoMemory),
+            };
+        }
+        Err(EditStop::Full) => return Some(LiveEnd::Full),
+        Err(EditStop::NoMemory) => return Some(LiveEnd::NoMemory),
+        Err(EditStop::Text) => PassedCause::TextTooLong,
+        Err(EditStop::Names) => PassedCause::TooManyNames,
+        Err(EditStop::Sources) => PassedCause::SourceTotal,
+    };
+    if let Ok(path) = text_of(alloc, &name) {
+        shared.news.tell(rt, News::Passed { path, cause });
+    }
+    None
+}
+
+// Tells which files were passed over.
+fn tell_passed<R: Wait, F: Drop>(rt: &R, shared: &Shared<F>, passed: Vec<PassedOver>) {
+    for PassedOver { path, cause } in passed {
+        let cause = match cause {
+            SkipCause::TextTooLong => PassedCause::TextTooLong,
+            SkipCause::BadName => PassedCause::BadName,
+            SkipCause::Unreadable => PassedCause::Unreadable,
+        };
+        shared.news.tell(rt, News::Passed { path, cause });
+    }
+}

@@ -1,0 +1,89 @@
+// The end of a crew: each job is waited for, and what it leaves is taken in.
+ghost use Rattle.std.specs.Prelude.{◌≡◌, ◌≤◌, ◌<◌, ◌+◌, vec_capacity, vec_len};
+ghost use Rattle.std.specs.List.{All};
+ghost use Rattle.std.specs.Arc.{arc_value};
+ghost use Rattle.hmr_hub.specs.Passes.{IsPassOf};
+ghost use Rattle.live_server.specs.Crews.{HasRoom, IsCrew, RunsOn, TakenIn};
+
+use crate::crew::Crew;
+use crate::job::LiveJob;
+use crate::taking::take_in;
+use doors::{Door, Entrance};
+use hmr_hub::{Hub, Pass};
+use jobs::{Running, Spawner, finish};
+use live_answers::Files;
+use std::sync::Wait;
+use std::thread::Threads;
+
+impl<
+    R: Threads + Wait + Copy + Drop + Send + 'static,
+    E: Entrance,
+    F: Files + Drop + Send + Sync + 'static,
+> Crew<R, E, F>
+where
+    E::Door: Drop + Send + 'static,
+    <E::Door as Door>::End: Send + 'static,
+{
+    // Waits for the end of each job, and gives the passes of all, each of the hub. Each door is given back to
+    // the entrance. It takes no memory.
+    pub(crate) fn finish_all<P: Spawner>(
+        self,
+        rt: &R,
+        entrance: &mut E,
+        spawner: &mut P,
+    ) -> Vec<Pass>
+        requires crew { IsCrew ⟦<E::Door as Door>⟧ (arc_value self.hub) self.running self.passes }
+        ensures of { All (IsPassOf (arc_value self.hub)) result.items }
+        ensures shut { E.is_shut entrance.new ≡ E.is_shut entrance.old }
+    {
+        let Crew {
+            hub,
+            running,
+            mut passes,
+        } = self;
+        finish_jobs(rt, &hub, entrance, spawner, running, &mut passes);
+        passes
+    }
+}
+
+// Waits for the end of each job.
+fn finish_jobs<R: Threads + Wait + Copy + Drop, E: Entrance, P: Spawner, F: Files + Drop>(
+    rt: &R,
+    hub: &Hub,
+    entrance: &mut E,
+    spawner: &mut P,
+    mut running: Vec<Running<LiveJob<R, E::Door, F>>>,
+    passes: &mut Vec<Pass>,
+)
+where
+    E::Door: Drop,
+    requires jobs { All (RunsOn ⟦<E::Door as Door>⟧ hub.now) running.items }
+    requires room { HasRoom running passes.old }
+    requires of { All (IsPassOf hub.now) passes.old.items }
+    ensures of { All (IsPassOf hub.now) passes.new.items }
+    ensures shut { E.is_shut entrance.new ≡ E.is_shut entrance.old }
+{
+    while let Some(job) = running.pop() {
+        finish_job(rt, hub, entrance, spawner, job, passes);
+    }
+}
+
+// Waits for the end of a job.
+fn finish_job<R: Threads + Wait + Copy + Drop, E: Entrance, P: Spawner, F: Files + Drop>(
+    rt: &R,
+    hub: &Hub,
+    entrance: &mut E,
+    spawner: &mut P,
+    running: Running<LiveJob<R, E::Door, F>>,
+    passes: &mut Vec<Pass>,
+)
+where
+    E::Door: Drop,
+    requires runs { RunsOn ⟦<E::Door as Door>⟧ hub.now running }
+    requires room { vec_len passes.old < vec_capacity passes.old }
+    ensures taken { TakenIn hub.now passes.old passes.new }
+    ensures shut { E.is_shut entrance.new ≡ E.is_shut entrance.old }
+{
+    let out = finish(rt, spawner, running);
+    take_in(hub, entrance, out, passes);
+}

@@ -1,0 +1,152 @@
+// The folder is looked at again and again, and in between news are told and keys heard.
+ghost use Rattle.std.specs.Prelude.{◌≡◌};
+
+use crate::editor::wait_for_results;
+use crate::known::Known;
+use crate::live_editor::LiveEditor;
+use crate::plan::LiveEnd;
+use crate::shared::Shared;
+use crate::terminal::{Key, Terminal};
+use live_folder::Watched;
+use std::alloc::Global;
+use std::io;
+use std::sync::Wait;
+use std::thread::Parker;
+use std::time::{Clock, Duration, Instant};
+
+/// How long one rests before it listens again, in milliseconds.
+const STEP_MILLIS: u64 = 25;
+
+/// How often one rests after a look, at least and at most.
+const FEWEST_STEPS: u64 = 2;
+
+const MOST_STEPS: u64 = 200;
+
+/// How many news are told at once.
+const MOST_NEWS: usize = 65_536;
+
+/// Opens the doors once the modules of the folder are served, and then looks at the folder again and again:
+/// 50 milliseconds after a look, and later where the look took longer. It waits.
+pub(crate) fn run_rounds<R: Wait + Clock, W: Watched, F: Drop, T: Terminal>(
+    rt: &R,
+    alloc: Global,
+    editor: &mut LiveEditor,
+    watched: &mut W,
+    shared: &Shared<F>,
+    terminal: &mut T,
+) -> LiveEnd
+    ensures hub { editor.new.hub ≡ editor.old.hub }
+{
+    let mut known = Known::new(alloc);
+    if let Some(end) = look_once(rt, alloc, editor, &mut known, watched, shared) {
+        return end;
+    }
+    open_doors(rt, alloc, &known, shared, terminal);
+    for _ in rt.forever() {
+        if let Some(end) = run_round(rt, alloc, editor, &mut known, watched, shared, terminal) {
+            return end;
+        }
+    }
+    unreachable!()
+}
+
+// Opens the doors, once the workers have told what came of the first look.
+fn open_doors<R: Wait, F: Drop, T: Terminal>(
+    rt: &R,
+    alloc: Global,
+    known: &Known,
+    shared: &Shared<F>,
+    terminal: &mut T,
+) {
+    wait_for_results(rt, shared, known.jobs());
+    shared.bell.open();
+    terminal.ready(alloc, known.modules());
+}
+
+// Looks at the folder, and rests. Some: the server ends.
+fn run_round<R: Wait + Clock, W: Watched, F: Drop, T: Terminal>(
+    rt: &R,
+    alloc: Global,
+    editor: &mut LiveEditor,
+    known: &mut Known,
+    watched: &mut W,
+    shared: &Shared<F>,
+    terminal: &mut T,
+) -> Option<LiveEnd>
+    ensures hub { editor.new.hub ≡ editor.old.hub }
+{
+    let start = Instant::now(rt);
+    let ended = look_once(rt, alloc, editor, known, watched, shared);
+    if ended.is_some() {
+        return ended;
+    }
+    rest(rt, alloc, shared, terminal, steps_after(rt, start))
+}
+
+// Looks at the folder, and makes the edits that it brings. After want of memory the next look shows the same.
+fn look_once<R: Wait, W: Watched, F: Drop>(
+    rt: &R,
+    alloc: Global,
+    editor: &mut LiveEditor,
+    known: &mut Known,
+    watched: &mut W,
+    shared: &Shared<F>,
+) -> Option<LiveEnd>
+    ensures hub { editor.new.hub ≡ editor.old.hub }
+{
+    let Ok(look) = watched.look(alloc) else {
+        return None;
+    };
+    editor.take(rt, alloc, shared, known, look)
+}
+
+// How often one rests after a look that began then, so that looks take a fiftieth of the time.
+fn steps_after(clock: &impl Clock, start: io::Result<Instant>) -> u64 {
+    let Ok(start) = start else {
+        return FEWEST_STEPS;
+    };
+    let Ok(taken) = start.elapsed(clock) else {
+        return FEWEST_STEPS;
+    };
+    let millis = taken.as_secs().min(10) * 1000 + u64::from(taken.subsec_millis());
+    (FEWEST_STEPS + 2 * millis).min(MOST_STEPS)
+}
+
+// Rests, tells news and hears keys. Some: the server ends.
+fn rest<R: Wait, F: Drop, T: Terminal>(
+    rt: &R,
+    alloc: Global,
+    shared: &Shared<F>,
+    terminal: &mut T,
+    steps: u64,
+) -> Option<LiveEnd> {
+    let parker = Parker::new();
+    for _ in 0..steps {
+        tell_all(rt, alloc, shared, terminal);
+        if shared.bell.is_full() {
+            return Some(LiveEnd::Full);
+        }
+        match terminal.key(alloc) {
+            Some(Key::Quit) => return Some(LiveEnd::Quit),
+            Some(Key::Reload) => return Some(LiveEnd::Reload),
+            None => {}
+        }
+        parker.park_timeout(rt, Duration::from_millis(STEP_MILLIS));
+    }
+    None
+}
+
+/// Tells the news that came.
+pub(crate) fn tell_all<R: Wait, F: Drop, T: Terminal>(
+    rt: &R,
+    alloc: Global,
+    shared: &Shared<F>,
+    terminal: &mut T,
+) {
+    for _ in 0..MOST_NEWS {
+        let Some(news) = shared.news.take(rt) else {
+            return;
+        };
+        terminal.tell(alloc, news);
+    }
+}
