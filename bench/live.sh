@@ -140,7 +140,8 @@ def soak(minutes):
     """A tree of 400 modules, of which one is saved each second; each tenth save is of a module that nothing accepts."""
     with tempfile.TemporaryDirectory() as folder:
         record = pathlib.Path(folder, "record")
-        site = {**tree(400), "bare.js": "export const bare = 0;\n", "main.js": 'import "./m0.js";\nimport "./bare.js";\n'}
+        root = 'import { n } from "./m0.js";\nimport { bare } from "./bare.js";\n'
+        site = {**tree(400), "bare.js": "export const bare = 0;\n", "main.js": root}
         with live.serving(program, "--record", str(record), site=site) as server:
             pages = [live.Page(server.port).load() for _ in range(32)]
             over, told = threading.Event(), [[] for _ in pages]

@@ -1,9 +1,10 @@
-"""What the skeletons of texts of JavaScript are: `tests/run SCAN_PROGRAM skeletons`.
+"""What the skeletons of files are: `tests/run SCAN_PROGRAM skeletons`.
 
 Each row was worked out by hand: by what browsers read of a specifier as a URL, by what `import.meta.hot` means, and by the
 rules of names in docs/JAVASCRIPT.md. A row of TAKEN has a text and what its skeleton says behind the stamp, as the file
 `/app/main.js`: modules that are imported, then `| self`, `| accept ..` and `| decline`, each in the order of a skeleton. A
-row of REFUSED has a text and its whole skeleton. A row of NAMES has the path of a file, and what `import "./a b.js"` of it
+row of OTHERS has the path of a page, a stylesheet or data with its text and what its skeleton says, and one of REFUSED a
+text and its whole skeleton. A row of NAMES has the path of a file, and what `import "./a b.js"` of it
 imports.
 """
 from rows import Run, encoded
@@ -39,6 +40,22 @@ TAKEN = [
     ("export const a = 1; export default function f() {}", ""),
 ]
 
+# the path of a file that isn't JavaScript, its text, and what its skeleton says
+OTHERS = [
+    ("/index.html", "<script type=module src=main.js></script>", "/main.js"),
+    ("/a/b.html", "<link rel=stylesheet href='../c.css'><script type=module src=./d.js></script>", "/c.css /a/d.js | accept /c.css"),
+    ("/index.html", "<script src=old.js></script><script type=module>import './a.js'; import('b'); import(\"/b.js\")</script>", "/old.js /a.js /b.js"),
+    ("/index.html", "<script type=module>import './a.js'; import.meta.hot.accept('./a.js', f)</script>", "/a.js | accept /a.js"),
+    ("/index.html", "<script type=importmap>{\"imports\": {\"x\": \"./vendor/x.js\", \"y/\": \"/y/\", \"z\": \"https://a.b/z.js\"}}</script>", "/vendor/x.js"),
+    ("/index.html", "<script type=importmap>{\"imports\": [}</script><script type=module src=a.js></script>", "/a.js"),
+    ("/index.html", "<!-- <script src=a.js></script> --><script type=text/plain src=b.js></script><script src='https://a.b/c.js'></script>", ""),
+    ("/index.html", "<script type=module>import 'x</script><link rel=stylesheet href=' a.css '>", "/a.css | accept /a.css"),
+    ("/index.html", "<link rel=stylesheet href=a.css><link rel=stylesheet href=/a.css><link rel=icon href=i.png>", "/a.css | accept /a.css"),
+    ("/css/a.css", "@import 'b.css'; @import url(../c.css) print; @import \"https://a.b/d.css\"; p { } @import 'e.css';", "/css/b.css /c.css"),
+    ("/a.css", "/* @import 'b.css'; */ @import '\\62.css'; @import url(\"c.css?x\");", ""),
+    ("/data.json", "{\"a\": 1}", ""),
+]
+
 REFUSED = [
     ("'abc", '"1'),
     ("a\n  `abc", "\n  `1"),
@@ -71,6 +88,8 @@ def runs():
         yield Run(["--skeleton=/app/main.js"], encoded(text), 0, encoded(skeleton(said)))
     for text, made in REFUSED:
         yield Run(["--skeleton=/app/main.js"], encoded(text), 0, encoded(made))
+    for path, text, said in OTHERS:
+        yield Run([f"--skeleton={path}"], encoded(text), 0, encoded(skeleton(said)))
     for path, name in NAMES:
         yield Run([f"--skeleton={path}"], b"import './a b.js'", 0, encoded(skeleton(name)))
     yield Run(["--skeleton=a.js"], b"", 0, b"no file of a folder has this path\n")

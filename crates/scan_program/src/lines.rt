@@ -49,7 +49,7 @@ fn fault_words(kind: FaultKind) -> &'static str {
 }
 
 /// Writes the line and column of a place, before what a line tells.
-fn write_place<W: Write>(out: &mut W, text: &[u8], at: u32) -> io::Result<()> {
+pub fn write_place<W: Write>(out: &mut W, text: &[u8], at: u32) -> io::Result<()> {
     let at = (at as usize).min(text.len());
     if text.len() >= u32::MAX as usize {
         return Ok(());
@@ -60,12 +60,17 @@ fn write_place<W: Write>(out: &mut W, text: &[u8], at: u32) -> io::Result<()> {
     write!(out, "{line}:{column} ")
 }
 
-/// Writes the bytes of a span.
-fn write_span<W: Write>(out: &mut W, text: &[u8], span: Span) -> io::Result<()> {
-    match text.get(span.start as usize..span.end as usize) {
+/// Writes the bytes from a place to another.
+pub fn write_bytes<W: Write>(out: &mut W, text: &[u8], from: u32, to: u32) -> io::Result<()> {
+    match text.get(from as usize..to as usize) {
         Some(bytes) => out.write_all(bytes),
         None => Ok(()),
     }
+}
+
+/// Writes the bytes of a span.
+fn write_span<W: Write>(out: &mut W, text: &[u8], span: Span) -> io::Result<()> {
+    write_bytes(out, text, span.start, span.end)
 }
 
 /// Writes a line for the fault of a text.

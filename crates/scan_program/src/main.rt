@@ -2,11 +2,14 @@
 //!
 //! Its words name files; each has its name as a heading, and then its lines. Without words the standard input
 //! is read, and has no heading. By a word `--skeleton=PATH` the skeleton of the standard input is printed,
-//! as that of the file at this path of its folder. Stands on `es_scan` and, for skeletons, on `skeletons`.
+//! as that of the file at this path of its folder; by `--page` and `--style` its outline as a page of HTML and
+//! as a stylesheet. Stands on `es_scan`, `html_scan` and `css_scan` and, for skeletons, on `skeletons` and
+//! `page_skeletons`.
 //! Keeps: every line of an outline begins with the line and column of what it tells.
 #![tactic(auto)]
 
 mod lines;
+mod pages_and_styles;
 mod skeletons_of_files;
 
 use std::io::{self, Read, Write};
@@ -22,6 +25,18 @@ fn main(rt: HostRuntime) -> io::Result<()> {
             let mut text = Vec::new(alloc);
             rt.stdin().read_to_end(&mut text)?;
             skeletons_of_files::write_skeleton(alloc, &mut out, path, &text)?;
+            continue;
+        }
+        if name.as_str() == "--page" {
+            let mut text = Vec::new(alloc);
+            rt.stdin().read_to_end(&mut text)?;
+            pages_and_styles::write_page(alloc, &mut out, &text)?;
+            continue;
+        }
+        if name.as_str() == "--style" {
+            let mut text = Vec::new(alloc);
+            rt.stdin().read_to_end(&mut text)?;
+            pages_and_styles::write_style(alloc, &mut out, &text)?;
             continue;
         }
         let text = fs::read(&rt, name.as_str())?;

@@ -1,0 +1,2 @@
+pub mod CommentEnds
+pub mod Growth

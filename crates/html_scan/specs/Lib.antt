@@ -1,0 +1,3 @@
+pub mod CommentEnds
+pub mod Pages
+pub mod Tags

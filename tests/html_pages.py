@@ -1,0 +1,237 @@
+"""What a scan tells of pages of HTML: `tests/run SCAN_PROGRAM html_pages`.
+
+Each row was worked out by hand from the HTML standard: its tokens, what it says of `script` and `link`, and what browsers
+insert before a page's first element. A row of FOUND has a text and the lines of its scan without their places, with ` / `
+between them; the line of the first script is left out. A row of HEADS has a text and the place of its first script, and one
+of PLACES a text and all of its lines.
+"""
+import re
+
+from rows import Run, encoded
+
+FOUND = [
+    # what a page loads
+    ("<script type=module src=a.js></script>", "module script a.js"),
+    ("<script src='a.js'></script><link rel=stylesheet href=\"b.css\">", "classic script a.js / stylesheet b.css"),
+    ("<script type=module>import 'a'</script>", "inline module of 10 bytes"),
+    ("<script type=module></script>", "inline module of 0 bytes"),
+    ("<script type=importmap>{}</script>", "import map of 2 bytes"),
+    ("<script>import('a.js')</script>", ""),
+    ("<style>@import 'a.css';</style><img src=a.js><a href=a.js>", ""),
+    # tags and attributes
+    ("<SCRIPT TYPE=Module SRC=A.js></SCRIPT>", "module script A.js"),
+    ("<script\ttype = 'module'\nsrc\r\n=\f\"a b.js\" ></script\n>", "module script a b.js"),
+    ("<script/src=a.js/></script>", "classic script a.js/"),
+    ("<script/src='a.js'/></script>", "classic script a.js"),
+    ("<script src='a.js'type='module'></script>", "module script a.js"),
+    ("<script src=a.js src=b.js></script>", "classic script a.js"),
+    ("<script src src=b.js></script>", ""),
+    ("<script src=a.js type=module type=text/plain></script>", "module script a.js"),
+    ("<script async data-src=x src=a.js defer></script>", "classic script a.js"),
+    ("<script src=></script>", ""),
+    ("<script src=''></script><link rel=stylesheet href>", ""),
+    ("<script type=module src>import 'a'</script>", ""),
+    ("<script =src=x src=a.js></script>", "classic script a.js"),
+    ("<script src==a.js></script>", "classic script =a.js"),
+    ("<script src=a\"b.js></script>", "classic script a\"b.js"),
+    ("<script title='>' src=a.js></script>", "classic script a.js"),
+    ("<script title=> src=a.js></script>", ""),
+    ("<script src=\"a.js></script>", ""),
+    ("< script src=a.js></script>", ""),
+    ("<script src=a.js", ""),
+    ("<scripts src=a.js></scripts>", ""),
+    ("<script2 src=a.js></script2><x-script src=b.js></x-script>", ""),
+    ("<unknown><script src=a.js></script></unknown>", "classic script a.js"),
+    ("<p title=\"<script src=a.js></script>\">", ""),
+    ("<p title='a\"b'><script src=a.js></script>", "classic script a.js"),
+    ("a < b <script src=a.js></script>", "classic script a.js"),
+    ("<<script src=a.js></script>", "classic script a.js"),
+    ("<p<script src=a.js></script>", ""),
+    ("</p <script src=a.js></script>", ""),
+    ("</script><script src=a.js></script>", "classic script a.js"),
+    ("</><script src=a.js></script>", "classic script a.js"),
+    # comments and doctypes
+    ("<!-- <script src=a.js></script> -->", ""),
+    ("<!-- > <script src=a.js></script> -- > --><script src=b.js></script>", "classic script b.js"),
+    ("<!--><script src=a.js></script>", "classic script a.js"),
+    ("<!---><script src=a.js></script>", "classic script a.js"),
+    ("<!----><script src=a.js></script>", "classic script a.js"),
+    ("<!--a--!><script src=a.js></script>", "classic script a.js"),
+    ("<!--!><script src=a.js></script>", ""),
+    ("<!----!><script src=a.js></script>", "classic script a.js"),
+    ("<!--a--!-><script src=a.js></script>", ""),
+    ("<!--a--!--><script src=a.js></script>", "classic script a.js"),
+    ("<!--a---><script src=a.js></script>", "classic script a.js"),
+    ("<!--a->b--c><script src=a.js></script>--><script src=b.js></script>", "classic script b.js"),
+    ("<!--<!--><script src=a.js></script>", "classic script a.js"),
+    ("<!-- a <script src=a.js></script>", ""),
+    ("<!- a ><script src=a.js></script>", "classic script a.js"),
+    ("<!x <script src=a.js></script>", ""),
+    ("<?xml <script src=a.js></script> ?><script src=b.js></script>", "classic script b.js"),
+    ("<?a?><script src=a.js></script>", "classic script a.js"),
+    ("</ <script src=a.js></script>", ""),
+    ("</1><script src=a.js></script>", "classic script a.js"),
+    ("<![CDATA[ <script src=a.js></script> ]]>", ""),
+    ("<![CDATA[><script src=a.js></script>]]>", "classic script a.js"),
+    ("<!doctype html \"><script src=a.js></script>\">", "classic script a.js"),
+    ("<![if IE]><script src=a.js></script><![endif]>", "classic script a.js"),
+    ("<!--[if IE]><script src=a.js></script><![endif]-->", ""),
+    # elements whose content is text
+    ("<title><script src=a.js></script></title>", ""),
+    ("<title>a</titles><script src=a.js></script></title><script src=b.js></script>", "classic script b.js"),
+    ("<textarea><script src=a.js></script></TextArea ><script src=b.js></script>", "classic script b.js"),
+    ("<style>a{}/*</style><script src=a.js></script>*/", "classic script a.js"),
+    ("<style><!--</style><script src=a.js></script>-->", "classic script a.js"),
+    ("<xmp><script src=a.js></script></xmp>", ""),
+    ("<iframe><script src=a.js></script></iframe>", ""),
+    ("<noembed><script src=a.js></script></noembed><noframes><link rel=stylesheet href=b></noframes>", ""),
+    ("<noscript><link rel=stylesheet href=a.css></noscript>", ""),
+    ("<title/><script src=a.js></script></title>", ""),
+    ("<title><script src=a.js></script>", ""),
+    ("<plaintext><script src=a.js></script></plaintext><script src=b.js></script>", ""),
+    # scripts
+    ("<script>'<script src=a.js></scr'+'ipt>'</script><script src=b.js></script>", "classic script b.js"),
+    ("<script>a</scripts></script-x></script>b<script src=a.js></script>", "classic script a.js"),
+    ("<script>a</script/><script src=a.js></script>", "classic script a.js"),
+    ("<script type=module>a</script x='>'><script src=a.js></script>", "inline module of 1 bytes / classic script a.js"),
+    ("<script type=module>a</ script></script>", "inline module of 11 bytes"),
+    ("<script type=module><!-- a --></script>", "inline module of 10 bytes"),
+    ("<script type=module><!-- </script>", "inline module of 5 bytes"),
+    ("<script type=module><!-- <script> </script> --></script>", "inline module of 27 bytes"),
+    ("<script type=module><!-- <script </script></script>", "inline module of 22 bytes"),
+    ("<script type=module><!-- <scripts> </script>", "inline module of 15 bytes"),
+    ("<script type=module><!-- <script> --></script>", "inline module of 17 bytes"),
+    ("<script type=module><!-- <script> -- ></script>", ""),
+    ("<script type=module><!-- <script> </script> <script> </script> </script>", "inline module of 43 bytes"),
+    ("<script type=module><!--><script></script>", "inline module of 13 bytes"),
+    ("<script type=module><!---><script></script>", "inline module of 14 bytes"),
+    ("<script type=module><!--<script></script>", ""),
+    ("<script type=module><!-<script></script>", "inline module of 11 bytes"),
+    ("<script type=module>a", ""),
+    ("<script type=module>a</script", ""),
+    ("<script type=module>a</script x='>", ""),
+    ("<script src=a.js>", ""),
+    ("<script src=a.js/>", ""),
+    ("<script src='a.js'/><p></script>", "classic script a.js"),
+    # types of scripts
+    ("<script type='' src=a.js></script><script type src=b.js></script>", "classic script a.js / classic script b.js"),
+    ("<script type='text/javascript' src=a></script><script type=' Application/ECMAScript ' src=b></script>", "classic script a / classic script b"),
+    ("<script type='text/javascript1.5' src=a></script><script type='text/javascript1.6' src=b></script>", "classic script a"),
+    ("<script type='text/plain' src=a.js></script>", ""),
+    ("<script type='text/plain'><script src=a.js></script>", ""),
+    ("<script type='text/javascript; charset=utf-8' src=a.js></script>", ""),
+    ("<script type=' ' src=a.js></script>", ""),
+    ("<script type='\nMODULE ' src=a.js></script>", "module script a.js"),
+    ("<script type='modul&#101;' src=a.js></script>", "module script a.js"),
+    ("<script type='modules' src=a.js></script><script type=text/module src=b.js></script>", ""),
+    ("<script type=ImportMap>{ }</script><script type=importmap src=a.json></script>", "import map of 3 bytes"),
+    ("<script type=speculationrules>{}</script><script type=application/json>{}</script>", ""),
+    ("<script language=JavaScript src=a></script><script language=vbscript src=b></script>", "classic script a"),
+    ("<script language='' src=a></script><script language=vbscript type='' src=b></script>", "classic script a / classic script b"),
+    ("<script nomodule src=a.js></script><script type=module nomodule src=b.js></script>", "module script b.js"),
+    # stylesheets
+    ("<link rel='icon stylesheet' href=a.css>", "stylesheet a.css"),
+    ("<link rel='\tSTYLESHEET\n' href=a.css>", "stylesheet a.css"),
+    ("<LINK HREF=a.css REL=StyleSheet>", "stylesheet a.css"),
+    ("<link rel=stylesheets href=a.css><link rel=style-sheet href=b.css>", ""),
+    ("<link rel='alternate stylesheet' href=a.css><link rel='stylesheet Alternate' href=b.css>", ""),
+    ("<link rel=stylesheet disabled href=a.css>", ""),
+    ("<link rel=stylesheet href=a.css media=print>", "stylesheet a.css"),
+    ("<link rel=stylesheet type=text/css href=a.css><link rel=stylesheet type='text/css; charset=utf-8' href=b.css>", "stylesheet a.css / stylesheet b.css"),
+    ("<link rel=stylesheet type=text/less href=a.less><link rel=stylesheet type='' href=b.css>", "stylesheet b.css"),
+    ("<link rel=preload as=style href=a.css><link rel=modulepreload href=b.js><link href=c.css>", ""),
+    ("<link rel=stylesheet href=a.css />", "stylesheet a.css"),
+    ("<link rel=stylesheet href=a.css/>", "stylesheet a.css/"),
+    ("<body><p><link rel=stylesheet href=a.css>", "stylesheet a.css"),
+    ("<link rel=stylesheet href=a.css", ""),
+    # character references
+    ("<script src='a?b&amp;c'></script>", "classic script a?b&c"),
+    ("<script src='&lt;&gt;&quot;&apos;'></script>", "classic script <>\"'"),
+    ("<script src='&#97;&#x62;&#X63;&#100'></script>", "classic script abcd"),
+    ("<script src='&#x20AC;&#128;&#x1F600;'></script>", "classic script \u20ac\u20ac\U0001f600"),
+    ("<script src='&#0;&#xD800;&#x110000;&#99999999999;'></script>", "classic script \ufffd\ufffd\ufffd\ufffd"),
+    ("<script src='&#;&#x;&#xg;&;&'></script>", "classic script &#;&#x;&#xg;&;&"),
+    ("<script src=a?b=1&c=2&copy=3></script>", "classic script a?b=1&c=2&copy=3"),
+    ("<script src='&amp;amp;&amp'></script>", "classic script &amp;&amp"),
+    # templates
+    ("<template><script src=a.js></script></template><script src=b.js></script>", "classic script b.js"),
+    ("<template><template></template><link rel=stylesheet href=a></template><link rel=stylesheet href=b>", "stylesheet b"),
+    ("</template><script src=a.js></script>", "classic script a.js"),
+    ("<template/><script src=a.js></script>", ""),
+    ("<template><style><script></style></template><script src=a.js></script>", "classic script a.js"),
+    # svg and math
+    ("<svg><title>a</title><style>b{}</style></svg><script src=a.js></script>", "classic script a.js"),
+    ("<svg><script href=a.js></script><link rel=stylesheet href=b></svg>", ""),
+    ("<svg><style><p></style><script src=a.js></script>", "classic script a.js"),
+    ("<svg><title></svg><script src=a.js></script>", "classic script a.js"),
+    ("<svg><![CDATA[ </svg><script src=a.js></script> ]]></svg><script src=b.js></script>", "classic script b.js"),
+    ("<svg><![CDATA[ > ]]]></svg><script src=a.js></script>", "classic script a.js"),
+    ("<svg/><script src=a.js></script>", "classic script a.js"),
+    ("<svg><svg></svg><script src=a.js></script></svg><script src=b.js></script>", "classic script b.js"),
+    ("<svg><path/><svg/></svg><script src=a.js></script>", "classic script a.js"),
+    ("<svg><circle><div><script src=a.js></script>", "classic script a.js"),
+    ("<svg><foreignObject><div><script src=a.js></script></div></foreignObject></svg>", "classic script a.js"),
+    ("<math><mi>a</mi><title></math><script src=a.js></script>", "classic script a.js"),
+    ("<svg><math></math></svg><script src=a.js></script>", "classic script a.js"),
+    # other
+    ("<base href=/b/><script src=a.js></script>", "classic script a.js"),
+    ("\ufeff<script src=a.js></script>", "classic script a.js"),
+    ("<!doctype html>\r\n<html>\r\n<head>\r\n<script\r\nsrc=a.js\r\n></script>\r\n</head>\r\n", "classic script a.js"),
+    (b"<script src='a\xff.js'></script>\xfe\x00<script src=b.js></script>", b"classic script a\xff.js / classic script b.js"),
+    ("", ""),
+    ("<", ""),
+    ("<!", ""),
+    ("<!-", ""),
+    ("<!--", ""),
+    ("</", ""),
+    ("<a", ""),
+]
+
+HEADS = [
+    ("", "1:1"),
+    ("<p>", "1:1"),
+    ("\ufeff<p>", "1:4"),
+    ("<!doctype html><p>", "1:16"),
+    ("<!DOCTYPE html>\n<html lang=en>\n<p>", "2:15"),
+    ("<!doctype html><html><head><title>a</title>", "1:28"),
+    ("<html><HEAD class='>'>", "1:23"),
+    ("<head><head>", "1:7"),
+    ("<header><head>", "1:1"),
+    ("<!-- <head> --><head>", "1:22"),
+    ("<!doctype html><!-- a --><script src=a.js></script><head>", "1:16"),
+    ("<html><script></script><head>", "1:7"),
+    ("<html><title><head></title><head>", "1:7"),
+    ("<html title='<head>'>", "1:22"),
+    ("<html><!doctype html>", "1:7"),
+    ("<!doctype html", "1:1"),
+    ("<html><head", "1:7"),
+    ("<!doctype html>\r\n\r\n<head>\r\n", "3:7"),
+    ("a <b><head>", "1:1"),
+    ("a</b><html></head><head>", "1:25"),
+    ("<html><html><body>", "1:7"),
+    ("<![if a]><!x><?y?><!doctype html>a", "1:34"),
+]
+
+PLACES = [
+    (
+        "<!doctype html>\n<head>\n  <script type=module>\n  </script>\n  <link rel=stylesheet href=a.css></head>\n<script src=b.js></script>\n",
+        ["3:3 inline module of 3 bytes", "5:3 stylesheet a.css", "6:1 classic script b.js", "2:7 a first script goes here"],
+    ),
+    ("\ufeff<script src=a.js></script>", ["1:4 classic script a.js", "1:4 a first script goes here"]),
+    ("\u00e9\n\u00e9<script src=a.js></script>", ["2:3 classic script a.js", "1:1 a first script goes here"]),
+]
+
+
+def pattern(told):
+    """The pattern of an output that has these lines, without their places."""
+    lines = told.split(b" / ") if told else []
+    return re.compile(b"".join(rb"\d+:\d+ " + re.escape(line) + b"\n" for line in lines) + rb"\d+:\d+ a first script goes here\n")
+
+
+def runs():
+    for text, told in FOUND:
+        yield Run(["--page"], encoded(text), 0, pattern(encoded(told)))
+    for text, place in HEADS:
+        yield Run(["--page"], encoded(text), 0, encoded(place + " a first script goes here\n"), is_end=True)
+    for text, told in PLACES:
+        yield Run(["--page"], encoded(text), 0, encoded("".join(line + "\n" for line in told)))
