@@ -7,8 +7,8 @@
 # es_scan and skeletons, which is proved before it is built, in a copy of the crates, reads them once and scans each 20
 # times; es-module-lexer does the same, where Node finds it (NODE_PATH says where to look). What is told is processor time
 # in user mode, the best of five runs, less that of a run that scans none. Then one text of 1, 2 and 5 MB, made of these
-# files, for how the time grows, and the peak of memory beside the bytes; and instructions per byte, where valgrind is
-# installed. PROGRAM, where one is given, is that small program, built before.
+# files, for how the time grows, and the peak of memory beside the bytes, less that of a short text; and instructions per
+# byte, where valgrind is installed. PROGRAM, where one is given, is that small program, built before.
 set -eu
 source "$(dirname "${BASH_SOURCE[0]}")/small_program.sh"
 
@@ -23,9 +23,8 @@ if [ -z "$program" ]; then
 mod runs;
 
 use runs::{scanned, skeletons_of};
-use std::env;
-use std::fs;
-use std::io::{self};
+use std::io;
+use std::{env, fs};
 
 fn main(rt: HostRuntime) -> io::Result<()> {
     let alloc = rt.alloc();
@@ -37,17 +36,18 @@ fn main(rt: HostRuntime) -> io::Result<()> {
     let Ok(runs) = runs.parse::<u32>() else {
         return Ok(());
     };
-    let mut count = 0;
+    let mut count: u64 = 0;
     for name in words {
         let text = fs::read(&rt, name.as_str())?;
         if text.len() >= 4_000_000_000 {
             return Ok(());
         }
-        count += if what.as_str() == "scan" {
+        let found = if what.as_str() == "scan" {
             scanned(alloc, &text, runs)
         } else {
             skeletons_of(alloc, &text, runs)
         };
+        count = found.saturating_add(count);
     }
     println!(out; "{count}")?;
     Ok(())
@@ -135,16 +135,23 @@ else
   echo 'es-module-lexer is not installed'
 fi
 
+# peak FILE: the peak of memory of one scan of a file, in bytes.
+peak() {
+  python3 -c 'import resource, subprocess, sys
+subprocess.run(sys.argv[1:], stdout=subprocess.DEVNULL)
+print(resource.getrusage(resource.RUSAGE_CHILDREN).ru_maxrss * 1024)' "$program" scan 1 "$1"
+}
+
+echo ';' > "$work/short.js"
+least=$(peak "$work/short.js")
 for megabytes in 1 2 5; do
   for file in "${files[@]}"; do
     echo '{'; cat "$file"; echo '}'
   done 2> /dev/null | head -c "${megabytes}000000" > "$work/long.js"
-  seconds=$(user "$program" scan $runs "$work/long.js")
-  peak=$(/usr/bin/env python3 -c 'import resource, subprocess, sys
-subprocess.run(sys.argv[1:], stdout=subprocess.DEVNULL)
-print(resource.getrusage(resource.RUSAGE_CHILDREN).ru_maxrss * 1024)' "$program" scan 1 "$work/long.js")
-  awk -v m="$megabytes" -v s="$seconds" -v r="$runs" -v p="$peak" \
-    'BEGIN { printf "%d MB: %.2f ms a scan, peak %.2f times the text\n", m, s * 1000 / r, p / (m * 1e6) }'
+  seconds=$(user "$program" scan 200 "$work/long.js")
+  awk -v m="$megabytes" -v s="$seconds" -v p="$(peak "$work/long.js")" -v l="$least" 'BEGIN {
+    printf "%d MB: %.2f ms a scan, peak %.2f times the text beside that of a short one\n", m, s * 1000 / 200, (p - l) / (m * 1e6)
+  }'
 done
 
 if command -v valgrind > /dev/null; then
