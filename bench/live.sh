@@ -100,6 +100,7 @@ def measure_idle(count):
         over = time.monotonic() + 62
 
         def ask(page):
+            page.socket.stream.settimeout(60)  # an ask waits for 25 seconds
             while time.monotonic() < over:
                 page.ask({"type": "ask"})
 
@@ -125,6 +126,7 @@ def measure_memory():
 
 def lives(page, over, updates):
     """A page that goes on asking until it is over and nothing is left to take."""
+    page.socket.stream.settimeout(60)  # an ask waits for 25 seconds
     while True:
         answer = page.ask({"type": "ask"})
         if answer["type"] == "update":
@@ -168,7 +170,9 @@ def soak(minutes):
             fresh = live.Page(server.port).load()
             same = sum(page.table == fresh.table for page in pages[1:])
             counts = [sum(kind in ("update", "full-reload") for kind in each) for each in told]
-        steps = int(live.verdict(record.read_bytes()).split()[2])
+        with open(record, "rb") as data:
+            said = subprocess.run([f"{top}/hmr", "audit"], stdin=data, stdout=subprocess.PIPE, text=True).stdout
+        steps = int(said.split()[2])
         print(f"soak, {minutes} minutes, 32 pages, a save a second: {up} of 32 pages up at the end, {same} of 31 tables that of "
               f"a fresh load, {min(counts)} to {max(counts)} updates and loads of a page")
         print(f"memory: {first / 1024:.1f} MiB before, {last / 1024:.1f} after; the transcript has {steps} entries, at 64 bytes "
