@@ -7,8 +7,8 @@
 # es_scan and skeletons, which is proved before it is built, in a copy of the crates, reads them once and scans each 20
 # times; es-module-lexer does the same, where Node finds it (NODE_PATH says where to look). What is told is processor time
 # in user mode, the best of five runs, less that of a run that scans none. Then one text of 1, 2 and 5 MB, made of these
-# files, for how the time grows, and the peak of memory beside the bytes, less that of a short text; and instructions per
-# byte, where valgrind is installed. PROGRAM, where one is given, is that small program, built before.
+# files, for how the time grows, one of 40 MB for the peak of memory, and instructions per byte, where valgrind is
+# installed. PROGRAM, where one is given, is that small program, built before.
 set -eu
 source "$(dirname "${BASH_SOURCE[0]}")/small_program.sh"
 
@@ -135,24 +135,20 @@ else
   echo 'es-module-lexer is not installed'
 fi
 
-# peak FILE: the peak of memory of one scan of a file, in bytes.
-peak() {
-  python3 -c 'import resource, subprocess, sys
-subprocess.run(sys.argv[1:], stdout=subprocess.DEVNULL)
-print(resource.getrusage(resource.RUSAGE_CHILDREN).ru_maxrss * 1024)' "$program" scan 1 "$1"
-}
-
-echo ';' > "$work/short.js"
-least=$(peak "$work/short.js")
 for megabytes in 1 2 5; do
   for file in "${files[@]}"; do
     echo '{'; cat "$file"; echo '}'
   done 2> /dev/null | head -c "${megabytes}000000" > "$work/long.js"
   seconds=$(user "$program" scan 200 "$work/long.js")
-  awk -v m="$megabytes" -v s="$seconds" -v p="$(peak "$work/long.js")" -v l="$least" 'BEGIN {
-    printf "%d MB: %.2f ms a scan, peak %.2f times the text beside that of a short one\n", m, s * 1000 / 200, (p - l) / (m * 1e6)
-  }'
+  awk -v m="$megabytes" -v s="$seconds" 'BEGIN { printf "%d MB: %.2f ms a scan\n", m, s * 1000 / 200 }'
 done
+
+# The peak of memory, which is at least that of the Python that begins the program, so of a long text.
+for at in 1 2 3 4 5 6 7 8; do cat "$work/long.js"; done > "$work/longer.js"
+python3 -c 'import resource, subprocess, sys
+subprocess.run(sys.argv[1:], stdout=subprocess.DEVNULL)
+print("40 MB: peak %.2f times the text" % (resource.getrusage(resource.RUSAGE_CHILDREN).ru_maxrss * 1024 / 40e6))' \
+  "$program" scan 1 "$work/longer.js"
 
 if command -v valgrind > /dev/null; then
   for what in scan skeleton; do
