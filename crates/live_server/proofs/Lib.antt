@@ -5,3 +5,6 @@ pub mod Outs
 pub mod Crews
 pub mod Editing
 pub mod Events
+pub mod Passes
+pub mod Editors
+pub mod Serving

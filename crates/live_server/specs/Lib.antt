@@ -1,3 +1,6 @@
 pub mod Attendants
 pub mod Outs
 pub mod Crews
+pub mod Editors
+pub mod Splits
+pub mod Serving

@@ -6,9 +6,11 @@ ghost use Rattle.jobs.specs.Begun.{most_starts};
 ghost use Rattle.transform_pool.specs.Passes as queues;
 ghost use Rattle.transform_pool.specs.Passes.{role_of};
 ghost use Rattle.transform_pool.specs.Roles.{taking};
-ghost use Rattle.hmr_hub.specs.Passes.{IsPassOf, hub_mark, number_of};
+ghost use Rattle.hmr_hub.specs.Passes.{IsPassOf, hub_mark};
 ghost use Rattle.live_server.specs.Crews.{HasPlace, HasRoom, IsCrew};
 ghost use Rattle.live_server.specs.Outs.{JobOf};
+ghost use Rattle.live_server.specs.Serving.{passes_due};
+ghost use Rattle.live_server.specs.Splits.{Divided};
 
 use crate::attendant::HubAttendant;
 use crate::job::{LiveDoor, LiveJob, LiveOut, LiveWorker};
@@ -50,6 +52,7 @@ where
     pub(crate) fn new(alloc: Global, hub: Arc<Hub, Global>) -> Self
         ensures hub { result.hub ≡ hub }
         ensures crew { IsCrew ⟦<E::Door as Door>⟧ (arc_value result.hub) result.running result.passes }
+        ensures none { passes_due result.running result.passes ≡ 0 }
     {
         Crew {
             hub,
@@ -78,8 +81,10 @@ where
         ensures hub { self.new.hub ≡ self.old.hub }
         ensures crew { IsCrew ⟦<E::Door as Door>⟧ (arc_value self.new.hub) self.new.running self.new.passes }
         ensures of { IsPassOf (arc_value self.new.hub) pass.new }
-        ensures number { number_of pass.new ≡ number_of pass.old }
+        ensures divided { Divided pass.old pass.new }
         ensures few { sum (P.begun spawner.new) ≤ sum (P.begun spawner.old) + length takers.items }
+        ensures due { sum (P.begun spawner.new) + passes_due self.old.running self.old.passes
+            ≤ sum (P.begun spawner.old) + passes_due self.new.running self.new.passes }
         ensures shut { E.is_shut entrance.new ≡ E.is_shut entrance.old }
     {
         while let Some(jobs) = takers.pop() {
@@ -108,8 +113,10 @@ where
         ensures hub { self.new.hub ≡ self.old.hub }
         ensures crew { IsCrew ⟦<E::Door as Door>⟧ (arc_value self.new.hub) self.new.running self.new.passes }
         ensures of { IsPassOf (arc_value self.new.hub) pass.new }
-        ensures number { number_of pass.new ≡ number_of pass.old }
+        ensures divided { Divided pass.old pass.new }
         ensures few { sum (P.begun spawner.new) ≤ sum (P.begun spawner.old) + 1 }
+        ensures due { sum (P.begun spawner.new) + passes_due self.old.running self.old.passes
+            ≤ sum (P.begun spawner.old) + passes_due self.new.running self.new.passes }
         ensures shut { E.is_shut entrance.new ≡ E.is_shut entrance.old }
     {
         let queue = Arc::try_clone(queue)?;
@@ -142,7 +149,9 @@ where
         ensures hub { self.new.hub ≡ self.old.hub }
         ensures crew { IsCrew ⟦<E::Door as Door>⟧ (arc_value self.new.hub) self.new.running self.new.passes }
         ensures of { IsPassOf (arc_value self.new.hub) pass.new }
-        ensures number { number_of pass.new ≡ number_of pass.old }
+        ensures divided { Divided pass.old pass.new }
+        ensures due { sum (P.begun spawner.new) + passes_due self.old.running self.old.passes
+            ≤ sum (P.begun spawner.old) + passes_due self.new.running self.new.passes }
     {
         for _ in 0..doors {
             self.begin_door(rt, alloc, pass, entrance, spawner, shared)?;
@@ -167,8 +176,10 @@ where
         ensures hub { self.new.hub ≡ self.old.hub }
         ensures crew { IsCrew ⟦<E::Door as Door>⟧ (arc_value self.new.hub) self.new.running self.new.passes }
         ensures of { IsPassOf (arc_value self.new.hub) pass.new }
-        ensures number { number_of pass.new ≡ number_of pass.old }
+        ensures divided { Divided pass.old pass.new }
         ensures few { sum (P.begun spawner.new) ≤ sum (P.begun spawner.old) + 1 }
+        ensures due { sum (P.begun spawner.new) + passes_due self.old.running self.old.passes
+            ≤ sum (P.begun spawner.old) + passes_due self.new.running self.new.passes }
         ensures going { E.is_shut entrance.new ≡ false }
     {
         let own = shared.again()?;
@@ -195,8 +206,9 @@ where
         ensures place { OnOk result (HasPlace self.new.running self.new.passes) }
         ensures running { self.new.running.items ≡ self.old.running.items }
         ensures passes { self.new.passes.items ≡ self.old.passes.items }
+        ensures due { passes_due self.new.running self.new.passes ≡ passes_due self.old.running self.old.passes }
         ensures of { IsPassOf (arc_value self.new.hub) pass.new }
-        ensures number { number_of pass.new ≡ number_of pass.old }
+        ensures divided { Divided pass.old pass.new }
         ensures own { IfOk result (λ made. arc_value made.0 ≡ arc_value self.new.hub) }
         ensures half { IfOk result (λ made. IsPassOf (arc_value self.new.hub) made.1) }
     {
@@ -223,6 +235,8 @@ where
         ensures hub { self.new.hub ≡ self.old.hub }
         ensures crew { IsCrew ⟦<E::Door as Door>⟧ (arc_value self.new.hub) self.new.running self.new.passes }
         ensures few { sum (P.begun spawner.new) ≤ sum (P.begun spawner.old) + 1 }
+        ensures due { sum (P.begun spawner.new) + passes_due self.old.running self.old.passes
+            ≤ sum (P.begun spawner.old) + passes_due self.new.running self.new.passes }
         ensures shut { E.is_shut entrance.new ≡ E.is_shut entrance.old }
     {
         match start(rt, alloc, spawner, job) {

@@ -1,12 +1,17 @@
 // Who makes the edits that a folder brings.
-ghost use Rattle.std.specs.Prelude.{◌≡◌, true};
+ghost use Rattle.std.specs.Prelude.{◌≡◌, [], List, true};
 ghost use Rattle.std.specs.Arc.{arc_value};
 ghost use Rattle.std.specs.Option.{ForSome};
 ghost use Rattle.hmr_types.specs.ModName.{is_name};
 ghost use Rattle.live_folder.specs.Texts.{IsShort};
 ghost use Rattle.transform_pool.specs.Passes as pool;
 ghost use Rattle.transform_pool.specs.Roles.{putting};
-ghost use Rattle.hmr_hub.specs.Passes.{IsPassOf, number_of};
+ghost use Rattle.hmr_hub.specs.Calls.{SameKnower};
+ghost use Rattle.hmr_hub.specs.Passes.{HasTranscript, IsPassOf, number_of};
+ghost use Rattle.hmr_hub.specs.declared.pass.Pass.{Pass};
+ghost use Rattle.hub_editor.specs.Edits.{Made};
+ghost use Rattle.hub_editor.specs.Editing.{Edited, made_by};
+ghost use Rattle.live_server.specs.Editors.{GoesOn};
 
 use crate::known::{Known, text_of};
 use crate::live_editor::LiveEditor;
@@ -43,6 +48,8 @@ impl LiveEditor {
         requires of_queue { pool.IsPassOf (arc_value queue) jobs }
         requires puts { pool.role_of jobs ≡ putting }
         ensures hub { result.hub ≡ hub }
+        ensures pass { result.pass ≡ pass }
+        ensures none { made_by result.editor ≡ [] }
     {
         LiveEditor {
             hub,
@@ -62,7 +69,7 @@ impl LiveEditor {
         known: &mut Known,
         look: Look,
     ) -> Option<LiveEnd>
-        ensures hub { self.new.hub ≡ self.old.hub }
+        ensures goes { GoesOn self.old self.new }
     {
         let Look {
             changes,
@@ -85,7 +92,7 @@ impl LiveEditor {
         known: &mut Known,
         changes: Vec<Change>,
     ) -> Option<LiveEnd>
-        ensures hub { self.new.hub ≡ self.old.hub }
+        ensures goes { GoesOn self.old self.new }
     {
         let before = known.counted();
         for change in changes {
@@ -108,7 +115,7 @@ impl LiveEditor {
         known: &mut Known,
         change: Change,
     ) -> Option<LiveEnd>
-        ensures hub { self.new.hub ≡ self.old.hub }
+        ensures goes { GoesOn self.old self.new }
     {
         let (name, text) = change.into_parts();
         if known.has(&name, &text) {
@@ -133,7 +140,7 @@ impl LiveEditor {
     ) -> Result<(), EditStop>
         requires name { is_name name ≡ true }
         requires short { ForSome text IsShort }
-        ensures hub { self.new.hub ≡ self.old.hub }
+        ensures goes { GoesOn self.old self.new }
     {
         self.editor.edit(
             rt,
@@ -151,6 +158,10 @@ impl LiveEditor {
     /// gives the pass. It waits.
     pub fn close<R: Wait>(self, rt: &R, alloc: Global) -> Pass
         ensures of { IsPassOf (arc_value self.hub) result }
+        ensures same { SameKnower self.pass result }
+        ensures transcript { HasTranscript self.pass → HasTranscript result }
+        ensures edited { (p : Pass) → Edited p self.pass (made_by self.editor)
+            → (made : List Made) × Edited p result made }
     {
         let LiveEditor {
             hub,

@@ -1,7 +1,9 @@
 // The end of a live server: the passes of its jobs become one, whose transcript is recorded.
-ghost use Rattle.std.specs.Prelude.{All};
+ghost use Rattle.std.specs.Prelude.{◌≡◌, All};
 ghost use Rattle.core_model.specs.Roots.{AreRoots};
-ghost use Rattle.hmr_hub.specs.Passes.{IsPassOf};
+ghost use Rattle.hmr_hub.specs.Passes.{IsPassOf, roots_of};
+ghost use Rattle.hub_moves.specs.Moves.{KnowsOwn};
+ghost use Rattle.live_server.specs.Serving.{HasJoined, HasRecord};
 
 use crate::recording::put_record;
 use hmr_hub::{Hub, Pass};
@@ -22,12 +24,19 @@ pub(crate) fn wind_up_all<R: Wait>(
     recorded: bool,
 ) -> Option<Vec<u8>>
     requires of { IsPassOf hub.now pass.old }
+    requires knows { KnowsOwn pass.old }
     requires each_of { All (IsPassOf hub.now) passes.items }
     requires are_roots { AreRoots roots.now }
+    requires roots { roots_of pass.old ≡ roots.now }
+    ensures joined { HasJoined passes.items pass.old pass.new }
+    ensures recorded { HasRecord recorded pass.new result }
 {
     let _report = wind_up(rt, hub, pass, passes, Vec::new(alloc));
     if !recorded {
         return None;
     }
-    put_record(rt, alloc, hub, pass, roots).ok()
+    match put_record(rt, alloc, hub, pass, roots) {
+        Ok(record) => Some(record),
+        Err(_) => None,
+    }
 }

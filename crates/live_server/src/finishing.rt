@@ -1,9 +1,10 @@
 // The end of a crew: each job is waited for, and what it leaves is taken in.
-ghost use Rattle.std.specs.Prelude.{◌≡◌, ◌≤◌, ◌<◌, ◌+◌, vec_capacity, vec_len};
+ghost use Rattle.std.specs.Prelude.{◌≡◌, ◌≤◌, ◌<◌, ◌+◌, length, vec_capacity, vec_len};
 ghost use Rattle.std.specs.List.{All};
 ghost use Rattle.std.specs.Arc.{arc_value};
 ghost use Rattle.hmr_hub.specs.Passes.{IsPassOf};
 ghost use Rattle.live_server.specs.Crews.{HasRoom, IsCrew, RunsOn, TakenIn};
+ghost use Rattle.live_server.specs.Serving.{passes_due};
 
 use crate::crew::Crew;
 use crate::job::LiveJob;
@@ -34,6 +35,8 @@ where
     ) -> Vec<Pass>
         requires crew { IsCrew ⟦<E::Door as Door>⟧ (arc_value self.hub) self.running self.passes }
         ensures of { All (IsPassOf (arc_value self.hub)) result.items }
+        ensures due { length result.items ≡ passes_due self.running self.passes }
+        ensures begun { P.begun spawner.new ≡ P.begun spawner.old }
         ensures shut { E.is_shut entrance.new ≡ E.is_shut entrance.old }
     {
         let Crew {
@@ -61,6 +64,8 @@ where
     requires room { HasRoom running passes.old }
     requires of { All (IsPassOf hub.now) passes.old.items }
     ensures of { All (IsPassOf hub.now) passes.new.items }
+    ensures due { length passes.new.items ≡ passes_due running passes.old }
+    ensures begun { P.begun spawner.new ≡ P.begun spawner.old }
     ensures shut { E.is_shut entrance.new ≡ E.is_shut entrance.old }
 {
     while let Some(job) = running.pop() {
@@ -82,6 +87,7 @@ where
     requires runs { RunsOn ⟦<E::Door as Door>⟧ hub.now running }
     requires room { vec_len passes.old < vec_capacity passes.old }
     ensures taken { TakenIn hub.now passes.old passes.new }
+    ensures begun { P.begun spawner.new ≡ P.begun spawner.old }
     ensures shut { E.is_shut entrance.new ≡ E.is_shut entrance.old }
 {
     let out = finish(rt, spawner, running);

@@ -1,15 +1,19 @@
 // The record of a hub's transcript.
+ghost use Rattle.std.specs.Prelude.{◌≡◌, IfOk};
 ghost use Rattle.core_model.specs.Roots.{AreRoots};
-ghost use Rattle.hmr_hub.specs.Passes.{IsPassOf};
+ghost use Rattle.hmr_hub.specs.Calls.{Looked, SameKnower};
+ghost use Rattle.hmr_hub.specs.Passes.{HasTranscript, IsPassOf, roots_of};
+ghost use Rattle.live_server.specs.Serving.{IsRecordOf};
 
 use hmr_hub::{Hub, Pass};
 use hmr_types::ModName;
 use std::alloc::{AllocError, Global};
 use std::sync::Wait;
 use transcript_check::write_record;
+use written_records::records_are_confirmed;
 
-/// The record of all that the pass has then seen, on a hub of these roots. It waits for the turn, and takes
-/// time and memory in proportion to the names and texts of all entries.
+/// The record of all that the pass has then seen, on a hub of these roots, of which the check of records says
+/// yes. It waits for the turn, and takes time and memory in proportion to the names and texts of all entries.
 pub(crate) fn put_record<R: Wait>(
     rt: &R,
     alloc: Global,
@@ -19,7 +23,13 @@ pub(crate) fn put_record<R: Wait>(
 ) -> Result<Vec<u8>, AllocError>
     requires of { IsPassOf hub.now pass.old }
     requires are_roots { AreRoots roots.now }
+    requires roots { roots_of pass.old ≡ roots.now }
+    ensures same { SameKnower pass.old pass.new }
+    ensures looked { Looked pass.old pass.new }
+    ensures transcript { HasTranscript pass.new }
+    ensures record_is { IfOk result (λ bytes. IsRecordOf pass.new bytes.items) }
 {
     let events = hub.events(rt, pass)?;
+    records_are_confirmed(roots, &events);
     write_record(alloc, roots, &events)
 }

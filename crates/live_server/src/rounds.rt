@@ -1,5 +1,5 @@
 // The folder is looked at again and again, and in between news are told and keys heard.
-ghost use Rattle.std.specs.Prelude.{◌≡◌};
+ghost use Rattle.live_server.specs.Editors.{GoesOn};
 
 use crate::editor::wait_for_results;
 use crate::known::Known;
@@ -35,7 +35,7 @@ pub(crate) fn run_rounds<R: Wait + Clock, W: Watched, F: Drop, T: Terminal>(
     shared: &Shared<F>,
     terminal: &mut T,
 ) -> LiveEnd
-    ensures hub { editor.new.hub ≡ editor.old.hub }
+    ensures goes { GoesOn editor.old editor.new }
 {
     let mut known = Known::new(alloc);
     if let Some(end) = look_once(rt, alloc, editor, &mut known, watched, shared) {
@@ -73,7 +73,7 @@ fn run_round<R: Wait + Clock, W: Watched, F: Drop, T: Terminal>(
     shared: &Shared<F>,
     terminal: &mut T,
 ) -> Option<LiveEnd>
-    ensures hub { editor.new.hub ≡ editor.old.hub }
+    ensures goes { GoesOn editor.old editor.new }
 {
     let start = Instant::now(rt);
     let ended = look_once(rt, alloc, editor, known, watched, shared);
@@ -92,7 +92,7 @@ fn look_once<R: Wait, W: Watched, F: Drop>(
     watched: &mut W,
     shared: &Shared<F>,
 ) -> Option<LiveEnd>
-    ensures hub { editor.new.hub ≡ editor.old.hub }
+    ensures goes { GoesOn editor.old editor.new }
 {
     let Ok(look) = watched.look(alloc) else {
         return None;

@@ -1,14 +1,19 @@
 // The whole of a live server: its hub is made, jobs are begun, the folder is looked at until the end, and all
 // is wound up.
-ghost use Rattle.std.specs.Prelude.{◌≡◌, ◌≤◌, All, IfOk, OnOk, false, length, true};
+ghost use Rattle.std.specs.Prelude.{◌≡◌, ◌≤◌, ◌+◌, All, IfOk, OnOk, false, length, sum, true};
 ghost use Rattle.std.specs.Arc.{arc_value};
 ghost use Rattle.core_model.specs.Roots.{AreRoots};
 ghost use Rattle.jobs.specs.Begun.{none_begun};
 ghost use Rattle.transform_pool.specs.Passes as queues;
 ghost use Rattle.transform_pool.specs.Passes.{role_of};
 ghost use Rattle.transform_pool.specs.Roles.{putting, taking};
-ghost use Rattle.hmr_hub.specs.Passes.{IsPassOf, number_of};
+ghost use Rattle.hmr_hub.specs.Calls.{IsFirst};
+ghost use Rattle.hmr_hub.specs.Passes.{HasTranscript, IsPassOf};
+ghost use Rattle.hmr_hub.specs.declared.pass.Pass.{Pass};
 ghost use Rattle.live_server.specs.Crews.{IsCrew};
+ghost use Rattle.live_server.specs.Editors.{GoesOn};
+ghost use Rattle.live_server.specs.Serving.{HasRecord, Served, passes_due};
+ghost use Rattle.live_server.specs.Splits.{Divided};
 
 use crate::crew::Crew;
 use crate::ending::wind_up_all;
@@ -70,6 +75,8 @@ where
     requires none_begun { P.begun spawner.old ≡ none_begun }
     requires going { E.is_shut entrance.old ≡ false }
     ensures shut { OnOk result (E.is_shut entrance.new ≡ true) }
+    ensures served { IfOk result (λ report. (p : Pass) × Served roots.now (P.begun spawner.new) p
+        × HasRecord plan.now.recorded p report.record) }
 {
     let shown = copy_of(alloc, roots)?;
     let site = Site {
@@ -111,7 +118,8 @@ where
 fn new_hub(alloc: Global, roots: Vec<ModName>) -> Result<(Hub, Pass), AllocError>
     requires roots { AreRoots roots.items }
     ensures pass { IfOk result (λ made. IsPassOf made.0 made.1) }
-    ensures number { IfOk result (λ made. number_of made.1 ≡ 0) }
+    ensures first { IfOk result (λ made. IsFirst roots.items made.1) }
+    ensures transcript { IfOk result (λ made. HasTranscript made.1) }
 {
     match Hub::new(alloc, roots) {
         Ok(made) => Ok(made),
@@ -152,9 +160,10 @@ where
     <E::Door as Door>::End: Send + 'static,
     requires roots { AreRoots roots.now }
     requires of { IsPassOf hub.now pass }
-    requires number { number_of pass ≡ 0 }
+    requires first { IsFirst roots.now pass }
     requires hubs { (arc_value editor_hub ≡ hub.now) × (arc_value crew.hub ≡ hub.now) }
     requires crew { IsCrew ⟦<E::Door as Door>⟧ (arc_value crew.hub) crew.running crew.passes }
+    requires none { passes_due crew.running crew.passes ≡ 0 }
     requires queues { arc_value editor_queue ≡ arc_value queue.now }
     requires of_queue { queues.IsPassOf (arc_value queue.now) jobs }
     requires puts { role_of jobs ≡ putting }
@@ -164,6 +173,8 @@ where
     requires none_begun { P.begun spawner.old ≡ none_begun }
     requires going { E.is_shut entrance.old ≡ false }
     ensures shut { E.is_shut entrance.new ≡ true }
+    ensures served { (p : Pass) × Served roots.now (P.begun spawner.new) p
+        × HasRecord plan.now.recorded p result.record }
 {
     let begun = begin(
         rt, alloc, plan, &mut crew, &mut pass, entrance, spawner, shared, queue, takers,
@@ -210,7 +221,9 @@ where
     ensures hub { crew.new.hub ≡ crew.old.hub }
     ensures crew { IsCrew ⟦<E::Door as Door>⟧ (arc_value crew.new.hub) crew.new.running crew.new.passes }
     ensures of { IsPassOf (arc_value crew.new.hub) pass.new }
-    ensures number { number_of pass.new ≡ number_of pass.old }
+    ensures divided { Divided pass.old pass.new }
+    ensures due { sum (P.begun spawner.new) + passes_due crew.old.running crew.old.passes
+        ≤ sum (P.begun spawner.old) + passes_due crew.new.running crew.new.passes }
 {
     crew.begin_workers(rt, alloc, pass, entrance, spawner, shared, queue, takers)?;
     let doors = (plan.doors as usize)
@@ -229,7 +242,7 @@ fn run_to_end<R: Wait + Clock, W: Watched, F: Drop, T: Terminal>(
     terminal: &mut T,
     begun: Result<(), LiveEnd>,
 ) -> LiveEnd
-    ensures hub { editor.new.hub ≡ editor.old.hub }
+    ensures goes { GoesOn editor.old editor.new }
 {
     match begun {
         Ok(()) => run_rounds(rt, alloc, editor, watched, shared, terminal),

@@ -3,6 +3,7 @@ use Rattle.std.specs.Prelude.{vec_len}
 use Rattle.std.specs.List.{All}
 use Rattle.hmr_hub.specs.Passes.{IsPassOf}
 use Rattle.live_server.specs.Crews.{HasRoom, RunsOn}
+use Rattle.live_server.specs.Serving.{passes_due}
 use Rattle.live_server.proofs.finishing.finish_jobs.Given as goal
 
 -- those that are left run on, and there is room for what they leave
@@ -11,6 +12,8 @@ invariant-loop-job g l = record {
   jobs : All (RunsOn g.E.Door.Door l.hub) l.running.items;
   room : HasRoom l.running l.passes;
   of : All (IsPassOf l.hub) l.passes.items;
+  due : passes_due l.running l.passes ≡ passes_due l.fn.running l.fn.passes;
+  begun : g.P.Spawner.begun l.spawner ≡ g.P.Spawner.begun l.fn.spawner;
   shut : g.E.Entrance.is_shut l.entrance ≡ g.E.Entrance.is_shut l.fn.entrance;
 }
 

@@ -1,7 +1,9 @@
 use Rattle.std.proofs.Common.{◌≡◌, ◌≤◌, ◌+◌, false, sum}
 use Rattle.std.specs.Arc.{arc_value}
-use Rattle.hmr_hub.specs.Passes.{IsPassOf, number_of}
+use Rattle.hmr_hub.specs.Passes.{IsPassOf}
 use Rattle.live_server.specs.Crews.{IsCrew}
+use Rattle.live_server.specs.Serving.{passes_due}
+use Rattle.live_server.specs.Splits.{Divided}
 use Rattle.live_server.proofs.crew.Crew.begin_doors.Given as goal
 
 -- so many doors were begun
@@ -12,7 +14,8 @@ invariant-loop g l =
       hub : l.self.hub ≡ l.fn.self.hub;
       crew : IsCrew g.E.Door.Door (arc_value l.self.hub) l.self.running l.self.passes;
       of : IsPassOf (arc_value l.self.hub) l.pass;
-      number : number_of l.pass ≡ number_of l.fn.pass;
+      divided : Divided l.fn.pass l.pass;
       few : sum (count l.spawner) ≤ sum (count l.fn.spawner) + l.counter;
+      due : sum (count l.spawner) + passes_due l.fn.self.running l.fn.self.passes ≤ sum (count l.fn.spawner) + passes_due l.self.running l.self.passes;
       going : g.E.Entrance.is_shut l.entrance ≡ false;
     }

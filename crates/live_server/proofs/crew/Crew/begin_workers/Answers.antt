@@ -5,6 +5,7 @@ use Rattle.transform_pool.specs.Passes as queues
 use Rattle.transform_pool.specs.Passes.{role_of}
 use Rattle.transform_pool.specs.Roles.{taking}
 use Rattle.live_server.proofs.Elements.{all_front, all_last}
+use Rattle.live_server.proofs.Passes.{divided_then}
 use Rattle.live_server.proofs.crew.Crew.begin_workers.Goals as goal
 
 pub loop-jobs-preserved : goal.loop-jobs-preserved
@@ -15,12 +16,13 @@ loop-jobs-preserved g c =
       hub = b.hub ∙ i.hub;
       crew = b.crew;
       of = b.of;
-      number = b.number ∙ i.number;
+      divided = divided_then _ _ _ i.divided b.divided;
       takers = all_front (λ p. queues.IsPassOf (arc_value c.args.queue.now) p) c.pop.new.self.items c.loop-jobs.takers.items c.in-Some.jobs c.in-Some.ensures.items i.takers;
       take = all_front (λ p. role_of p ≡ taking) c.pop.new.self.items c.loop-jobs.takers.items c.in-Some.jobs c.in-Some.ensures.items i.take;
       made = i.made + 1;
       all = omega (arith, i.all, ap (λ xs. length xs) c.in-Some.ensures.items, length-append c.pop.new.self.items (c.in-Some.jobs ∷ []));
       few = omega (arith, i.few, b.few);
+      due = omega (arith, i.due, b.due);
       shut = b.shut ∙ i.shut;
     }
 
@@ -36,3 +38,6 @@ pub begin_worker-requires-clause-few : goal.begin_worker-requires-clause-few
 begin_worker-requires-clause-few g c =
     let i = c.loop-jobs.invariant in
     omega (arith, c.requires.few, i.few, i.all, ap (λ xs. length xs) c.in-Some.ensures.items, length-append c.pop.new.self.items (c.in-Some.jobs ∷ []))
+
+pub returns-in_err-begin_worker-clause-divided : goal.returns-in_err-begin_worker-clause-divided
+returns-in_err-begin_worker-clause-divided g c = divided_then _ _ _ c.loop-jobs.invariant.divided c.begin_worker.ensures.divided

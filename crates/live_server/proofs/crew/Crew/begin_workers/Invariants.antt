@@ -4,8 +4,10 @@ use Rattle.std.specs.Arc.{arc_value}
 use Rattle.transform_pool.specs.Passes as queues
 use Rattle.transform_pool.specs.Passes.{role_of}
 use Rattle.transform_pool.specs.Roles.{taking}
-use Rattle.hmr_hub.specs.Passes.{IsPassOf, number_of}
+use Rattle.hmr_hub.specs.Passes.{IsPassOf}
 use Rattle.live_server.specs.Crews.{IsCrew}
+use Rattle.live_server.specs.Serving.{passes_due}
+use Rattle.live_server.specs.Splits.{Divided}
 use Rattle.live_server.proofs.crew.Crew.begin_workers.Given as goal
 
 -- workers were begun for the passes that are gone
@@ -16,12 +18,13 @@ invariant-loop-jobs g l =
       hub : l.self.hub ≡ l.fn.self.hub;
       crew : IsCrew g.E.Door.Door (arc_value l.self.hub) l.self.running l.self.passes;
       of : IsPassOf (arc_value l.self.hub) l.pass;
-      number : number_of l.pass ≡ number_of l.fn.pass;
+      divided : Divided l.fn.pass l.pass;
       takers : All (λ p. queues.IsPassOf (arc_value l.queue) p) l.takers.items;
       take : All (λ p. role_of p ≡ taking) l.takers.items;
       made : ℕ;
       all : made + length l.takers.items ≡ length l.fn.takers.items;
       few : sum (count l.spawner) ≤ sum (count l.fn.spawner) + made;
+      due : sum (count l.spawner) + passes_due l.fn.self.running l.fn.self.passes ≤ sum (count l.fn.spawner) + passes_due l.self.running l.self.passes;
       shut : g.E.Entrance.is_shut l.entrance ≡ g.E.Entrance.is_shut l.fn.entrance;
     }
 
