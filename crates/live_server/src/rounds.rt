@@ -26,7 +26,7 @@ const MOST_STEPS: u64 = 200;
 const MOST_NEWS: usize = 65_536;
 
 /// Opens the doors once the modules of the folder are served, and then looks at the folder again and again:
-/// 50 milliseconds after a look, and later where the look took longer. It waits.
+/// 50 milliseconds after a look, and later where one that brought no edit took longer. It waits.
 pub(crate) fn run_rounds<R: Wait + Clock, W: Watched, F: Drop, T: Terminal>(
     rt: &R,
     alloc: Global,
@@ -76,11 +76,18 @@ fn run_round<R: Wait + Clock, W: Watched, F: Drop, T: Terminal>(
     ensures goes { GoesOn editor.old editor.new }
 {
     let start = Instant::now(rt);
+    let before = known.counted();
     let ended = look_once(rt, alloc, editor, known, watched, shared);
     if ended.is_some() {
         return ended;
     }
-    rest(rt, alloc, shared, terminal, steps_after(rt, start))
+    // A look that brings edits waits until the files are still, and that isn't time that it takes.
+    let steps = if known.counted() == before {
+        steps_after(rt, start)
+    } else {
+        FEWEST_STEPS
+    };
+    rest(rt, alloc, shared, terminal, steps)
 }
 
 // Looks at the folder, and makes the edits that it brings. After want of memory the next look shows the same.
