@@ -21,6 +21,8 @@ const OPENING_LOOKS: u32 = 1000;
 pub struct Bell {
     count: AtomicU64,
     results: AtomicU64,
+    jobs: AtomicU64,
+    claims: AtomicU64,
     opened: AtomicBool,
     closed: AtomicBool,
     full: AtomicBool,
@@ -34,6 +36,8 @@ impl Bell {
             Bell {
                 count: AtomicU64::new(0),
                 results: AtomicU64::new(0),
+                jobs: AtomicU64::new(0),
+                claims: AtomicU64::new(0),
                 opened: AtomicBool::new(false),
                 closed: AtomicBool::new(false),
                 full: AtomicBool::new(false),
@@ -61,6 +65,26 @@ impl Bell {
     /// How many results workers have told. It takes no memory.
     pub fn results(&self) -> u64 {
         self.results.load(Ordering::SeqCst)
+    }
+
+    /// A job was put for the workers: one of those that wait for it goes on. It takes no memory.
+    pub fn note_job(&self) {
+        self.jobs.fetch_add(1, Ordering::SeqCst);
+        self.jobs.wake_all();
+    }
+
+    /// Waits until there is a job for one more worker, or no more come: each call has one job of its own, so
+    /// that who takes one after it finds it there. It takes no memory.
+    pub fn wait_for_job<R: Wait>(&self, rt: &R) {
+        let claimed = self.claims.fetch_add(1, Ordering::SeqCst);
+        for _ in rt.forever() {
+            let jobs = self.jobs.load(Ordering::SeqCst);
+            if jobs > claimed || self.is_closed() {
+                return;
+            }
+            self.jobs
+                .park_timeout(rt, low_bits(jobs), Duration::from_secs(1));
+        }
     }
 
     /// What there is at the start is there: whoever waits for that goes on. It takes no memory.
@@ -99,6 +123,7 @@ impl Bell {
     pub fn close(&self) {
         self.closed.store(true, Ordering::SeqCst);
         self.ring();
+        self.jobs.wake_all();
     }
 
     /// Whether no more changes come. It takes no memory.

@@ -84,6 +84,7 @@ impl Board for LiveBoard {
     ghost stays = { SameLive };
 
     fn take_job<R: Wait>(&mut self, rt: &R) -> Option<TextJob> {
+        self.bell.wait_for_job(rt);
         self.board.take_job(rt)
     }
 

@@ -2,8 +2,8 @@
 //!
 //! A [`LiveDesk`] stands round a desk of the hub: an ask to which there is nothing to say waits until a
 //! [`Bell`] rings, or for 25 seconds, and is then dealt again. What each exchange shows of the page goes to a
-//! [`NewsBoard`], from which one thread takes it. A [`LiveBoard`] stands round a board of the hub, and rings
-//! for each result.
+//! [`NewsBoard`], from which one thread takes it. A [`LiveBoard`] stands round a board of the hub: it waits
+//! until there is a job for it, and rings for each result.
 //!
 //! Stands on `hub_desks` for desks and boards, and on `live_lines` for what an exchange shows. Keeps: each
 //! answer is one that the hub's desk dealt, the last where an ask was dealt twice, and the first of the two

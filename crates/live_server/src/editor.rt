@@ -216,6 +216,9 @@ fn note<R: Wait, F: Drop>(
 ) -> Option<LiveEnd> {
     let cause = match made {
         Ok(()) => {
+            if text.is_some() {
+                shared.bell.note_job();
+            }
             return match known.note(name, text) {
                 Ok(news) => {
                     shared.news.tell(rt, news);

@@ -102,7 +102,7 @@ kind_back faults.TooManyImports = refl
 
 -- ---- messages of a client
 
-client_back : (m : ClientMsg) → client_reading.IsTyped m → IsSayable m → client_of (say m) ≡ Ok m
+pub client_back : (m : ClientMsg) → client_reading.IsTyped m → IsSayable m → client_of (say m) ≡ Ok m
 unfolding client_of field field_or only further_member name_in number_in wanted_in list_in some_names_in table_in word_in spelled
 client_back (client.Hello format []) t s = rw (in_range 1 2 format s) refl
 client_back (client.Hello format (x ∷ xs)) t s = rw (in_range 1 2 format s, names_back (x ∷ xs) t) refl

@@ -5,3 +5,4 @@ pub mod Told
 pub mod Back
 pub mod Ranged
 pub mod Causes
+pub mod TableText

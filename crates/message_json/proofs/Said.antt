@@ -148,7 +148,7 @@ said_size msg.Bye = omega arith
 said_reading : (bytes : List ℕ) (d : Data) (m : ClientMsg) → HasReading bytes d → client_of d ≡ Ok m → HasReading bytes (say m)
 said_reading bytes d m r h = record { utf8 = r.utf8; value = r.value ∙ ap Some (client_exact d m (ordered-read bytes d r.value) h) }
 
-said_bound : (bytes : List ℕ) (m : ClientMsg) → HasReading bytes (say m) → bytes_of m ≤ length bytes
+pub said_bound : (bytes : List ℕ) (m : ClientMsg) → HasReading bytes (say m) → bytes_of m ≤ length bytes
 said_bound bytes m r = omega (arith, size-read bytes (say m) r.value, said_size m)
 
 -- ---- of a result

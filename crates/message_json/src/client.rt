@@ -18,6 +18,7 @@ use crate::field::{
     found, name_field, number_field, only, text_field, wanted_name_field, wanted_text_field,
 };
 use crate::list::{roots_field, table_field};
+use crate::table_text::written_table;
 use crate::words::{abort_of, is_link};
 use hmr_types::Sequence;
 use serde_json::Value;
@@ -29,9 +30,27 @@ use update_msgs::{AbortCause, ClientMsg};
 /// [`MsgFault::NotJson`] comes exactly where the bytes aren't UTF-8 or have no reading (nesting past 127 is
 /// none), [`MsgFault::NoType`] where the reading is no object with a known `type`, [`MsgFault::BadField`] of
 /// the first key in the message's table that is missing or wrong, and [`MsgFault::ExtraField`] of the least
-/// further key. It takes time in proportion to the bytes.
-#[tactic(auto, using(crate::proofs::Back::client_given_back))]
+/// further key. It takes time in proportion to the bytes; a table as
+/// [`crate::encode_client`] writes it is read without a JSON value between.
 pub fn decode_client(alloc: Global, bytes: &[u8]) -> Result<ClientMsg, MsgFault>
+    ensures exact { IfOk result (λ m. HasReading bytes.now (say m)) }
+    ensures ranged { IfOk result IsSayable }
+    ensures size { IfOk result (λ m. bytes_of m ≤ length bytes.now) }
+    ensures not_json { IsErrOf result MsgFault.NotJson → (d : Data) → ¬ (HasReading bytes.now d) }
+    ensures cause { IfErr result (HasCause bytes.now client_of) }
+    ensures read { (d : Data) → HasReading bytes.now d → Gives result (client_of d) }
+    ensures written { (m : told.ClientMsg) → IsTyped m → IsSayable m → HasReading bytes.now (say m)
+        → Gives result (Ok m) }
+{
+    match written_table(alloc, bytes)? {
+        Some(table) => Ok(ClientMsg::Applied { table }),
+        None => decode_value(alloc, bytes),
+    }
+}
+
+// The same, by the JSON value that the bytes stand for.
+#[tactic(auto, using(crate::proofs::Back::client_given_back))]
+fn decode_value(alloc: Global, bytes: &[u8]) -> Result<ClientMsg, MsgFault>
     ensures exact { IfOk result (λ m. HasReading bytes.now (say m)) }
     ensures ranged { IfOk result IsSayable }
     ensures size { IfOk result (λ m. bytes_of m ≤ length bytes.now) }

@@ -1,5 +1,5 @@
 // Members of a message, as they are read: the value at a key by its reader, or the fault that names the key.
-ghost use Rattle.std.specs.Prelude.{◌≡◌, ◌≤◌, IfOk, IfSome, map};
+ghost use Rattle.std.specs.Prelude.{◌≡◌, ◌≤◌, IfOk, IfSome, map, true};
 ghost use Rattle.std.specs.List.{list_any};
 ghost use Rattle.std.specs.Str.{bytes_eq};
 ghost use Rattle.serde_json.specs.Find.{as_str};
@@ -12,7 +12,7 @@ ghost use Rattle.message_json.specs.ServerReading.{text_in};
 ghost use Rattle.update_msgs.specs.Writable.{most_text_bytes};
 
 use crate::fault::MsgFault;
-use hmr_types::{ModName, NameFault, Text, is_name};
+use hmr_types::{ModName, NameFault, Text};
 use serde_json::{Map, Value};
 use std::alloc::{AllocError, Global};
 
@@ -39,19 +39,17 @@ pub(crate) fn name_in(alloc: Global, value: &Value) -> Result<Option<ModName>, A
     ensures { IfOk result (λ o. o ≡ name_in (view value.now)) }
 {
     match value.as_str() {
-        Some(text) => name_of(alloc, text),
+        Some(text) => read_name(alloc, text.as_bytes()),
         None => Ok(None),
     }
 }
 
-#[tactic(auto, unfolding(crate::specs::Reading::if_holds))]
-fn name_of(alloc: Global, text: &str) -> Result<Option<ModName>, AllocError>
-    ensures { IfOk result (λ o. o ≡ if_holds is_name text.now) }
+/// The name that bytes are, where they are one.
+pub(crate) fn read_name(alloc: Global, bytes: &[u8]) -> Result<Option<ModName>, AllocError>
+    ensures value { IfOk result (λ o. o ≡ if_holds is_name bytes.now) }
+    ensures name { IfOk result
+        (λ o. IfSome o (λ name. (name ≡ bytes.now) × (is_name bytes.now ≡ true))) }
 {
-    let bytes = text.as_bytes();
-    if !is_name(bytes) {
-        return Ok(None);
-    }
     match ModName::read(alloc, bytes) {
         Ok(name) => Ok(Some(name)),
         Err(NameFault::NotAName) => Ok(None),

@@ -12,6 +12,7 @@ mod fault;
 mod field;
 mod list;
 mod server;
+mod table_text;
 mod update;
 mod words;
 

@@ -1,12 +1,25 @@
 -- What is written has no float and nests little, so its text is the compact text, and it reads back.
-use Rattle.std.proofs.Common.{◌≡◌, ◌≤◌, ℕ, List, [], ◌∷◌, length, map, Bool, true, false, ◌==◌, Some, None, Result, Ok, Err, Vec, Global, IfOk, refl, sym, ap, ◌∙◌, arith, subst}
-use Rattle.std.specs.Prelude.{IsUtf8, if◌then◌else◌}
+use Rattle.std.proofs.Common.{◌≡◌, ◌≤◌, ℕ, List, [], ◌∷◌, ◌++◌, length, map, Bool, true, false, ◌==◌, Some, None, Option, option_and_then, Result, Ok, Err, Vec, Global, IfOk, refl, sym, ap, ap₂, ◌∙◌, arith, subst, append-nil, append_assoc}
+use Rattle.std.proofs.lemmas.Bool.{and_parts, leb-true}
+use Rattle.std.specs.Prelude.{IsUtf8, OnOk, codes, if◌then◌else◌, nat_le}
+use Rattle.std.specs.List.{list_all}
 use Rattle.std.specs.declared.alloc.AllocError.{AllocError}
+use Rattle.json.specs.Json as json
+use Rattle.json.specs.Lex.{tokens}
+use Rattle.json.specs.Print.{print}
+use Rattle.json.specs.Token.{Token}
+use Rattle.json.specs.Tree as tree
+use Rattle.json.specs.Written.{Written}
+use Rattle.json.proofs.Printed.Trees.{value-json_tokens}
 use Rattle.serde_json.specs.Data.{Data, string, depth, items_depth}
-use Rattle.serde_json.specs.Read.{read, max_depth}
+use Rattle.serde_json.specs.Read.{of_items, of_json, read, max_depth}
 use Rattle.serde_json.specs.View.{items_of}
-use Rattle.serde_json.specs.Written.{has_float, items_have_float, compact_text}
+use Rattle.serde_json.specs.Written.{outline, items_outline, has_float, items_have_float, compact_text}
+use Rattle.serde_json.proofs.Numbers.{number_of-decimal}
+use Rattle.serde_json.proofs.Texts.{print-outline}
+use Rattle.hmr_types.specs.Table.{is_version, rises}
 use Rattle.hmr_types.specs.declared.words.ReloadCause.{ReloadCause}
+use Rattle.update_msgs.specs.Writable.{IsSayable}
 use Rattle.update_msgs.specs.declared.message.ClientMsg.{ClientMsg}
 use Rattle.update_msgs.specs.declared.message.ClientMsg.TheVariants as client
 use Rattle.update_msgs.specs.declared.message.JsUpdate.{JsUpdate}
@@ -14,9 +27,8 @@ use Rattle.update_msgs.specs.declared.message.ServerMsg.{ServerMsg}
 use Rattle.update_msgs.specs.declared.message.ServerMsg.TheVariants as server
 use Rattle.json_readings.specs.Object.{entries}
 use Rattle.play_text.specs.Words.{cause_word}
-use Rattle.std.specs.Prelude.{codes}
-use Rattle.message_text.specs.Values.{HasReading, list, row, whole}
-use Rattle.message_text.specs.ClientText.{unless_empty, say}
+use Rattle.message_text.specs.Values.{HasReading, list, row, tokens_of, whole}
+use Rattle.message_text.specs.ClientText.{HasTable, client_text, unless_empty, say}
 use Rattle.message_text.specs.ServerText.{js_update, tell}
 
 pub some_roots : (xs : List (List ℕ)) → (length xs == 0) ≡ false → unless_empty xs ≡ Some (list string xs)
@@ -29,10 +41,6 @@ names_float : (xs : List (List ℕ)) → items_have_float (items_of (map string 
 names_float [] = refl
 names_float (x ∷ xs) = names_float xs
 
-rows_float : (rs : List (List ℕ × ℕ)) → items_have_float (items_of (map row rs)) ≡ false
-rows_float [] = refl
-rows_float (r ∷ rs) = rows_float rs
-
 updates_float : (us : List JsUpdate) → items_have_float (items_of (map js_update us)) ≡ false
 updates_float [] = refl
 updates_float (u ∷ us) = updates_float us
@@ -41,41 +49,82 @@ names_depth : (xs : List (List ℕ)) → items_depth (items_of (map string xs)) 
 names_depth [] = omega arith
 names_depth (x ∷ xs) = omega (arith, names_depth xs)
 
-rows_depth : (rs : List (List ℕ × ℕ)) → items_depth (items_of (map row rs)) ≤ 1
-rows_depth [] = omega arith
-rows_depth (r ∷ rs) = omega (arith, rows_depth rs)
-
 updates_depth : (us : List JsUpdate) → items_depth (items_of (map js_update us)) ≤ 1
 updates_depth [] = omega arith
 updates_depth (u ∷ us) = omega (arith, updates_depth us)
 
 -- ---- messages of a client
 
-say_float : (m : ClientMsg) → has_float (say m) ≡ false
-say_float (client.Hello format []) = refl
-say_float (client.Hello format (x ∷ xs)) = rw (names_float xs) refl
-say_float client.Ask = refl
-say_float (client.Fetch path) = refl
-say_float (client.Applied table) = rw (rows_float table) refl
-say_float (client.Aborted cause path None None) = refl
-say_float (client.Aborted cause path None (Some n)) = refl
-say_float (client.Aborted cause path (Some f) None) = refl
-say_float (client.Aborted cause path (Some f) (Some n)) = refl
-say_float (client.Invalidate path version message) = refl
-say_float client.Bye = refl
+names_back : (xs : List (List ℕ)) → of_items (items_outline (items_of (map string xs))) ≡ Some (items_of (map string xs))
+names_back [] = refl
+names_back (x ∷ xs) = rw (names_back xs) refl
 
-say_depth : (m : ClientMsg) → depth (say m) ≤ max_depth
-say_depth (client.Hello format []) = omega arith
-say_depth (client.Hello format (x ∷ xs)) = omega (arith, names_depth (x ∷ xs))
-say_depth client.Ask = omega arith
-say_depth (client.Fetch path) = omega arith
-say_depth (client.Applied table) = omega (arith, rows_depth table)
-say_depth (client.Aborted cause path None None) = omega arith
-say_depth (client.Aborted cause path None (Some n)) = omega arith
-say_depth (client.Aborted cause path (Some f) None) = omega arith
-say_depth (client.Aborted cause path (Some f) (Some n)) = omega arith
-say_depth (client.Invalidate path version message) = omega arith
-say_depth client.Bye = omega arith
+rows_back : (rs : List (List ℕ × ℕ)) → list_all (λ r. is_version r.1) rs ≡ true → of_items (items_outline (items_of (map row rs))) ≡ Some (items_of (map row rs))
+rows_back [] h = refl
+rows_back (r ∷ rs) h =
+    let both = and_parts (is_version r.1) _ h in
+    let most : r.1 ≤ 9007199254740991 = leb-true r.1 9007199254740991 (and_parts (nat_le 1 r.1) _ both.0).1 in
+    rw (number_of-decimal r.1 (omega (arith, most)), rows_back rs both.1) refl
+
+pub say_back : (m : ClientMsg) → IsSayable m → HasTable m → of_json (outline (say m)) ≡ Some (say m)
+say_back (client.Hello format []) fits t = rw (number_of-decimal format (omega (arith, fits.most))) refl
+say_back (client.Hello format (x ∷ xs)) fits t = rw (number_of-decimal format (omega (arith, fits.most)), names_back xs) refl
+say_back client.Ask fits t = refl
+say_back (client.Fetch path) fits t = refl
+say_back (client.Applied table) fits t = rw (rows_back table (and_parts (rises table) _ t).1) refl
+say_back (client.Aborted cause path None None) fits t = refl
+say_back (client.Aborted cause path None (Some n)) fits t = refl
+say_back (client.Aborted cause path (Some f) None) fits t = refl
+say_back (client.Aborted cause path (Some f) (Some n)) fits t = refl
+say_back (client.Invalidate path version message) fits t = rw (number_of-decimal version (omega (arith, fits.most))) refl
+say_back client.Bye fits t = refl
+
+names_nest : (xs : List (List ℕ)) → tree.items_depth (items_outline (items_of (map string xs))) ≤ 0
+names_nest [] = omega arith
+names_nest (x ∷ xs) = omega (arith, names_nest xs)
+
+rows_nest : (rs : List (List ℕ × ℕ)) → tree.items_depth (items_outline (items_of (map row rs))) ≤ 1
+rows_nest [] = omega arith
+rows_nest (r ∷ rs) = omega (arith, rows_nest rs)
+
+pub say_nests : (m : ClientMsg) → tree.depth (outline (say m)) ≤ max_depth
+say_nests (client.Hello format []) = omega arith
+say_nests (client.Hello format (x ∷ xs)) = omega (arith, names_nest (x ∷ xs))
+say_nests client.Ask = omega arith
+say_nests (client.Fetch path) = omega arith
+say_nests (client.Applied table) = omega (arith, rows_nest table)
+say_nests (client.Aborted cause path None None) = omega arith
+say_nests (client.Aborted cause path None (Some n)) = omega arith
+say_nests (client.Aborted cause path (Some f) None) = omega arith
+say_nests (client.Aborted cause path (Some f) (Some n)) = omega arith
+say_nests (client.Invalidate path version message) = omega arith
+say_nests client.Bye = omega arith
+
+-- what the reader makes of the value of a text
+abbrev whole_of : Option (json.Json × List Token) → Option Data
+whole_of o = option_and_then of_json (option_and_then (λ p. json.if_last p.0 p.1) o)
+
+pub read_back : (d : Data) (text : List ℕ) → tokens text ≡ tokens_of d → tree.depth (outline d) ≤ max_depth → of_json (outline d) ≡ Some d → read text ≡ Some d
+read_back d text same shallow back =
+    ap whole_of (ap (json.value max_depth) (same ∙ sym (append-nil (tokens_of d))) ∙ value-json_tokens (outline d) max_depth [] shallow) ∙ back
+
+-- tokens that are put one after another
+pub then_put : {E : Type 0} (r : Result (Unit {0}) E) (t u v xs ys : List Token) → u ≡ t ++ xs → OnOk r (v ≡ u ++ ys) → OnOk r (v ≡ t ++ (xs ++ ys))
+then_put (Ok x) t u v xs ys first next = next ∙ ap (λ l. l ++ ys) first ∙ append_assoc t xs ys
+then_put (Err e) t u v xs ys first next = tt
+
+-- what a writer holds at the end, which began with nothing
+put_bytes : (d : Data) (w : Written) (bytes : List ℕ) → bytes ≡ w.before ++ print w.tokens → w.before ≡ [] → w.tokens ≡ tokens_of d → bytes ≡ print (tokens_of d)
+put_bytes d w bytes is none same = is ∙ ap₂ (λ b ts. b ++ print ts) none same
+
+pub put_text : (m : ClientMsg) (w : Written) (bytes : List ℕ) → bytes ≡ w.before ++ print w.tokens → w.before ≡ [] → w.tokens ≡ tokens_of (say m) → bytes ≡ client_text m
+put_text m w bytes is none same = put_bytes (say m) w bytes is none same ∙ print-outline (say m)
+
+pub put_reads : (m : ClientMsg) (w : Written) (bytes : List ℕ) → IsSayable m → HasTable m → bytes ≡ w.before ++ print w.tokens → w.before ≡ [] → w.tokens ≡ tokens_of (say m)
+    → tokens (print w.tokens) ≡ w.tokens → IsUtf8 (print w.tokens) → HasReading bytes (say m)
+put_reads m w bytes fits t is none same back utf8 =
+    let all = is ∙ ap (λ b. b ++ print w.tokens) none in
+    record { utf8 = subst IsUtf8 (sym all) utf8; value = read_back (say m) bytes (ap tokens all ∙ back ∙ same) (say_nests m) (say_back m fits t) }
 
 -- ---- messages of a server
 
@@ -154,12 +203,6 @@ text_of_value e d (Err x) float is h = tt
 reading_of_value : (e d : Data) (r : Result (Vec ℕ Global) AllocError) → depth e ≤ max_depth → d ≡ e → IfOk r (λ b. IsUtf8 b.items) → IfOk r (λ b. depth d ≤ max_depth → read b.items ≡ Some d) → IfOk r (λ b. HasReading b.items e)
 reading_of_value e d (Ok b) deep is u h = record { utf8 = u; value = h (subst (λ x. depth x ≤ max_depth) (sym is) deep) ∙ ap Some is }
 reading_of_value e d (Err x) deep is u h = tt
-
-pub client_text_result : (m : ClientMsg) (d : Data) (r : Result (Vec ℕ Global) AllocError) → d ≡ say m → IfOk r (λ b. has_float d ≡ false → b.items ≡ compact_text d) → IfOk r (λ b. b.items ≡ compact_text (say m))
-client_text_result m d r is h = text_of_value (say m) d r (say_float m) is h
-
-pub client_reads_result : (m : ClientMsg) (d : Data) (r : Result (Vec ℕ Global) AllocError) → d ≡ say m → IfOk r (λ b. IsUtf8 b.items) → IfOk r (λ b. depth d ≤ max_depth → read b.items ≡ Some d) → IfOk r (λ b. HasReading b.items (say m))
-client_reads_result m d r is u h = reading_of_value (say m) d r (say_depth m) is u h
 
 pub server_text_result : (format : ℕ) (m : ServerMsg) (d : Data) (r : Result (Vec ℕ Global) AllocError) → d ≡ tell format m → IfOk r (λ b. has_float d ≡ false → b.items ≡ compact_text d) → IfOk r (λ b. b.items ≡ compact_text (tell format m))
 server_text_result format m d r is h = text_of_value (tell format m) d r (tell_float format m) is h

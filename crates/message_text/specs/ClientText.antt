@@ -1,7 +1,8 @@
 -- The messages of a client as they are written, with keys in byte order.
-use Rattle.std.specs.Prelude.{ℕ, List, [], ◌∷◌, codes, Option, Some, None}
+use Rattle.std.specs.Prelude.{◌≡◌, ℕ, List, [], ◌∷◌, codes, true, Option, Some, None, ⊤}
 use Rattle.serde_json.specs.Data.{Data, string}
 use Rattle.serde_json.specs.Written.{compact_text}
+use Rattle.hmr_types.specs.Table.{is_table}
 use Rattle.json_readings.specs.Object.{entries}
 use Rattle.update_msgs.specs.declared.message.ClientMsg.{ClientMsg}
 use Rattle.update_msgs.specs.declared.message.ClientMsg.TheVariants as msg
@@ -35,3 +36,13 @@ say msg.Bye = entries ((codes "type", Some (string (codes "bye"))) ∷ [])
 -- the text of a message: its value without spaces
 abbrev pub client_text : ClientMsg → List ℕ
 client_text m = compact_text (say m)
+
+-- what the type of a table keeps, of a message that has one
+abbrev pub HasTable : ClientMsg → Type 0
+HasTable (msg.Hello format roots) = ⊤
+HasTable msg.Ask = ⊤
+HasTable (msg.Fetch path) = ⊤
+HasTable (msg.Applied table) = is_table table ≡ true
+HasTable (msg.Aborted cause path from name) = ⊤
+HasTable (msg.Invalidate path version message) = ⊤
+HasTable msg.Bye = ⊤

@@ -1,8 +1,11 @@
 -- What bytes stand for, and the JSON values of the parts of messages.
 use Rattle.std.specs.Prelude.{◌≡◌, ℕ, List, Option, Some, None, IsUtf8, map}
+use Rattle.json.specs.Token.{Token}
+use Rattle.json.specs.Tree.{items_tokens, json_tokens}
 use Rattle.serde_json.specs.Data.{Data, null, number, unsigned, string, array, no_items, item}
 use Rattle.serde_json.specs.Read.{read}
 use Rattle.serde_json.specs.View.{items_of}
+use Rattle.serde_json.specs.Written.{items_outline, outline}
 
 -- what the bytes stand for
 pub record HasReading (bytes : List ℕ) (d : Data) : Type 0 where
@@ -28,3 +31,11 @@ list w xs = array (items_of (map w xs))
 -- a list of a name and a version
 abbrev pub row : List ℕ × ℕ → Data
 row r = array (item (string r.0) (item (whole r.1) no_items))
+
+-- the tokens of a value that has no float
+abbrev pub tokens_of : Data → List Token
+tokens_of d = json_tokens (outline d)
+
+-- the tokens of the items of a list, with its end
+abbrev pub item_tokens : List Data → List Token
+item_tokens ds = items_tokens (items_outline (items_of ds))

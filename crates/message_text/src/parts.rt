@@ -1,10 +1,10 @@
-// The parts of messages as JSON values: what may be null, lists of names, rows of a table.
+// The parts of messages as JSON values: what may be null, and lists of names.
 ghost use Rattle.std.specs.Prelude.{◌≡◌, IfOk, map};
 ghost use Rattle.serde_json.specs.Data.{string};
 ghost use Rattle.serde_json.specs.View.{view};
-ghost use Rattle.message_text.specs.Values.{list, number_or_null, or_null, row};
+ghost use Rattle.message_text.specs.Values.{list, number_or_null, or_null};
 
-use hmr_types::{ModName, Text, Ver};
+use hmr_types::ModName;
 use serde_json::{Value, json};
 use std::alloc::{AllocError, Global};
 
@@ -13,15 +13,6 @@ pub(crate) fn name_or_null(alloc: Global, name: &Option<ModName>) -> Result<Valu
 {
     match name {
         Some(name) => json!(in alloc; name.as_str()),
-        None => Ok(Value::Null),
-    }
-}
-
-pub(crate) fn text_or_null(alloc: Global, text: &Option<Text>) -> Result<Value, AllocError>
-    ensures { IfOk result (λ v. view v ≡ or_null text.now) }
-{
-    match text {
-        Some(text) => json!(in alloc; text.as_str()),
         None => Ok(Value::Null),
     }
 }
@@ -47,22 +38,6 @@ pub(crate) fn names_value(alloc: Global, names: &[ModName]) -> Result<Value, All
     let mut items = Vec::new(alloc);
     for name in names.iter() {
         items.push(name_value(alloc, name)?)?;
-    }
-    Ok(Value::Array(items))
-}
-
-fn row_value(alloc: Global, name: &ModName, version: Ver) -> Result<Value, AllocError>
-    ensures { IfOk result (λ v. view v ≡ row (name.now, version)) }
-{
-    json!(in alloc; [name.as_str(), version])
-}
-
-pub(crate) fn rows_value(alloc: Global, rows: &[(ModName, Ver)]) -> Result<Value, AllocError>
-    ensures { IfOk result (λ v. view v ≡ list row rows.now) }
-{
-    let mut items = Vec::new(alloc);
-    for entry in rows.iter() {
-        items.push(row_value(alloc, &entry.0, entry.1)?)?;
     }
     Ok(Value::Array(items))
 }

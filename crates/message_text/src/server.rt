@@ -5,11 +5,11 @@ ghost use Rattle.serde_json.specs.View.{view};
 ghost use Rattle.json_readings.specs.Object.{entries};
 ghost use Rattle.play_text.specs.Words.{cause_word, fault_word};
 ghost use Rattle.update_msgs.specs.Writable.{IsFormat, IsWritable};
-ghost use Rattle.message_text.specs.Values.{HasReading, list, whole};
+ghost use Rattle.message_text.specs.Values.{HasReading, list, number_or_null, or_null, whole};
 ghost use Rattle.message_text.specs.ServerText.{in_second, js_update, server_text, tell};
 
 use crate::parts::{name_or_null, names_value, number_or_null};
-use hmr_types::{FaultWord, ModName, ReloadCause};
+use hmr_types::{ClientId, FaultWord, ModName, ReloadCause, Text, Ver};
 use play_text::{cause_str, fault_str};
 use serde_json::{Value, json};
 use std::alloc::{AllocError, Global};
@@ -31,35 +31,34 @@ fn value_of(alloc: Global, msg: &ServerMsg, format: u8) -> Result<Value, AllocEr
     ensures { IfOk result (λ v. view v ≡ tell format msg.now) }
 {
     match msg {
-        ServerMsg::Connected { client, roots } => {
-            let roots = names_value(alloc, roots.as_slice())?;
-            connected_value(alloc, u64::from(*client), &roots)
-        }
+        ServerMsg::Connected { client, roots } => connected_value(alloc, *client, roots.as_slice()),
         ServerMsg::Update {
             replaced,
             updates,
             batch,
             triggered,
-        } => {
-            let replaced = names_value(alloc, replaced.as_slice())?;
-            let updates = updates_value(alloc, updates.as_slice())?;
-            let triggered = names_value(alloc, triggered.as_slice())?;
-            update_value(alloc, format, &replaced, &updates, *batch, &triggered)
-        }
-        ServerMsg::Prune { paths } => {
-            let paths = names_value(alloc, paths.as_slice())?;
-            json!(in alloc; {"paths": &paths, "type": "prune"})
-        }
+        } => update_value(
+            alloc,
+            format,
+            replaced.as_slice(),
+            updates.as_slice(),
+            *batch,
+            triggered.as_slice(),
+        ),
+        ServerMsg::Prune { paths } => prune_value(alloc, paths.as_slice()),
         ServerMsg::FullReload {
             cause,
             path,
             batch,
             triggered,
-        } => {
-            let path = names_value(alloc, path.as_slice())?;
-            let triggered = names_value(alloc, triggered.as_slice())?;
-            reload_value(alloc, format, *cause, &path, *batch, &triggered)
-        }
+        } => reload_value(
+            alloc,
+            format,
+            *cause,
+            path.as_slice(),
+            *batch,
+            triggered.as_slice(),
+        ),
         ServerMsg::Error {
             path,
             line,
@@ -72,35 +71,68 @@ fn value_of(alloc: Global, msg: &ServerMsg, format: u8) -> Result<Value, AllocEr
             column,
             kind,
         } => fault_value(alloc, "broken", path, *line, *column, *kind),
-        ServerMsg::Idle => json!(in alloc; {"type": "idle"}),
-        ServerMsg::Done => json!(in alloc; {"type": "done"}),
+        ServerMsg::Idle => word_value(alloc, "idle"),
+        ServerMsg::Done => word_value(alloc, "done"),
         ServerMsg::Text {
             path,
             version,
             text,
-        } => json!(in alloc; {
-            "path": path.as_str(),
-            "text": text.as_str(),
-            "type": "text",
-            "version": *version,
-        }),
-        ServerMsg::Missing { path } => json!(in alloc; {"path": path.as_str(), "type": "missing"}),
-        ServerMsg::NotYet { path } => json!(in alloc; {"path": path.as_str(), "type": "not-yet"}),
+        } => text_value(alloc, path, *version, text),
+        ServerMsg::Missing { path } => named_value(alloc, path, "missing"),
+        ServerMsg::NotYet { path } => named_value(alloc, path, "not-yet"),
         ServerMsg::Refused {
             code,
             path,
             told,
             kept,
-        } => {
-            let path = name_or_null(alloc, path)?;
-            let told = number_or_null(alloc, told)?;
-            let kept = number_or_null(alloc, kept)?;
-            refused_value(alloc, u64::from(*code), &path, &told, &kept)
-        }
+        } => refused_value(alloc, *code, path, told, kept),
     }
 }
 
-fn connected_value(alloc: Global, client: u64, roots: &Value) -> Result<Value, AllocError>
+fn word_value(alloc: Global, word: &str) -> Result<Value, AllocError>
+    ensures { IfOk result (λ v. view v ≡ entries ((codes "type", Some (string word.now)) ∷ [])) }
+{
+    json!(in alloc; {"type": word})
+}
+
+fn named_value(alloc: Global, path: &ModName, word: &str) -> Result<Value, AllocError>
+    ensures { IfOk result (λ v. view v ≡ entries (
+        (codes "path", Some (string path.now)) ∷ (codes "type", Some (string word.now)) ∷ [])) }
+{
+    json!(in alloc; {"path": path.as_str(), "type": word})
+}
+
+fn text_value(alloc: Global, path: &ModName, version: Ver, text: &Text) -> Result<Value, AllocError>
+    ensures { IfOk result (λ v. view v ≡ entries (
+        (codes "path", Some (string path.now)) ∷ (codes "text", Some (string text.now))
+        ∷ (codes "type", Some (string (codes "text"))) ∷ (codes "version", Some (whole version)) ∷ [])) }
+{
+    json!(in alloc; {
+        "path": path.as_str(),
+        "text": text.as_str(),
+        "type": "text",
+        "version": version,
+    })
+}
+
+fn prune_value(alloc: Global, paths: &[ModName]) -> Result<Value, AllocError>
+    ensures { IfOk result (λ v. view v ≡ entries (
+        (codes "paths", Some (list string paths.now)) ∷ (codes "type", Some (string (codes "prune"))) ∷ [])) }
+{
+    let paths = names_value(alloc, paths)?;
+    json!(in alloc; {"paths": paths, "type": "prune"})
+}
+
+fn connected_value(alloc: Global, client: ClientId, roots: &[ModName]) -> Result<Value, AllocError>
+    ensures { IfOk result (λ v. view v ≡ entries (
+        (codes "client", Some (whole client)) ∷ (codes "roots", Some (list string roots.now))
+        ∷ (codes "type", Some (string (codes "connected"))) ∷ [])) }
+{
+    let roots = names_value(alloc, roots)?;
+    connected_object(alloc, u64::from(client), &roots)
+}
+
+fn connected_object(alloc: Global, client: u64, roots: &Value) -> Result<Value, AllocError>
     ensures { IfOk result (λ v. view v ≡ entries (
         (codes "client", Some (whole client)) ∷ (codes "roots", Some (view roots.now))
         ∷ (codes "type", Some (string (codes "connected"))) ∷ [])) }
@@ -109,6 +141,26 @@ fn connected_value(alloc: Global, client: u64, roots: &Value) -> Result<Value, A
 }
 
 fn update_value(
+    alloc: Global,
+    format: u8,
+    replaced: &[ModName],
+    updates: &[JsUpdate],
+    batch: u64,
+    triggered: &[ModName],
+) -> Result<Value, AllocError>
+    ensures { IfOk result (λ v. view v ≡ entries (
+        (codes "batch", in_second format (whole batch)) ∷ (codes "replaced", Some (list string replaced.now))
+        ∷ (codes "triggeredBy", in_second format (list string triggered.now))
+        ∷ (codes "type", Some (string (codes "update")))
+        ∷ (codes "updates", Some (list js_update updates.now)) ∷ [])) }
+{
+    let replaced = names_value(alloc, replaced)?;
+    let updates = updates_value(alloc, updates)?;
+    let triggered = names_value(alloc, triggered)?;
+    update_object(alloc, format, &replaced, &updates, batch, &triggered)
+}
+
+fn update_object(
     alloc: Global,
     format: u8,
     replaced: &Value,
@@ -139,16 +191,34 @@ fn reload_value(
     alloc: Global,
     format: u8,
     cause: ReloadCause,
+    path: &[ModName],
+    batch: u64,
+    triggered: &[ModName],
+) -> Result<Value, AllocError>
+    ensures { IfOk result (λ v. view v ≡ entries (
+        (codes "batch", in_second format (whole batch)) ∷ (codes "cause", Some (string (cause_word cause)))
+        ∷ (codes "path", Some (list string path.now))
+        ∷ (codes "triggeredBy", in_second format (list string triggered.now))
+        ∷ (codes "type", Some (string (codes "full-reload"))) ∷ [])) }
+{
+    let path = names_value(alloc, path)?;
+    let triggered = names_value(alloc, triggered)?;
+    reload_object(alloc, format, cause_str(cause), &path, batch, &triggered)
+}
+
+fn reload_object(
+    alloc: Global,
+    format: u8,
+    cause: &str,
     path: &Value,
     batch: u64,
     triggered: &Value,
 ) -> Result<Value, AllocError>
     ensures { IfOk result (λ v. view v ≡ entries (
-        (codes "batch", in_second format (whole batch)) ∷ (codes "cause", Some (string (cause_word cause)))
+        (codes "batch", in_second format (whole batch)) ∷ (codes "cause", Some (string cause.now))
         ∷ (codes "path", Some (view path.now)) ∷ (codes "triggeredBy", in_second format (view triggered.now))
         ∷ (codes "type", Some (string (codes "full-reload"))) ∷ [])) }
 {
-    let cause = cause_str(cause);
     if format == 2 {
         json!(in alloc; {
             "batch": batch,
@@ -186,6 +256,24 @@ fn fault_value(
 }
 
 fn refused_value(
+    alloc: Global,
+    code: u8,
+    path: &Option<ModName>,
+    told: &Option<u64>,
+    kept: &Option<u64>,
+) -> Result<Value, AllocError>
+    ensures { IfOk result (λ v. view v ≡ entries (
+        (codes "code", Some (whole code)) ∷ (codes "kept", Some (number_or_null kept.now))
+        ∷ (codes "path", Some (or_null path.now)) ∷ (codes "told", Some (number_or_null told.now))
+        ∷ (codes "type", Some (string (codes "refused"))) ∷ [])) }
+{
+    let path = name_or_null(alloc, path)?;
+    let told = number_or_null(alloc, told)?;
+    let kept = number_or_null(alloc, kept)?;
+    refused_object(alloc, u64::from(code), &path, &told, &kept)
+}
+
+fn refused_object(
     alloc: Global,
     code: u64,
     path: &Value,
