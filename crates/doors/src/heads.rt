@@ -1,7 +1,7 @@
-// Heads are taken from the front of bytes.
+// Heads and bodies are taken from the front of bytes.
 ghost use Rattle.std.specs.Prelude.{◌≡◌, ◌≤◌, ◌++◌, IfErr, OnErr, Some, IfOk, drop, take, vec_len};
 ghost use Rattle.outside_calls.specs.declared.out_fault.OutFault.{OutFault};
-ghost use Rattle.doors.specs.Coming.{IsHead, IsNext};
+ghost use Rattle.doors.specs.Coming.{IsBody, IsHead, IsNext};
 ghost use Rattle.http_heads.specs.Cutting.{Cuts};
 ghost use Rattle.http_heads.specs.declared.cutting.Cut.TheVariants as cut;
 
@@ -32,4 +32,22 @@ pub fn take_front(alloc: Global, unread: &mut Vec<u8>, end: usize) -> Result<Vec
     let rest = Vec::from_slice(alloc, &unread[end..])?;
     *unread = rest;
     Ok(head)
+}
+
+/// Takes so many bytes from the front, where there are as many.
+pub fn take_body(
+    alloc: Global,
+    unread: &mut Vec<u8>,
+    count: usize,
+) -> Result<Option<Vec<u8>>, AllocError>
+    ensures body { IfOk result (IsBody count (Some unread.old.items) (Some unread.new.items)) }
+    ensures untaken { OnErr result (unread.new.items ≡ unread.old.items) }
+{
+    if unread.len() < count {
+        return Ok(None);
+    }
+    let body = Vec::from_slice(alloc, &unread[..count])?;
+    let rest = Vec::from_slice(alloc, &unread[count..])?;
+    *unread = rest;
+    Ok(Some(body))
 }

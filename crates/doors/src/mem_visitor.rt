@@ -4,7 +4,7 @@ ghost use Rattle.std.specs.Prelude.{◌≡◌, ◌≤◌, ◌++◌, [], Some, If
 ghost use Rattle.links.specs.declared.link.Phase.{Phase};
 ghost use Rattle.doors.specs.Coming.{IsNext};
 
-use crate::heads::take_head;
+use crate::heads::{take_body, take_head};
 use crate::{Coming, OutFault, Visitor};
 use links::Link;
 use std::alloc::Global;
@@ -91,6 +91,11 @@ impl<L: Link + Drop> Visitor for MemVisitor<L> {
     fn next_head(&mut self, alloc: Global) -> Result<Coming, OutFault> {
         let coming = take_head(alloc, &mut self.unread)?;
         Ok(coming)
+    }
+
+    fn next_body(&mut self, alloc: Global, count: usize) -> Result<Option<Vec<u8>>, OutFault> {
+        let body = take_body(alloc, &mut self.unread, count)?;
+        Ok(body)
     }
 
     fn answer(&mut self, text: &[u8]) -> Result<(), OutFault> {

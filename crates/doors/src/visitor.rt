@@ -5,7 +5,7 @@ ghost use Rattle.std.specs.Prelude.{◌≡◌, ℕ, List, Option, IfOk, OnOk, On
 ghost use Rattle.outside_calls.specs.Causes.{HasOutCause};
 ghost use Rattle.links.specs.declared.link.Phase.{Phase};
 ghost use Rattle.links.specs.Told.{told_and};
-ghost use Rattle.doors.specs.Coming.{IsNext};
+ghost use Rattle.doors.specs.Coming.{IsBody, IsNext};
 ghost use Rattle.doors.specs.Told.{TellsFront};
 
 use crate::OutFault;
@@ -39,6 +39,22 @@ pub trait Visitor: Link {
         requires fresh { Self.phase self.old ≡ Phase.Fresh }
         ensures stays { Self.phase self.new ≡ Phase.Fresh }
         ensures next { IfOk result (IsNext (unread self.old) (unread self.new)) }
+        ensures untaken { OnErr result (unread self.new ≡ unread self.old) }
+        ensures written { written self.new ≡ written self.old }
+        ensures left { Self.left self.new ≡ Self.left self.old }
+        ensures sent { Self.sent self.new ≡ Self.sent self.old }
+        ensures cause { HasOutCause (Self.faults self.old) (Self.faults self.new) result };
+
+    /// The next bytes, as many as this: the body of the request whose head was taken last. None where the
+    /// other end closed before, or they didn't come in the time that a body may take; what came of them then
+    /// stays unread. It may wait, and takes memory for the bytes.
+    ///
+    /// `Failed` comes only where the count of faults rose in this call, `NoMemory` where memory ran out; no
+    /// byte is then taken.
+    fn next_body(&mut self, alloc: Global, count: usize) -> Result<Option<Vec<u8>>, OutFault>
+        requires fresh { Self.phase self.old ≡ Phase.Fresh }
+        ensures stays { Self.phase self.new ≡ Phase.Fresh }
+        ensures body { IfOk result (IsBody count (unread self.old) (unread self.new)) }
         ensures untaken { OnErr result (unread self.new ≡ unread self.old) }
         ensures written { written self.new ≡ written self.old }
         ensures left { Self.left self.new ≡ Self.left self.old }

@@ -4,7 +4,7 @@ use Rattle.std.proofs.Common.{refl, sym, ap, ◌∙◌, subst, append_assoc}
 use Rattle.std.specs.Prelude.{◌||◌, codes, if◌then◌else◌, true, false, Some}
 use Rattle.std.proofs.lemmas.List.{drop_more}
 use Rattle.http_heads.specs.Head.{same_letters}
-use Rattle.live_answers.specs.Pages.{behind_head, client_tag, tag_rest, with_client}
+use Rattle.live_answers.specs.Pages.{behind_head, tag_rest, with_tag}
 use Rattle.live_answers.specs.Paths.{hides_slash}
 
 -- a look at one place of a page
@@ -68,13 +68,13 @@ slash_there target here at within is found same =
     same ∙ (slash_step target at within ∙ ap (λ b. b || hides_slash (drop (at + 1) target)) one)
 
 -- the tag of the client is put between what stands before it and the rest
-pub client_put : (roots : List (List ℕ)) (page rest front sent out : List ℕ) → rest ≡ tag_rest page
-    → front ≡ take (length page - length rest) page → sent ≡ front ++ client_tag roots → out ≡ sent ++ rest
-    → out ≡ with_client roots page
-unfolding with_client
-client_put roots page rest front sent out r f s o =
+pub tag_put : (tag page rest front sent out : List ℕ) → rest ≡ tag_rest page
+    → front ≡ take (length page - length rest) page → sent ≡ front ++ tag → out ≡ sent ++ rest
+    → out ≡ with_tag tag page
+unfolding with_tag
+tag_put tag page rest front sent out r f s o =
     o
     ∙ (ap (λ x. x ++ rest) s
-    ∙ (append_assoc front (client_tag roots) rest
-    ∙ (ap (λ x. x ++ (client_tag roots ++ rest)) f
-    ∙ ap (λ x. take (length page - length x) page ++ (client_tag roots ++ x)) r)))
+    ∙ (append_assoc front tag rest
+    ∙ (ap (λ x. x ++ (tag ++ rest)) f
+    ∙ ap (λ x. take (length page - length x) page ++ (tag ++ x)) r)))

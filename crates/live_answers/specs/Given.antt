@@ -1,16 +1,19 @@
 -- What is at a path.
-use Rattle.std.specs.Prelude.{◌≢◌, ◌⊎◌, ℕ, List, [], ◌∷◌, if◌then◌else◌, bytes_eq}
-use Rattle.live_answers.specs.declared.files.Found.{Found}
-use Rattle.live_answers.specs.declared.files.Found.TheVariants as found
+use Rattle.std.specs.Prelude.{◌≢◌, ◌⊎◌, ℕ, Bool, List, [], ◌∷◌, if◌then◌else◌, bytes_eq}
+use Rattle.live_answers.specs.declared.found.Found.{Found}
+use Rattle.live_answers.specs.declared.found.Found.TheVariants as found
+use Rattle.live_answers.specs.declared.media.Media.{Media}
 
 pub data Given : Type 0 where
-  a_text : List ℕ → Given
+  a_file : List ℕ → Given
+  a_text : Media → List ℕ → Given
   a_folder : Given
   nothing : Given
   no_text : Given
 
 abbrev pub given_of : Found → Given
-given_of (found.File bytes) = a_text bytes.items
+given_of (found.File bytes) = a_file bytes.items
+given_of (found.Text media bytes) = a_text media bytes.items
 given_of found.Folder = a_folder
 given_of found.Missing = nothing
 given_of found.Unread = no_text
@@ -18,6 +21,11 @@ given_of found.Unread = no_text
 -- what may be found at each path, where that is told; else whatever
 abbrev pub Gives : Type 1
 Gives = List ℕ → Given → Type 0
+
+-- what may be found at each path with a query, by one who wants a page or not, where that is told; else
+-- whatever
+abbrev pub GivesAt : Type 1
+GivesAt = List ℕ → List ℕ → Bool → Given → Type 0
 
 -- what is found in one is that, unless it is nothing: then it is what is found in the other
 abbrev pub GivesEither : Gives → Gives → Gives
@@ -27,4 +35,4 @@ GivesEither first second path given =
 -- the first text of a list of paths and texts that stands at the path
 abbrev pub text_at : List (List ℕ × List ℕ) → List ℕ → Given
 text_at [] path = nothing
-text_at (file ∷ files) path = if bytes_eq file.0 path then a_text file.1 else text_at files path
+text_at (file ∷ files) path = if bytes_eq file.0 path then a_file file.1 else text_at files path

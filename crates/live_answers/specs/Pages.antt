@@ -1,5 +1,5 @@
 -- Pages, and the tag by which a page takes its client.
-use Rattle.std.specs.Prelude.{ℕ, ◌-◌, if◌then◌else◌, List, [], ◌∷◌, ◌++◌, length, take, drop, codes, bytes_eq}
+use Rattle.std.specs.Prelude.{ℕ, ◌-◌, if◌then◌else◌, List, [], ◌∷◌, ◌++◌, length, take, drop, codes}
 use Rattle.std.specs.Prelude.{Option, Some, None}
 use Rattle.http_heads.specs.Head.{same_letters}
 
@@ -35,18 +35,12 @@ abbrev pub tag_rest : List ℕ → List ℕ
 tag_rest page = rest_by (behind_head page) page
 
 -- a page with the tag of its client
-unfoldable pub with_client : List (List ℕ) → List ℕ → List ℕ
-with_client roots page =
-    take (length page - length (tag_rest page)) page ++ (client_tag roots ++ tag_rest page)
+unfoldable pub with_tag : List ℕ → List ℕ → List ℕ
+with_tag tag page = take (length page - length (tag_rest page)) page ++ (tag ++ tag_rest page)
 
 -- the page of a folder that has none
-abbrev pub made_page : List (List ℕ) → List ℕ
-made_page roots =
+abbrev pub made_page : List ℕ → List ℕ
+made_page tag =
     codes "<!doctype html>\n<html lang=\"en\">\n<head>\n<meta charset=\"utf-8\">\n"
     ++ (codes "<title>hmr dev</title>\n<link rel=\"icon\" href=\"data:,\">\n"
-    ++ (client_tag roots ++ codes "</head>\n<body></body>\n</html>\n"))
-
--- what is sent of a file: a page with the tag of its client, anything else as it is
-abbrev pub sent_of : List (List ℕ) → List ℕ → List ℕ → List ℕ
-sent_of roots media bytes =
-    if bytes_eq media (codes "text/html; charset=utf-8") then with_client roots bytes else bytes
+    ++ (tag ++ codes "</head>\n<body></body>\n</html>\n"))

@@ -1,6 +1,6 @@
 -- Which paths are served: those that are left once the escapes of a target are read.
 use Rattle.std.specs.Prelude.{ℕ, ◌-◌, Bool, true, false, not, ◌&&◌, ◌||◌, ◌==◌, if◌then◌else◌}
-use Rattle.std.specs.Prelude.{List, [], ◌∷◌, ◌++◌, get_or, length, take, codes}
+use Rattle.std.specs.Prelude.{List, [], ◌∷◌, ◌++◌, get_or, length, take, codes, Option, Some, None}
 use Rattle.percent_encoding.specs.Percent.{percent_decode}
 use Rattle.http_heads.specs.Head.{same_letters}
 
@@ -36,3 +36,7 @@ ends_with_slash path = get_or path (length path - 1) 0 == 47
 -- the file of a path: at a slash the page of the folder
 abbrev pub file_at : List ℕ → List ℕ
 file_at path = if ends_with_slash path then path ++ codes "index.html" else path
+
+-- the path at a target; None where it isn't served
+abbrev pub open_path : List ℕ → Option (List ℕ)
+open_path target = if is_open_target target then Some (file_at (percent_decode target)) else None

@@ -1,24 +1,12 @@
-// What is at the paths of a server.
+// Files by their paths.
 ghost use Rattle.std.specs.Prelude.{ℕ, List, IfOk};
 ghost use Rattle.live_answers.specs.Given.{Given, given_of};
 
+use crate::found::Found;
 use std::alloc::{AllocError, Global};
 
 /// The most bytes of a file that is sent.
 pub const FILE_BYTES: usize = 67_108_864;
-
-/// What is at a path.
-#[derive(Debug, Drop)]
-pub enum Found {
-    /// A file with these bytes.
-    File(Vec<u8>),
-    /// A folder.
-    Folder,
-    /// Nothing.
-    Missing,
-    /// A file that can't be read, or that has more than [`FILE_BYTES`] bytes.
-    Unread,
-}
 
 /// Files by their paths.
 pub trait Files {

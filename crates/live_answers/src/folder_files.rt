@@ -1,7 +1,8 @@
 // The files of a folder of the file system.
 ghost use Rattle.std.specs.Prelude.{⊤};
 
-use crate::files::{FILE_BYTES, Files, Found};
+use crate::files::{FILE_BYTES, Files};
+use crate::found::Found;
 use hmr_base::{ReadFault, StdSource, read_all};
 use std::alloc::{AllocError, Global};
 use std::fs::File;

@@ -1,33 +1,44 @@
-//! What a live server answers to a head of HTTP: files of the folder, pages, and refusals.
+//! What a live server answers to a head of HTTP: what a site has at its paths, what becomes of what is
+//! posted there, and refusals.
 //!
-//! [`answer_head`] says of a head what is written, and whether the connection goes on, is closed, or becomes a
-//! WebSocket. What is at a path is given by a [`Files`]: a [`FolderFiles`] reads a folder of the file system,
-//! a [`MemFiles`] has them in memory, and a [`Layered`] looks in one and then in another. Each page that is
-//! sent takes the page's client by a tag; where the folder has no page, one is made.
+//! [`answer_head`] says of a head and its body what is written, and whether the connection goes on, is
+//! closed, or becomes a WebSocket; [`body_length`] how many bytes of a body are read before. What is at a
+//! path, and what becomes of a body there, is told by a [`Paths`]. A [`PlainSite`] is one of files alone: a
+//! [`FolderFiles`] reads them from a folder of the file system, a [`MemFiles`] has them in memory, and a
+//! [`Layered`] looks in one and then in another. Each page of it takes the page's client by a tag; where
+//! there is no page, one is made.
 //!
-//! Stands on `request_guard` for who is let in and for media types, on `http_heads` for what a head asks.
-//! Keeps: an answer is a function of the head, the port, the roots, and what is at one path; a path that has
-//! a part which begins with a dot is never looked at. Knows nothing of connections, of modules' texts or of
-//! versions.
+//! Stands on `request_guard` for who is let in and for media types, on `http_heads` for what a head asks, on
+//! `request_details` for what else it says. Keeps: an answer is a function of the head, the port, the body,
+//! and what the site tells of one path; a page of another server posts nothing; a path that has a part which
+//! begins with a dot is never looked at. Knows nothing of connections, of modules' texts or of versions.
 #![tactic(auto)]
 
 mod answer;
 mod files;
 mod folder_files;
 mod foreign;
+mod found;
 mod layered;
+mod media;
 mod mem_files;
 mod pages;
 mod paths;
+mod plain_site;
 mod reply;
+mod site;
 mod status;
 mod wanted;
 mod writing;
 
-pub use answer::{Answer, Next, answer_head, answer_to_long};
-pub use files::{FILE_BYTES, Files, Found};
+pub use answer::{Answer, Next, answer_head, answer_to_long, body_length, upgrade_query};
+pub use files::{FILE_BYTES, Files};
 pub use folder_files::FolderFiles;
 pub use foreign::foreign_text;
+pub use found::Found;
 pub use layered::Layered;
+pub use media::Media;
 pub use mem_files::{MemEntry, MemFiles};
-pub use pages::client_tag;
+pub use pages::{client_tag, made_page, with_tag};
+pub use plain_site::PlainSite;
+pub use site::{Paths, Posted};

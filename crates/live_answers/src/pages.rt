@@ -1,15 +1,11 @@
 // Pages, and the tag by which a page takes its client.
 ghost use Rattle.std.specs.Prelude.{◌≡◌, ◌≤◌, ◌++◌, IfOk, OnOk, IfSome, None, length, option_map};
 ghost use Rattle.live_answers.specs.Pages.{behind_head, client_tag, made_page, other_words, root_words};
-ghost use Rattle.live_answers.specs.Pages.{sent_of};
-ghost use Rattle.live_answers.specs.Pages.{rest_by, tag_rest, with_client};
+ghost use Rattle.live_answers.specs.Pages.{rest_by, tag_rest, with_tag};
 
 use crate::writing::{begins, behind, put};
 use hmr_types::ModName;
 use std::alloc::{AllocError, Global};
-
-/// The media type of a page.
-pub(crate) const PAGE: &str = "text/html; charset=utf-8";
 
 /// The tag that a page has of its client, with the roots that the client is to load. Names of modules have no
 /// byte that has to be escaped in an attribute.
@@ -54,9 +50,9 @@ fn put_others(out: &mut Vec<u8>, roots: &[ModName]) -> Result<(), AllocError>
     Ok(())
 }
 
-/// The page of a folder that has none.
-pub(crate) fn made_page(alloc: Global, roots: &[ModName]) -> Result<Vec<u8>, AllocError>
-    ensures { IfOk result (λ page. page.items ≡ made_page roots.now) }
+/// The page of a folder that has none, with this tag of its client. It takes memory for the page.
+pub fn made_page(alloc: Global, tag: &[u8]) -> Result<Vec<u8>, AllocError>
+    ensures { IfOk result (λ page. page.items ≡ made_page tag.now) }
 {
     let mut page = Vec::new(alloc);
     put(
@@ -67,34 +63,20 @@ pub(crate) fn made_page(alloc: Global, roots: &[ModName]) -> Result<Vec<u8>, All
         &mut page,
         "<title>hmr dev</title>\n<link rel=\"icon\" href=\"data:,\">\n",
     )?;
-    put_tag(&mut page, roots)?;
+    page.extend_from_slice(tag)?;
     put(&mut page, "</head>\n<body></body>\n</html>\n")?;
     Ok(page)
 }
 
-/// What is sent of a file with this media type: a page with the tag of its client, anything else as it is.
-pub(crate) fn sent_of(
-    alloc: Global,
-    roots: &[ModName],
-    media: &str,
-    bytes: Vec<u8>,
-) -> Result<Vec<u8>, AllocError>
-    ensures { IfOk result (λ sent. sent.items ≡ sent_of roots.now media.now bytes.items) }
-{
-    if media.as_bytes() == PAGE.as_bytes() {
-        return with_client(alloc, roots, &bytes);
-    }
-    Ok(bytes)
-}
-
-// A page with the tag of its client.
-#[tactic(auto, unfolding(crate::specs::Pages::with_client))]
-fn with_client(alloc: Global, roots: &[ModName], page: &[u8]) -> Result<Vec<u8>, AllocError>
-    ensures { IfOk result (λ sent. sent.items ≡ with_client roots.now page.now) }
+/// A page with this tag of its client: behind its first `<head>`, else behind the `<!doctype html>` that it
+/// begins with, else before all. It takes memory for both, and time linear in the page.
+#[tactic(auto, unfolding(crate::specs::Pages::with_tag))]
+pub fn with_tag(alloc: Global, tag: &[u8], page: &[u8]) -> Result<Vec<u8>, AllocError>
+    ensures { IfOk result (λ sent. sent.items ≡ with_tag tag.now page.now) }
 {
     let rest = tag_rest(page);
     let mut sent = Vec::from_slice(alloc, &page[..page.len() - rest.len()])?;
-    put_tag(&mut sent, roots)?;
+    sent.extend_from_slice(tag)?;
     sent.extend_from_slice(rest)?;
     Ok(sent)
 }

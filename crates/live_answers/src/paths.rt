@@ -1,15 +1,29 @@
 // Which paths are served, and which file stands at one.
-ghost use Rattle.std.specs.Prelude.{◌≡◌, ◌++◌, IfOk, true};
+ghost use Rattle.std.specs.Prelude.{◌≡◌, ◌++◌, IfOk, option_map, true};
 ghost use Rattle.percent_encoding.specs.Percent.{percent_decode};
-ghost use Rattle.live_answers.specs.Paths.{are_open, ends_with_slash, file_at, hides_slash, is_closed, is_open_path};
+ghost use Rattle.live_answers.specs.Paths.{are_open, ends_with_slash, file_at, hides_slash, is_closed};
+ghost use Rattle.live_answers.specs.Paths.{is_open_path, open_path};
 
 use crate::writing::{begins, behind};
 use percent_encoding::percent_decode;
 use std::alloc::{AllocError, Global};
 
-/// Whether an escape stands for a slash.
+/// The path at a target, of no query, with its escapes read, and with the page of the folder where it ends
+/// in a slash. None where it isn't served: it is no slash and parts, or one is empty or begins with a dot,
+/// or an escape stands for a slash.
+pub(crate) fn open_path(alloc: Global, target: &[u8]) -> Result<Option<Vec<u8>>, AllocError>
+    ensures { IfOk result (λ path. option_map (λ p. p.items) path ≡ open_path target.now) }
+{
+    let path = decoded(alloc, target)?;
+    if hides_slash(target) || !is_open_path(&path) {
+        return Ok(None);
+    }
+    Ok(Some(file_at(path)?))
+}
+
+// Whether an escape stands for a slash.
 #[tactic(auto, using(crate::proofs::Steps::slash_there))]
-pub(crate) fn hides_slash(target: &[u8]) -> bool
+fn hides_slash(target: &[u8]) -> bool
     ensures { result ≡ hides_slash target.now }
 {
     for at in 0..target.len() {
@@ -21,8 +35,8 @@ pub(crate) fn hides_slash(target: &[u8]) -> bool
     false
 }
 
-/// The target with its escapes read.
-pub(crate) fn decoded(alloc: Global, target: &[u8]) -> Result<Vec<u8>, AllocError>
+// The target with its escapes read.
+fn decoded(alloc: Global, target: &[u8]) -> Result<Vec<u8>, AllocError>
     ensures { IfOk result (λ path. path.items ≡ percent_decode target.now) }
 {
     let mut path = Vec::new(alloc);
@@ -30,8 +44,8 @@ pub(crate) fn decoded(alloc: Global, target: &[u8]) -> Result<Vec<u8>, AllocErro
     Ok(path)
 }
 
-/// Whether the path is a slash and parts, none of which is hidden.
-pub(crate) fn is_open_path(path: &[u8]) -> bool
+// Whether the path is a slash and parts, none of which is hidden.
+fn is_open_path(path: &[u8]) -> bool
     ensures { result ≡ is_open_path path.now }
 {
     match path {
@@ -70,8 +84,8 @@ fn ends_with_slash(path: &[u8]) -> bool
     }
 }
 
-/// The file of a path: at a slash the page of the folder.
-pub(crate) fn file_at(path: Vec<u8>) -> Result<Vec<u8>, AllocError>
+// The file of a path: at a slash the page of the folder.
+fn file_at(path: Vec<u8>) -> Result<Vec<u8>, AllocError>
     ensures { IfOk result (λ file. file.items ≡ file_at path.items) }
 {
     let mut file = path;

@@ -2,8 +2,8 @@
 // HEAD has no body and the length of the one that it would have.
 ghost use Rattle.std.specs.Prelude.{◌≡◌, ◌++◌, [], IfOk, OnOk, codes, if◌then◌else◌, length};
 ghost use Rattle.live_answers.specs.Replies.{connection, connection_line, end_lines, fixed_lines, head_text};
-ghost use Rattle.live_answers.specs.Replies.{length_line, ok, refusal, reply_text, status_lines};
-ghost use Rattle.live_answers.specs.Replies.{told_of, type_line};
+ghost use Rattle.live_answers.specs.Replies.{done_text, length_line, ok, plain, refusal, reply_text};
+ghost use Rattle.live_answers.specs.Replies.{status_lines, told_of, type_line};
 
 use crate::status::{Refusal, Status};
 use crate::writing::{put, put_line};
@@ -43,10 +43,22 @@ impl Reply {
     ) -> Result<Reply, AllocError>
         ensures { IfOk result (λ reply. told_of reply ≡ refusal why bare closes) }
     {
-        let status = why.status();
+        Reply::plain(alloc, why.status(), why.sentence(), bare, closes)
+    }
+
+    /// An answer of a number, its reason, and a sentence.
+    pub(crate) fn plain(
+        alloc: Global,
+        status: Status,
+        sentence: &str,
+        bare: bool,
+        closes: bool,
+    ) -> Result<Reply, AllocError>
+        ensures { IfOk result (λ reply. told_of reply ≡ plain status sentence.now bare closes) }
+    {
         let mut body = Vec::from_slice(alloc, status.text().as_bytes())?;
         put(&mut body, "\n")?;
-        put(&mut body, why.sentence())?;
+        put(&mut body, sentence)?;
         put(&mut body, "\n")?;
         Ok(Reply {
             status,
@@ -72,6 +84,17 @@ impl Reply {
         put_body(&mut text, &self.body, self.bare)?;
         Ok(text)
     }
+}
+
+/// The bytes of the answer that all is done.
+#[tactic(auto, unfolding(crate::specs::Replies::done_text))]
+pub(crate) fn done_text(alloc: Global, closes: bool) -> Result<Vec<u8>, AllocError>
+    ensures { IfOk result (λ text. text.items ≡ done_text closes) }
+{
+    let mut text = Vec::new(alloc);
+    put_status(&mut text, Status::NoContent)?;
+    put_end(&mut text, closes)?;
+    Ok(text)
 }
 
 // Puts the lines of an answer before its body.

@@ -1,25 +1,30 @@
 // What a head wants of a live server.
-ghost use Rattle.std.specs.Prelude.{true, ◌≡◌, IfOk, Option};
-ghost use Rattle.http_heads.specs.Asks.{Ask, Asks, said};
+ghost use Rattle.std.specs.Prelude.{true, ◌≡◌};
+ghost use Rattle.http_heads.specs.Asks.{said};
+ghost use Rattle.request_details.specs.Details.{said as detailed};
 ghost use Rattle.live_answers.specs.declared.wanted.Wanted.TheVariants as wanted;
-ghost use Rattle.live_answers.specs.Wants.{Wants, bad_by, bare_of, is_get, want_asked, want_at, want_by, want_of};
+ghost use Rattle.live_answers.specs.Wants.{Wants, bad_by, bare_of, want_admitted, want_asked, want_by};
+ghost use Rattle.live_answers.specs.Wants.{want_counted, want_of, want_posted, want_sized};
 
-use crate::paths::{decoded, file_at, hides_slash, is_open_path};
 use crate::status::Refusal;
-use http_heads::{Asked, judge};
+use http_heads::{Asked, TARGET_BYTES, judge};
+use request_details::{Body, Details, path_of, query_of, read_details};
 use request_guard::{Admission, admit};
-use std::alloc::{AllocError, Global};
 
 /// What is wanted. `bare` says that the answer is to have no body, `closes` that the connection is closed
-/// after it.
-#[derive(Drop)]
-pub(crate) enum Wanted {
-    /// A WebSocket, which may be opened.
-    Upgrade,
-    /// The file at this path.
-    File {
-        path: Vec<u8>,
-        bare: bool,
+/// after it. A target is up to its query, and its escapes aren't read.
+#[derive(Clone, Copy)]
+pub(crate) enum Wanted<'a> {
+    /// A WebSocket, which may be opened, by a target with this query.
+    Upgrade {
+        query: &'a [u8],
+    },
+    /// What is at a path.
+    Get(GetRequest<'a>),
+    /// That a body of so many bytes is taken at the path of this target.
+    Post {
+        target: &'a [u8],
+        length: usize,
         closes: bool,
     },
     /// Nothing that is given.
@@ -30,32 +35,42 @@ pub(crate) enum Wanted {
     },
 }
 
-/// What a head wants of a server at this port.
-pub(crate) fn read_wanted(alloc: Global, port: u16, head: &[u8]) -> Result<Wanted, AllocError>
-    ensures { IfOk result (λ wanted. Wants port head.now (want_of wanted)) }
-{
-    wanted_by(alloc, head, admit(head, port), judge(head))
+/// A request for what is at the path of a target.
+#[derive(Clone, Copy)]
+pub(crate) struct GetRequest<'a> {
+    pub target: &'a [u8],
+    pub query: &'a [u8],
+    pub wants_page: bool,
+    pub bare: bool,
+    pub closes: bool,
 }
 
-fn wanted_by(
-    alloc: Global,
-    head: &[u8],
-    by: Option<Admission>,
-    asked: Asked,
-) -> Result<Wanted, AllocError>
-    ensures { IfOk result (λ wanted. want_of wanted ≡ want_by head.now by (said asked.entry)) }
+/// What a head wants of a server at this port.
+pub(crate) fn read_wanted<'a>(port: u16, head: &'a [u8]) -> Wanted<'a>
+    ensures { Wants port head.now (want_of result) }
+{
+    match read_details(head, port) {
+        Some(details) => wanted_by(admit(head, port), judge(head), details),
+        None => refuse(Refusal::Unreadable, false),
+    }
+}
+
+fn wanted_by<'a>(by: Option<Admission>, asked: Asked<'a>, details: Details<'a>) -> Wanted<'a>
+    ensures { want_of result ≡ want_by by (said asked.entry) (detailed details.entry) }
 {
     match by {
-        None => Ok(refuse(Refusal::Unreadable, false)),
-        Some(Admission::ForeignHost) => Ok(refuse(Refusal::ForeignHost, is_bare(&asked))),
-        Some(Admission::ForeignOrigin) => Ok(refuse(Refusal::ForeignOrigin, is_bare(&asked))),
-        Some(Admission::Admitted { upgrade: true }) => Ok(Wanted::Upgrade),
-        Some(Admission::Admitted { upgrade: false }) => wanted_asked(alloc, head, asked),
+        None => refuse(Refusal::Unreadable, false),
+        Some(Admission::ForeignHost) => refuse(Refusal::ForeignHost, is_bare(&asked)),
+        Some(Admission::ForeignOrigin) => refuse(Refusal::ForeignOrigin, is_bare(&asked)),
+        Some(Admission::Admitted { upgrade: true }) => Wanted::Upgrade {
+            query: query_of(details.target),
+        },
+        Some(Admission::Admitted { upgrade: false }) => wanted_admitted(asked, details),
     }
 }
 
 // A refusal that closes.
-fn refuse(why: Refusal, bare: bool) -> Wanted
+fn refuse<'a>(why: Refusal, bare: bool) -> Wanted<'a>
     ensures { result ≡ wanted.Refuse why bare true }
 {
     Wanted::Refuse {
@@ -80,58 +95,85 @@ fn is_bare(asked: &Asked) -> bool
     }
 }
 
-// What a head that is let in wants.
-fn wanted_asked(alloc: Global, head: &[u8], asked: Asked) -> Result<Wanted, AllocError>
-    ensures { IfOk result (λ wanted. want_of wanted ≡ want_asked head.now (said asked.entry)) }
+// What a head wants that is let in and asks for no WebSocket.
+fn wanted_admitted<'a>(asked: Asked<'a>, details: Details<'a>) -> Wanted<'a>
+    ensures { want_of result ≡ want_admitted (detailed details.entry) (said asked.entry) }
+{
+    if details.method == b"POST".as_slice() {
+        wanted_posted(details)
+    } else {
+        wanted_asked(asked, details)
+    }
+}
+
+// What a head wants that is no post.
+fn wanted_asked<'a>(asked: Asked<'a>, details: Details<'a>) -> Wanted<'a>
+    ensures { want_of result ≡ want_asked (detailed details.entry) (said asked.entry) }
 {
     match asked {
-        Asked::BadRequest { bare } => Ok(refuse(bad_by(head), bare)),
-        Asked::OtherMethod { closes } => Ok(Wanted::Refuse {
+        Asked::BadRequest { bare } => refuse(bad_by(details.method), bare),
+        Asked::OtherMethod { closes } => Wanted::Refuse {
             why: Refusal::OtherMethod,
             bare: false,
             closes,
-        }),
-        Asked::LongTarget { bare, closes } => Ok(Wanted::Refuse {
+        },
+        Asked::LongTarget { bare, closes } => Wanted::Refuse {
             why: Refusal::LongTarget,
             bare,
             closes,
+        },
+        Asked::Module { name, bare, closes } => Wanted::Get(GetRequest {
+            target: name,
+            query: query_of(details.target),
+            wants_page: details.wants_page,
+            bare,
+            closes,
         }),
-        Asked::Module { name, bare, closes } => wanted_at(alloc, name, bare, closes),
     }
 }
 
 // What a head with a body is refused for: the method, where it is another.
-fn bad_by(head: &[u8]) -> Refusal
-    ensures { result ≡ bad_by head.now }
+fn bad_by(method: &[u8]) -> Refusal
+    ensures { result ≡ bad_by method.now }
 {
-    if is_get(head) {
+    if method == b"GET".as_slice() || method == b"HEAD".as_slice() {
         Refusal::Unreadable
     } else {
         Refusal::OtherMethod
     }
 }
 
-fn is_get(head: &[u8]) -> bool
-    ensures { result ≡ is_get head.now }
+// What a post wants.
+fn wanted_posted<'a>(details: Details<'a>) -> Wanted<'a>
+    ensures { want_of result ≡ want_posted (detailed details.entry) }
 {
-    head.starts_with(b"GET ") || head.starts_with(b"HEAD ")
+    if details.is_foreign {
+        return refuse(Refusal::ForeignPost, false);
+    }
+    wanted_sized(details)
 }
 
-// The file at a target, where it is served.
-fn wanted_at(alloc: Global, target: &[u8], bare: bool, closes: bool) -> Result<Wanted, AllocError>
-    ensures { IfOk result (λ wanted. want_of wanted ≡ want_at target.now bare closes) }
+fn wanted_sized<'a>(details: Details<'a>) -> Wanted<'a>
+    ensures { want_of result ≡ want_sized (detailed details.entry) details.entry.body }
 {
-    let path = decoded(alloc, target)?;
-    if hides_slash(target) || !is_open_path(&path) {
-        return Ok(Wanted::Refuse {
-            why: Refusal::Hidden,
-            bare,
-            closes,
-        });
+    match details.body {
+        Body::Untold => refuse(Refusal::NoLength, false),
+        Body::Bytes(length) => wanted_counted(details, length),
+        Body::Long => refuse(Refusal::LongBody, false),
+        Body::Unclear => refuse(Refusal::UnclearBody, false),
     }
-    Ok(Wanted::File {
-        path: file_at(path)?,
-        bare,
-        closes,
-    })
+}
+
+// What a post wants that has so many bytes.
+fn wanted_counted<'a>(details: Details<'a>, length: usize) -> Wanted<'a>
+    ensures { want_of result ≡ want_counted (detailed details.entry) length }
+{
+    if details.target.len() > TARGET_BYTES {
+        return refuse(Refusal::LongTarget, false);
+    }
+    Wanted::Post {
+        target: path_of(details.target),
+        length,
+        closes: details.closes,
+    }
 }

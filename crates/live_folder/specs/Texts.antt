@@ -2,6 +2,6 @@
 use Rattle.std.specs.Prelude.{◌≤◌, ℕ, length}
 use Rattle.std.specs.Global.{Vec}
 
--- a text within the limit
+-- a text of at most 64 MiB
 abbrev pub IsShort : Vec ℕ → Type 0
-IsShort text = length text.items ≤ 131072
+IsShort text = length text.items ≤ 67108864

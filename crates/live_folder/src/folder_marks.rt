@@ -5,9 +5,9 @@ ghost use Rattle.live_folder.specs.Readings.{IsShortRead};
 use crate::look::{Change, Look, PassedOver, SkipCause};
 use crate::marks::{Mark, Marks, NoMarks, marks_below, same_marks};
 use crate::watched::Watched;
+use file_names::module_name;
 use hmr_base::{ReadFault, StdSource, read_all};
-use hmr_types::limits::TEXT_BYTES;
-use hmr_types::{ModName, NameFault, Text};
+use hmr_types::{NameFault, Text};
 use std::alloc::{AllocError, Global};
 use std::collections::BTreeMap;
 use std::fs::File;
@@ -23,9 +23,14 @@ const STILL_MILLIS: u64 = 20;
 /// How often it is looked for that.
 const LOOKS: u32 = 10;
 
-/// A folder of the file system. A file is read where its length or its time of change is another than at the
-/// look before. Of the files those are looked at whose names end in `.js`; folders that begin with a dot,
-/// those named `node_modules` and links to folders are left out.
+/// The most bytes of a file.
+const FILE_BYTES: usize = 67_108_864;
+
+/// A folder of the file system. A file is read where its length or its time of change is another than at
+/// the look before. Of the files those are looked at whose names end in `.js`, `.mjs`, `.css`, `.json`,
+/// `.html` or `.htm`; folders that begin with a dot, those named `node_modules` and links to folders are
+/// left out. A look shows first the modules that have a new text and then those that are gone, in the
+/// order of their paths.
 #[derive(Drop)]
 pub struct FolderMarks<R: Drop> {
     rt: R,
@@ -91,7 +96,7 @@ impl<R: Files + AllocGlobal + Wait + Clone + Drop> FolderMarks<R> {
 
     // Takes a file that is new or has changed.
     fn take_file(&self, alloc: Global, path: &str, look: &mut Look) -> Result<(), AllocError> {
-        let name = match ModName::read(alloc, path.as_bytes()) {
+        let name = match module_name(alloc, path.as_bytes()) {
             Ok(name) => name,
             Err(NameFault::NotAName) => return skip(alloc, path, SkipCause::BadName, look),
             Err(NameFault::NoMemory) => return Err(AllocError),
@@ -116,7 +121,7 @@ impl<R: Files + AllocGlobal + Wait + Clone + Drop> FolderMarks<R> {
             Err(error) if error.kind() == ErrorKind::NotFound => return Ok(Read::Gone),
             Err(_) => return Ok(Read::Skip(SkipCause::Unreadable)),
         };
-        match read_all(alloc, &mut StdSource::new(opened), TEXT_BYTES) {
+        match read_all(alloc, &mut StdSource::new(opened), FILE_BYTES) {
             Ok(text) => Ok(Read::Text(text)),
             Err(ReadFault::TooLong) => Ok(Read::Skip(SkipCause::TextTooLong)),
             Err(ReadFault::Failed) => Ok(Read::Skip(SkipCause::Unreadable)),
@@ -127,7 +132,7 @@ impl<R: Files + AllocGlobal + Wait + Clone + Drop> FolderMarks<R> {
 
 // Takes a file that is gone.
 fn take_removed(alloc: Global, path: &str, look: &mut Look) -> Result<(), AllocError> {
-    match ModName::read(alloc, path.as_bytes()) {
+    match module_name(alloc, path.as_bytes()) {
         Ok(name) => {
             look.changes.push(Change::removed(name))?;
             Ok(())

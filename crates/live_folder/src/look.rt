@@ -1,7 +1,7 @@
 // What a look at a folder shows.
 ghost use Rattle.std.specs.Prelude.{◌≡◌, ◌≤◌, None, Some, length, true};
-ghost use Rattle.hmr_types.specs.ModName.{is_name};
-ghost use Rattle.std.specs.Option.{ForSome};
+ghost use Rattle.hmr_types.specs.ModName.{is_name, is_text};
+ghost use Rattle.std.specs.Option.{ForSome, is_none};
 ghost use Rattle.live_folder.specs.Texts.{IsShort};
 
 use hmr_types::{ModName, Text};
@@ -16,7 +16,7 @@ pub struct Change {
 }
 
 impl Change {
-    /// A module with a new text of at most 131,072 bytes. It takes no memory.
+    /// A module with a new text of at most 64 MiB. It takes no memory.
     pub fn saved(name: ModName, text: Vec<u8>) -> Change
         requires short { IsShort text }
         ensures { (result.name ≡ name) × (result.text ≡ Some text) }
@@ -32,6 +32,20 @@ impl Change {
         ensures { (result.name ≡ name) × (result.text ≡ None) }
     {
         Change { name, text: None }
+    }
+
+    /// Whether it is of this module. It takes no memory.
+    pub fn is_of(&self, name: &ModName) -> bool
+        ensures { result ≡ is_text self.now.name name.now }
+    {
+        self.name == *name
+    }
+
+    /// Whether the module is gone. It takes no memory.
+    pub fn is_removal(&self) -> bool
+        ensures { result ≡ is_none self.now.text }
+    {
+        self.text.is_none()
     }
 
     /// The name, and the new text; None where the module is gone. It takes no memory.
@@ -50,7 +64,7 @@ impl Change {
 /// Why a file was passed over.
 #[derive(Clone, Copy, Debug, PartialEq, Eq)]
 pub enum SkipCause {
-    /// It has more than 131,072 bytes.
+    /// It has more than 64 MiB.
     TextTooLong,
     /// No module can have its name.
     BadName,
@@ -68,7 +82,7 @@ pub struct PassedOver {
 /// What changed since the look before.
 #[derive(Drop)]
 pub struct Look {
-    /// The modules that have a new text or are gone, in the order of their names, first those that have one.
+    /// The modules that have a new text or are gone.
     pub changes: Vec<Change>,
     /// The files that changed and were passed over. What they were before stays.
     pub passed: Vec<PassedOver>,

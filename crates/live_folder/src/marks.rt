@@ -55,7 +55,7 @@ impl From<io::Error> for NoMarks {
     }
 }
 
-/// The marks of the files below a folder whose names end in `.js`. Folders that begin with a dot, and those
+/// The marks of the files below a folder that pages are made of. Folders that begin with a dot, and those
 /// named `node_modules`, are left out, as are links to folders, and folders that may not be read.
 pub(crate) fn marks_below<R: Files + AllocGlobal + Clone + Drop>(
     rt: &R,
@@ -154,7 +154,7 @@ fn take_entry<R: Files + AllocGlobal + Clone + Drop>(
         }
         return Ok(());
     }
-    if !name.ends_with(".js") {
+    if !is_followed(name) {
         return Ok(());
     }
     let data = if data.is_symlink() {
@@ -174,6 +174,16 @@ fn take_entry<R: Files + AllocGlobal + Clone + Drop>(
         found.insert(path, mark)?;
     }
     Ok(())
+}
+
+// Whether a file of this name is one that pages are made of.
+fn is_followed(name: &str) -> bool {
+    name.ends_with(".js")
+        || name.ends_with(".mjs")
+        || name.ends_with(".css")
+        || name.ends_with(".json")
+        || name.ends_with(".html")
+        || name.ends_with(".htm")
 }
 
 // Whether what has this name is never looked at.

@@ -1,9 +1,10 @@
-// A stream before it is opened as a WebSocket: heads are taken of it within a time, and answers written.
+// A stream before it is opened as a WebSocket: heads and bodies are taken of it within a time, and answers
+// written.
 ghost use Rattle.std.specs.Prelude.{◌≡◌, ◌++◌, IfOk};
-ghost use Rattle.tcp_doors.specs.OneHead.{IsOneHead};
+ghost use Rattle.tcp_doors.specs.OneHead.{IsOneBody, IsOneHead};
 
 use crate::patient_stream::{PatientStream, waits};
-use doors::{Coming, OutFault, take_front};
+use doors::{Coming, OutFault, take_body, take_front};
 use http_heads::{Cut, find_head};
 use std::alloc::{AllocError, Global};
 use std::io::{Read, Write};
@@ -11,7 +12,7 @@ use std::sync::atomic::{AtomicBool, Ordering};
 use std::sync::{Arc, Wait};
 use std::time::{Clock, Instant};
 
-/// How long a head may take, in seconds, from the time at which it is asked for.
+/// How long a head, or a body, may take, in seconds, from the time at which it is asked for.
 const HEAD_SECONDS: u64 = 5;
 
 /// How long one who was answered for the last time may go on sending, in seconds.
@@ -87,6 +88,32 @@ impl<S: Read + Write + Drop, R: Wait + Clock + Copy + Drop> HttpStream<S, R> {
             if self.over {
                 return Ok(Coming::Gone);
             }
+        }
+        unreachable!()
+    }
+
+    /// The next bytes, as many as this, where they come whole within five seconds and before the doors are
+    /// shut. It waits.
+    pub(crate) fn next_body(
+        &mut self,
+        alloc: Global,
+        count: usize,
+    ) -> Result<Option<Vec<u8>>, OutFault>
+        ensures { IfOk result (IsOneBody count) }
+    {
+        let rt = self.rt;
+        let Ok(start) = Instant::now(&rt) else {
+            return Err(OutFault::Failed);
+        };
+        for _ in rt.forever() {
+            if self.held.len() >= count {
+                return Ok(take_body(alloc, &mut self.held, count)?);
+            }
+            if self.over || self.is_shut() || is_late(&rt, start, HEAD_SECONDS) {
+                self.over = true;
+                return Ok(None);
+            }
+            self.read_more()?;
         }
         unreachable!()
     }

@@ -179,6 +179,17 @@ impl<S: Read + Write + Drop, R: RandomSource + Clock + Wait + Copy + Drop> Visit
         }
     }
 
+    fn next_body(&mut self, alloc: Global, count: usize) -> Result<Option<Vec<u8>>, OutFault> {
+        let body = match &mut self.http {
+            Some(http) => http.next_body(alloc, count),
+            None => Err(OutFault::Failed),
+        };
+        match body {
+            Ok(body) => Ok(body),
+            Err(fault) => Err(self.count(fault)),
+        }
+    }
+
     fn answer(&mut self, text: &[u8]) -> Result<(), OutFault> {
         let answered = match &mut self.http {
             Some(http) => http.answer(text),
