@@ -14,24 +14,26 @@ use crate::news_board::NewsBoard;
 use hmr_hub::{Hub, Pass};
 use hmr_types::ClientId;
 use hub_desks::HubDesk;
-use live_lines::{Asked, News, PageLog, PageNews};
+use live_lines::{Asked, ImportedName, News, PageLog, PageNews};
+use live_site::Site;
 use std::alloc::Global;
 use std::sync::{Arc, Wait};
 use update_msgs::{ClientMsg, Desk, HubStop, ServerMsg};
 
-/// The desk of one page: a desk of the hub, the bell that asks wait at, and where news go. It has what is
-/// known of the page.
+/// The desk of one page: a desk of the hub, the bell that asks wait at, where news go, and the site that
+/// says which names a text imports. It has what is known of the page.
 #[derive(Drop)]
-pub struct LiveDesk<R: Drop> {
+pub struct LiveDesk<R: Drop, S: Drop> {
     rt: R,
     alloc: Global,
     desk: HubDesk<R>,
     bell: Arc<Bell, Global>,
     news: Arc<NewsBoard, Global>,
+    site: Arc<S, Global>,
     log: PageLog,
 }
 
-impl<R: Copy + Drop> LiveDesk<R> {
+impl<R: Copy + Drop, S: Drop> LiveDesk<R, S> {
     /// A desk without a client. It takes no memory.
     pub fn new(
         rt: R,
@@ -40,6 +42,7 @@ impl<R: Copy + Drop> LiveDesk<R> {
         pass: Pass,
         bell: Arc<Bell, Global>,
         news: Arc<NewsBoard, Global>,
+        site: Arc<S, Global>,
     ) -> Self
         requires of { IsPassOf (arc_value hub) pass }
         ensures hub { result.desk.hub ≡ hub }
@@ -53,12 +56,13 @@ impl<R: Copy + Drop> LiveDesk<R> {
             desk: HubDesk::new(rt, hub, pass),
             bell,
             news,
+            site,
             log: PageLog::new(alloc),
         }
     }
 }
 
-impl<R: Drop> LiveDesk<R> {
+impl<R: Drop, S: Drop> LiveDesk<R, S> {
     /// Whether the hub answered that its transcript is full. It takes no memory.
     pub fn is_full(&self) -> bool
         ensures { result ≡ self.now.desk.full }
@@ -78,13 +82,14 @@ impl<R: Drop> LiveDesk<R> {
             desk,
             bell: _,
             news: _,
+            site: _,
             log: _,
         } = self;
         desk.into_pass()
     }
 }
 
-impl<R: Wait + Drop> LiveDesk<R> {
+impl<R: Wait + Drop, S: Site + Drop> LiveDesk<R, S> {
     ghost use Rattle.hub_desks.specs.Desks.{Left, SameDesk};
     ghost use Rattle.live_desk.specs.Waiting.{Answered, Asked as IsAsked};
 
@@ -169,11 +174,32 @@ impl<R: Wait + Drop> LiveDesk<R> {
     fn tell(&mut self, asked: Asked, answer: &ServerMsg)
         ensures desk { self.new.desk ≡ self.old.desk }
     {
+        let names = self.names_in(answer);
         let before = self.log.client();
-        let news = self.log.answered(self.alloc, asked, answer);
+        let news = self.log.answered(self.alloc, asked, answer, names);
         let now = self.log.client();
         if let Ok(Some(news)) = news {
             self.tell_of(if now == 0 { before } else { now }, news);
+        }
+    }
+
+    // What the text of an answer imports, as the site has it: nothing where there is no text, and where
+    // memory runs out.
+    fn names_in(&self, answer: &ServerMsg) -> Vec<ImportedName> {
+        let ServerMsg::Text {
+            path,
+            version,
+            text: _,
+        } = answer
+        else {
+            return Vec::new(self.alloc);
+        };
+        let found = self
+            .site
+            .imported_names(&self.rt, self.alloc, path, *version);
+        match found {
+            Ok(names) => names,
+            Err(_) => Vec::new(self.alloc),
         }
     }
 
@@ -183,7 +209,7 @@ impl<R: Wait + Drop> LiveDesk<R> {
     }
 }
 
-impl<R: Wait + Drop> Desk for LiveDesk<R> {
+impl<R: Wait + Drop, S: Site + Drop> Desk for LiveDesk<R, S> {
     ghost use Rattle.live_desk.specs.Desks.{SameLive, is_full};
 
     ghost full = { is_full };

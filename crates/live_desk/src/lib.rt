@@ -5,10 +5,11 @@
 //! [`NewsBoard`], from which one thread takes it. A [`LiveBoard`] stands round a board of the hub: it waits
 //! until there is a job for it, and rings for each result.
 //!
-//! Stands on `hub_desks` for desks and boards, and on `live_lines` for what an exchange shows. Keeps: each
-//! answer is one that the hub's desk dealt, the last where an ask was dealt twice, and the first of the two
-//! was idle; the pass and the hub are those of the desk and the board within. What is told is lost for want
-//! of memory, and never an answer. Knows nothing of links, of folders or of how news are written.
+//! Stands on `hub_desks` for desks and boards, on `live_lines` for what an exchange shows, and on
+//! `live_site` for the names that a text imports. Keeps: each answer is one that the hub's desk dealt, the
+//! last where an ask was dealt twice, and the first of the two was idle; the pass and the hub are those of
+//! the desk and the board within. What is told is lost for want of memory, and never an answer. Knows
+//! nothing of links, of folders or of how news are written.
 #![tactic(auto)]
 
 mod bell;

@@ -1,5 +1,5 @@
 -- What an exchange makes of what is known of a page, and what there is to tell of it.
-use Rattle.std.specs.Prelude.{ℕ, List, [], ◌∷◌, map, length, nat_lt, Option, Some, None, if◌then◌else◌}
+use Rattle.std.specs.Prelude.{ℕ, List, [], ◌∷◌, map, Option, Some, None}
 use Rattle.std.specs.BTreeMap.{insert_entry, is_at}
 use Rattle.std.specs.Cmp.Lexicographic.{slice_cmp}
 use Rattle.std.specs.Map.{remove_entry}
@@ -7,14 +7,13 @@ use Rattle.std.specs.Ordering.{nat_cmp}
 use Rattle.hmr_types.specs.declared.words.PlanKind.{PlanKind}
 use Rattle.hmr_types.specs.declared.words.PlanKind.TheVariants.{Load, Reload, Update}
 use Rattle.core_model.specs.Names.{Name}
-use Rattle.import_scan.specs.Links.{links}
 use Rattle.update_msgs.specs.declared.message.JsUpdate.{JsUpdate}
 use Rattle.update_msgs.specs.declared.message.ServerMsg.{ServerMsg}
 use Rattle.update_msgs.specs.declared.message.ServerMsg.TheVariants as msg
 use Rattle.live_lines.specs.declared.asked.Asked.{Asked}
 use Rattle.live_lines.specs.declared.asked.Asked.TheVariants as asked
+use Rattle.live_lines.specs.declared.imported_name.ImportedName.{ImportedName}
 use Rattle.live_lines.specs.declared.instance.Begun.{Begun}
-use Rattle.live_lines.specs.declared.instance.Fetched.{Fetched}
 use Rattle.live_lines.specs.declared.page_news.PageNews.{PageNews}
 use Rattle.live_lines.specs.declared.page_news.PageNews.TheVariants as news
 use Rattle.live_lines.specs.Applying.{changed_of, modules_after, next_made, told_by}
@@ -23,10 +22,6 @@ use Rattle.live_lines.specs.Pages.{Page}
 -- a page of which nothing is known but its number
 abbrev pub blank : ℕ → Page
 blank client = record { client = client; made = 0; modules = []; staged = []; under = None }
-
--- what a text imports: each dependency with a name of it; nothing, where it is longer than any text is
-abbrev pub links_in : Name → List ℕ → List (List ℕ × List ℕ)
-links_in n text = if nat_lt (length text) 4294967295 then links n text else []
 
 -- the modules without these
 abbrev pub without_rows : {X : Type 0} → List (Name × X) → List Name → List (Name × X)
@@ -49,11 +44,11 @@ at_rest p = record p { staged = []; under = None }
 abbrev pub pair_of : JsUpdate → Name × Name
 pair_of u = (u.path, u.accepted_path)
 
--- a text came: it is fetched
-abbrev pub fetch : Name → ℕ → List ℕ → Page → Page
-fetch n version text p =
+-- a text came, which imports these names: it is fetched
+abbrev pub fetch : Name → ℕ → List ImportedName → Page → Page
+fetch n version names p =
     record p {
-      staged = insert_entry (slice_cmp nat_cmp) p.staged n (record { version = version; links = links_in n text });
+      staged = insert_entry (slice_cmp nat_cmp) p.staged n (record { version = version; names = names });
     }
 
 -- the plan under way was applied
@@ -88,18 +83,20 @@ refusal_told (asked.Aborted cause path from name) code = None
 refusal_told asked.Bye code = None
 refusal_told asked.Other code = None
 
--- what an exchange makes of what is known, and what there is to tell
-abbrev pub answered : Asked → ServerMsg → Page → Told
-answered a (msg.Connected client roots) p = connect a client roots p
-answered a (msg.Update replaced updates batch triggered) p = (begin Update (map pair_of updates) p, None)
-answered a (msg.Prune paths) p =
+-- what an exchange makes of what is known, and what there is to tell; the names are what a text imports
+abbrev pub answered : Asked → ServerMsg → List ImportedName → Page → Told
+answered a (msg.Connected client roots) names p = connect a client roots p
+answered a (msg.Update replaced updates batch triggered) names p =
+    (begin Update (map pair_of updates) p, None)
+answered a (msg.Prune paths) names p =
     (record p { modules = without_rows p.modules paths }, Some (news.Pruned paths))
-answered a (msg.FullReload cause path batch triggered) p = (begin Reload [] p, Some (news.Reload cause path))
-answered a (msg.Error path row column word) p = (p, None)
-answered a (msg.Broken path row column word) p = (p, None)
-answered a msg.Idle p = (p, None)
-answered a msg.Done p = done a p
-answered a (msg.Text path version text) p = (fetch path version text p, None)
-answered a (msg.Missing path) p = (p, None)
-answered a (msg.NotYet path) p = (p, None)
-answered a (msg.Refused code path told kept) p = (p, refusal_told a code)
+answered a (msg.FullReload cause path batch triggered) names p =
+    (begin Reload [] p, Some (news.Reload cause path))
+answered a (msg.Error path row column word) names p = (p, None)
+answered a (msg.Broken path row column word) names p = (p, None)
+answered a msg.Idle names p = (p, None)
+answered a msg.Done names p = done a p
+answered a (msg.Text path version text) names p = (fetch path version names p, None)
+answered a (msg.Missing path) names p = (p, None)
+answered a (msg.NotYet path) names p = (p, None)
+answered a (msg.Refused code path told kept) names p = (p, refusal_told a code)

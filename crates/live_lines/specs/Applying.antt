@@ -8,6 +8,7 @@ use Rattle.std.specs.Ordering.{nat_cmp}
 use Rattle.hmr_types.specs.declared.words.PlanKind.{PlanKind}
 use Rattle.hmr_types.specs.declared.words.PlanKind.TheVariants.{Load, Reload, Update}
 use Rattle.core_model.specs.Names.{Name}
+use Rattle.live_lines.specs.declared.imported_name.ImportedName.{ImportedName}
 use Rattle.live_lines.specs.declared.instance.Binding.{Binding}
 use Rattle.live_lines.specs.declared.instance.Fetched.{Fetched}
 use Rattle.live_lines.specs.declared.instance.Instance.{Instance}
@@ -35,12 +36,12 @@ abbrev pub version_after : Option Fetched → Option Instance → ℕ
 version_after None kept = live_version kept
 version_after (Some f) kept = f.version
 
--- what a new instance imports by this link
-abbrev pub bound : List (Name × Fetched) → List (Name × Instance) → List ℕ × List ℕ → Binding
-bound staged kept link = record {
-  dependency = link.0;
-  name = link.1;
-  version = version_after (row_at staged link.0) (row_at kept link.0);
+-- what a name is bound to that a new instance imports
+abbrev pub bound : List (Name × Fetched) → List (Name × Instance) → ImportedName → Binding
+bound staged kept imported = record {
+  dependency = imported.from;
+  name = imported.name;
+  version = version_after (row_at staged imported.from) (row_at kept imported.from);
 }
 
 -- the new instance of a fetched module
@@ -48,7 +49,7 @@ abbrev pub born : ℕ → List (Name × Fetched) → List (Name × Instance) →
 born made staged kept f = record {
   version = f.version;
   made = made;
-  bindings = map (bound staged kept) f.links;
+  bindings = map (bound staged kept) f.names;
 }
 
 -- the new instances of fetched modules, by name

@@ -1,5 +1,5 @@
 -- The line of a text at which a fault stands, and what is put below it.
-use Rattle.std.specs.Prelude.{ℕ, List, [], ◌∷◌, ◌++◌, ◌-◌, ◌==◌, ◌&&◌, nat_le, nat_lt, take, if◌then◌else◌}
+use Rattle.std.specs.Prelude.{ℕ, List, [], ◌∷◌, ◌-◌, ◌==◌, ◌&&◌, nat_le, nat_lt, take, if◌then◌else◌}
 use Rattle.std.specs.List.{flat_map}
 use Rattle.live_lines.specs.declared.fault_line.TheConstants.{SHOWN_BYTES}
 use Rattle.std.specs.Str.Lossy.{utf8_lossy}

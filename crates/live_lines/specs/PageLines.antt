@@ -3,6 +3,7 @@ use Rattle.std.specs.Prelude.{ℕ, List, [], ◌∷◌, ◌++◌, ◌-◌, ◌==
 use Rattle.std.specs.Prelude.{if◌then◌else◌}
 use Rattle.std.specs.List.{flat_map}
 use Rattle.core_model.specs.Names.{Name, has}
+use Rattle.hmr_types.specs.ModName.{is_text}
 use Rattle.hmr_types.specs.declared.words.ReloadCause.{ReloadCause}
 use Rattle.play_text.specs.Words.{cause_word}
 use Rattle.update_msgs.specs.declared.message.AbortCause.{AbortCause}
@@ -11,7 +12,7 @@ use Rattle.live_lines.specs.declared.line_text.Style.{Style}
 use Rattle.live_lines.specs.declared.page_news.PageNews.{PageNews}
 use Rattle.live_lines.specs.declared.page_news.PageNews.TheVariants as news
 use Rattle.live_lines.specs.declared.page_news.StaleBinding.{StaleBinding}
-use Rattle.live_lines.specs.Texts.{arrow, dot, on, off}
+use Rattle.live_lines.specs.Texts.{arrow, dot, on, off, shown_byte}
 
 -- how many more there are
 abbrev pub more_text : ℕ → List ℕ
@@ -31,14 +32,18 @@ itself n = n
 abbrev pub versioned : Name × ℕ → List ℕ
 versioned row = row.0 ++ codes " v" ++ decimal row.1
 
+-- a name, which may be any text, where it isn't all of its module
+abbrev pub name_text : List ℕ → List ℕ
+name_text name = if is_text name (codes "*") then [] else flat_map shown_byte name ++ codes " of "
+
 -- who still has which name
 abbrev pub still_text : StaleBinding → List ℕ
-still_text b = b.importer ++ codes " still has " ++ b.name
+still_text b = (b.importer ++ codes " still has ") ++ name_text b.name
 
--- of which version of which module, and which is the live one
+-- which version of which module it has, and which is the live one
 abbrev pub of_text : StaleBinding → List ℕ
 of_text b =
-    (codes " of " ++ b.imported ++ codes " v") ++ (decimal b.linked ++ codes " (now v")
+    (b.imported ++ codes " v") ++ (decimal b.linked ++ codes " (now v")
     ++ (decimal b.live ++ codes ")")
 
 -- a stale binding
@@ -109,10 +114,11 @@ missing_text path = codes "the module " ++ path ++ codes " is not served"
 abbrev pub broken_text : Name → List ℕ
 broken_text path = codes "the text of " ++ path ++ codes " cannot be read"
 
--- an import that doesn't fit
+-- an import that doesn't fit; its name may be any text
 abbrev pub link_text : Name → List ℕ → List ℕ → List ℕ
 link_text path from name =
-    (path ++ codes " imports ") ++ (name ++ codes ", which ") ++ (from ++ codes " does not export")
+    (path ++ codes " imports ") ++ (flat_map shown_byte name ++ codes ", which ")
+    ++ (from ++ codes " does not export")
 
 -- why a plan was given up
 abbrev pub abort_text : AbortCause → Name → Option Name → Option (List ℕ) → List ℕ

@@ -1,7 +1,6 @@
 -- What the lines of a terminal are made of.
-use Rattle.std.specs.Prelude.{ℕ, Bool, List, [], ◌∷◌, ◌++◌, ◌==◌, ◌||◌, ◌&&◌, not, codes, decimal, nat_lt, nat_le}
+use Rattle.std.specs.Prelude.{ℕ, List, [], ◌∷◌, ◌++◌, ◌==◌, ◌||◌, ◌&&◌, not, codes, decimal, nat_lt, nat_le}
 use Rattle.std.specs.Prelude.{if◌then◌else◌}
-use Rattle.std.specs.List.{flat_map}
 use Rattle.live_lines.specs.declared.clock.Clock.{Clock}
 use Rattle.live_lines.specs.declared.line_text.Style.{Style}
 use Rattle.live_lines.specs.declared.line_text.Style.TheVariants.{Plain, Coloured}

@@ -5,13 +5,12 @@ ghost use Rattle.live_lines.specs.Applying.{born, born_rows, bound, changed_by, 
 ghost use Rattle.live_lines.specs.Applying.{live_version, next_made, put_rows, told_by, version_after};
 ghost use Rattle.live_lines.specs.Pages.{row_at};
 
-use crate::PageNews;
 use crate::exchanges::rest;
 use crate::instance::{Begun, Binding, Fetched, Instance};
 use crate::page_log::PageLog;
 use crate::stale::stale_in;
+use crate::{ImportedName, PageNews};
 use hmr_types::{ModName, PlanKind, Sequence, Ver};
-use import_scan::Link;
 use std::alloc::{AllocError, Global};
 use std::collections::BTreeMap;
 use std::mem;
@@ -85,7 +84,7 @@ fn born(
 ) -> Result<Instance, AllocError>
     ensures { IfOk result (λ i. i ≡ born made staged.now.entries kept.now.entries fetched.now) }
 {
-    let bindings = bindings_of(alloc, staged, kept, fetched.links.as_slice())?;
+    let bindings = bindings_of(alloc, staged, kept, fetched.names.as_slice())?;
     Ok(Instance {
         version: fetched.version,
         made,
@@ -93,20 +92,21 @@ fn born(
     })
 }
 
+// What the names are bound to that a new instance imports.
 fn bindings_of(
     alloc: Global,
     staged: &BTreeMap<ModName, Fetched>,
     kept: &BTreeMap<ModName, Instance>,
-    links: &[Link],
+    names: &[ImportedName],
 ) -> Result<Sequence<Binding>, AllocError>
-    ensures { IfOk result (λ b. b ≡ map (bound staged.now.entries kept.now.entries) links.now) }
+    ensures { IfOk result (λ b. b ≡ map (bound staged.now.entries kept.now.entries) names.now) }
 {
     let mut bindings = Vec::new(alloc);
-    for link in links {
-        let version = version_after(staged, kept, link.dependency());
+    for imported in names {
+        let version = version_after(staged, kept, &imported.from);
         bindings.push(Binding {
-            dependency: link.dependency().clone()?,
-            name: link.name().clone()?,
+            dependency: imported.from.clone()?,
+            name: imported.name.clone()?,
             version,
         })?;
     }

@@ -1,27 +1,28 @@
 // What each exchange makes of what is known of a page.
 ghost use Rattle.std.specs.Prelude.{◌≡◌, IfOk, OnOk, [], map};
 ghost use Rattle.hmr_types.specs.declared.words.PlanKind.TheVariants.{Load, Reload, Update};
-ghost use Rattle.live_lines.specs.Answering.{answered, at_rest, begin, connect, done, fetch, links_in};
+ghost use Rattle.live_lines.specs.Answering.{answered, at_rest, begin, connect, done, fetch};
 ghost use Rattle.live_lines.specs.Answering.{pair_of, refusal_told, without_rows};
 
 use crate::applying::apply;
 use crate::instance::{Begun, Fetched, Instance};
 use crate::page_log::PageLog;
-use crate::{Asked, PageNews};
-use hmr_types::{ClientId, ModName, PlanKind, Sequence, Text, Ver};
-use import_scan::{Link, links};
+use crate::{Asked, ImportedName, PageNews};
+use hmr_types::{ClientId, ModName, PlanKind, Sequence, Ver};
 use std::alloc::{AllocError, Global};
 use std::collections::BTreeMap;
 use update_msgs::{JsUpdate, ServerMsg};
 
-/// What an exchange makes of what is known, and what there is to tell.
+/// What an exchange makes of what is known, and what there is to tell. The names are what a text imports
+/// that the answer brings.
 pub(crate) fn answered(
     log: &mut PageLog,
     alloc: Global,
     asked: Asked,
     answer: &ServerMsg,
+    names: Vec<ImportedName>,
 ) -> Result<Option<PageNews>, AllocError>
-    ensures { IfOk result (λ news. (log.new, news) ≡ answered asked answer.now log.old) }
+    ensures { IfOk result (λ news. (log.new, news) ≡ answered asked answer.now names.items log.old) }
 {
     match answer {
         ServerMsg::Connected { client, roots } => connect(log, alloc, asked, *client, roots),
@@ -43,12 +44,8 @@ pub(crate) fn answered(
                 path,
             }))
         }
-        ServerMsg::Text {
-            path,
-            version,
-            text,
-        } => {
-            fetch(log, alloc, path, *version, text)?;
+        ServerMsg::Text { path, version, .. } => {
+            fetch(log, path, *version, names)?;
             Ok(None)
         }
         ServerMsg::Done => done(log, alloc, asked),
@@ -120,32 +117,19 @@ fn remove_all(modules: &mut BTreeMap<ModName, Instance>, names: &[ModName])
     }
 }
 
-// A text came.
+// A text came, which imports these names.
 fn fetch(
     log: &mut PageLog,
-    alloc: Global,
     name: &ModName,
     version: Ver,
-    text: &Text,
+    names: Vec<ImportedName>,
 ) -> Result<(), AllocError>
-    ensures { OnOk result (log.new ≡ fetch name.now version text.now log.old) }
+    ensures { OnOk result (log.new ≡ fetch name.now version names.items log.old) }
 {
-    let links = links_in(alloc, name, text.as_str().as_bytes())?;
     let name = name.clone()?;
-    log.staged.insert(name, Fetched { version, links })?;
+    let names = Sequence::from_vec(names);
+    log.staged.insert(name, Fetched { version, names })?;
     Ok(())
-}
-
-// What a text imports. What a text is to a module is told by `import_scan`, and by nothing else here.
-fn links_in(alloc: Global, name: &ModName, text: &[u8]) -> Result<Sequence<Link>, AllocError>
-    ensures { IfOk result (λ found. found ≡ links_in name.now text.now) }
-{
-    if text.len() < 4_294_967_295 {
-        let found = links(alloc, name, text)?;
-        Ok(Sequence::from_vec(found))
-    } else {
-        Ok(Sequence::new(alloc))
-    }
 }
 
 fn done(log: &mut PageLog, alloc: Global, asked: Asked) -> Result<Option<PageNews>, AllocError>

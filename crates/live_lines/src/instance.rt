@@ -1,12 +1,12 @@
 // What is known of the instances of a page, and of the plan that is under way on it.
-use hmr_types::{ModName, Name, PlanKind, Sequence, Ver};
-use import_scan::Link;
+use crate::ImportedName;
+use hmr_types::{ModName, PlanKind, Sequence, Text, Ver};
 
 /// A name that an instance imports, and the version of the module that it was bound to.
 #[derive(Drop)]
 pub(crate) struct Binding {
     pub dependency: ModName,
-    pub name: Name,
+    pub name: Text,
     pub version: Ver,
 }
 
@@ -23,7 +23,7 @@ pub(crate) struct Instance {
 #[derive(Drop)]
 pub(crate) struct Fetched {
     pub version: Ver,
-    pub links: Sequence<Link>,
+    pub names: Sequence<ImportedName>,
 }
 
 /// A plan that is under way, and for an update who accepts which module.

@@ -1,9 +1,10 @@
 // What stands in the lists of a line: names, modules with versions, stale bindings.
-ghost use Rattle.std.specs.Prelude.{◌≡◌, ◌++◌, OnOk, ℕ, List};
-ghost use Rattle.live_lines.specs.PageLines.{itself, of_text, stale_text, still_text, versioned};
+ghost use Rattle.std.specs.Prelude.{◌≡◌, ◌++◌, OnOk, ℕ, List, codes};
+ghost use Rattle.hmr_types.specs.ModName.{is_text};
+ghost use Rattle.live_lines.specs.PageLines.{itself, name_text, of_text, stale_text, still_text, versioned};
 
 use crate::StaleBinding;
-use crate::pieces::{put, put_between, put_counted, put_number_and};
+use crate::pieces::{put, put_both, put_counted, put_number_and, put_shown};
 use hmr_types::{ModName, Ver};
 use std::alloc::AllocError;
 
@@ -46,19 +47,33 @@ impl Item for StaleBinding {
 fn put_still(out: &mut Vec<u8>, binding: &StaleBinding) -> Result<(), AllocError>
     ensures { OnOk result (out.new.items ≡ out.old.items ++ still_text binding.now) }
 {
-    put_between(
-        out,
-        binding.importer.as_str(),
-        " still has ",
-        binding.name.as_str(),
-    )
+    put_both(out, binding.importer.as_str(), " still has ")?;
+    put_name(out, binding.name.as_str())
 }
 
-// Puts of which version of which module, and which is the live one.
+// Puts a name, which may be any text, where it isn't all of its module.
+fn put_name(out: &mut Vec<u8>, name: &str) -> Result<(), AllocError>
+    ensures { OnOk result (out.new.items ≡ out.old.items ++ name_text name.now) }
+{
+    if is_all(name) {
+        return Ok(());
+    }
+    put_shown(out, name)?;
+    put(out, " of ")
+}
+
+// Whether a name is all of its module.
+fn is_all(name: &str) -> bool
+    ensures { result ≡ is_text name.now (codes "*") }
+{
+    name == "*"
+}
+
+// Puts which version of which module it has, and which is the live one.
 fn put_of(out: &mut Vec<u8>, binding: &StaleBinding) -> Result<(), AllocError>
     ensures { OnOk result (out.new.items ≡ out.old.items ++ of_text binding.now) }
 {
-    put_between(out, " of ", binding.imported.as_str(), " v")?;
+    put_both(out, binding.imported.as_str(), " v")?;
     put_number_and(out, binding.linked, " (now v")?;
     put_number_and(out, binding.live, ")")
 }

@@ -6,7 +6,7 @@ ghost use Rattle.live_lines.specs.Pages.{Page, stale_of};
 use crate::exchanges::answered;
 use crate::instance::{Begun, Fetched, Instance};
 use crate::stale::stale_in;
-use crate::{Asked, PageNews, StaleBinding};
+use crate::{Asked, ImportedName, PageNews, StaleBinding};
 use hmr_types::{ClientId, ModName};
 use std::alloc::{AllocError, Global};
 use std::collections::BTreeMap;
@@ -64,21 +64,24 @@ impl PageLog {
     }
 
     /// Takes one exchange, what the page asked and what it was answered, and gives what there is to tell of
-    /// it. Where memory runs out nothing is known of the page any more but its number, and so no binding is
-    /// told to be stale that isn't, until the page is loaded again. It takes time in proportion to the
-    /// answer; where a plan was applied, to what was fetched for it, and for an update to what the modules
-    /// of the page import, each with the logarithm of their number.
+    /// it. `names` is what a text imports that the answer brings, in the order of the text; it isn't looked
+    /// at with another answer. Where memory runs out nothing is known of the page any more but its number,
+    /// and so no binding is told to be stale that isn't, until the page is loaded again. It takes time in
+    /// proportion to the answer; where a plan was applied, to what was fetched for it, and for an update to
+    /// what the modules of the page import, each with the logarithm of their number.
     pub fn answered(
         &mut self,
         alloc: Global,
         asked: Asked,
         answer: &ServerMsg,
+        names: Vec<ImportedName>,
     ) -> Result<Option<PageNews>, AllocError>
-        ensures told { IfOk result (λ news. (self.new, news) ≡ answered asked answer.now self.old) }
+        ensures told { IfOk result
+            (λ news. (self.new, news) ≡ answered asked answer.now names.items self.old) }
         ensures lost { OnErr result (self.new ≡ blank self.old.client) }
     {
         let client = self.client;
-        match answered(self, alloc, asked, answer) {
+        match answered(self, alloc, asked, answer, names) {
             Ok(news) => Ok(news),
             Err(refused) => {
                 self.forget(alloc, client);

@@ -1,5 +1,5 @@
 // What an exchange changed on a page, as a value.
-use hmr_types::{ModName, Name, ReloadCause, Sequence, Text, Ver};
+use hmr_types::{ModName, ReloadCause, Sequence, Text, Ver};
 use update_msgs::AbortCause;
 
 /// An imported name that is bound to an instance that isn't the live one of its module any more.
@@ -9,8 +9,8 @@ pub struct StaleBinding {
     pub importer: ModName,
     /// The module that the name is imported from.
     pub imported: ModName,
-    /// The name.
-    pub name: Name,
+    /// The name, as an [`ImportedName`](crate::ImportedName) has it.
+    pub name: Text,
     /// The version of the instance that the name is bound to.
     pub linked: Ver,
     /// The version of the live instance of the imported module.

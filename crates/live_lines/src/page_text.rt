@@ -10,7 +10,7 @@ ghost use Rattle.live_lines.specs.Texts.{arrow, on, off};
 use crate::boundaries::boundaries_of;
 use crate::items::Item;
 use crate::lists::{put_list, put_path};
-use crate::pieces::{put, put_between, put_both, put_counted, put_off, put_on};
+use crate::pieces::{put, put_between, put_both, put_counted, put_off, put_on, put_shown};
 use crate::{PageNews, StaleBinding, Style};
 use hmr_types::{ClientId, ModName, ReloadCause, Text, Ver};
 use play_text::cause_str;
@@ -246,7 +246,8 @@ fn put_link(out: &mut Vec<u8>, path: &ModName, from: &str, name: &str) -> Result
     ensures { OnOk result (out.new.items ≡ out.old.items ++ link_text path.now from.now name.now) }
 {
     put_both(out, path.as_str(), " imports ")?;
-    put_both(out, name, ", which ")?;
+    put_shown(out, name)?;
+    put(out, ", which ")?;
     put_both(out, from, " does not export")
 }
 
