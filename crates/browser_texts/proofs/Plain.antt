@@ -13,7 +13,7 @@ use Rattle.instance_urls.specs.declared.plan_id.PlanId.{PlanId}
 use Rattle.text_splices.specs.Splices.{splice_of}
 use Rattle.browser_texts.specs.Scripts.{hashbang_splices, hook_splices, import_splices, inside, is_call, is_hooked, is_plain, linked, linked_to, script_of, specifier_splices, splices_of}
 
-abbrev AtPlainUrls : (List ℕ → Option PlanId) → Type 0
+abbrev pub AtPlainUrls : (List ℕ → Option PlanId) → Type 0
 AtPlainUrls instance = (n : List ℕ) → instance n ≡ None
 
 not_linked : (instance : List ℕ → Option PlanId) → AtPlainUrls instance → (text : List ℕ) (s : Span) (to : Option (List ℕ)) → linked_to instance text s to ≡ []

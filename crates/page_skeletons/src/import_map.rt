@@ -1,7 +1,7 @@
 // The import map of a page: the addresses that its names stand for.
-use crate::addresses::resolve_address;
 use crate::folder::Folder;
 use hmr_types::ModName;
+use page_addresses::resolve_address;
 use serde_json::Value;
 use std::alloc::{AllocError, Global};
 

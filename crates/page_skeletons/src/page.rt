@@ -2,12 +2,13 @@
 ghost use Rattle.std.specs.Prelude.{◌≤◌, ◌<◌, ◌+◌, ◌^◌, length};
 ghost use Rattle.hmr_types.specs.declared.limits.TheConstants.{LARGEST_NUMBER};
 
-use crate::addresses::{put_address, resolve_address};
+use crate::addresses::put_address;
 use crate::folder::Folder;
 use crate::import_map::import_targets;
 use es_scan::scan;
 use hmr_types::ModName;
 use html_scan::{PageItem, PageOutline, PagePart, Span, attribute_value};
+use page_addresses::resolve_address;
 use skeletons::{Followed, list_skeleton, modules};
 use std::alloc::{AllocError, Global};
 
