@@ -32,6 +32,20 @@ pub(crate) fn is_folder(rt: &HostRuntime, path: &str) -> bool {
     }
 }
 
+/// Whether there is a file of this name in the folder at a path. `AllocError` where memory ran out.
+pub(crate) fn has_file(
+    rt: &HostRuntime,
+    alloc: Global,
+    folder: &str,
+    name: &str,
+) -> Result<bool, AllocError> {
+    let path = format!(in alloc; "{folder}/{name}")?;
+    match fs::metadata(rt, path.as_str()) {
+        Ok(data) => Ok(data.is_file()),
+        Err(_) => Ok(false),
+    }
+}
+
 /// Colours where the output is a terminal, unless `NO_COLOR` is set to something.
 pub(crate) fn style_of(rt: &HostRuntime) -> Style {
     let is_refused = match env::var(rt, "NO_COLOR") {

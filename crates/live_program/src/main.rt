@@ -2,35 +2,33 @@
 //!
 //! It reads the words, takes a port, and makes the real folder, net, threads and terminal of a live server; and
 //! of a further one at the same port, where a key asks for it or the hub of the one before can take no more.
-//! Stands on `live_words` for the words, on `live_server` for all that it does, on `tcp_doors`, `live_folder` and
-//! `live_answers` for the real outside, on `live_page` for the page's client and on `live_lines` for what it
-//! says. Keeps: what is served is what the words can ask for. Knows nothing of messages, edits or sessions.
+//! Stands on `live_words` for the words, on `live_server` for all that it does, on `script_site` for what it
+//! answers, on `tcp_doors`, `live_folder` and `live_answers` for the real outside, on `live_page` for the page's
+//! client, on `instance_urls` for the page that is made where there is none, and on `live_lines` for what it says.
+//! Keeps: what is served is what the words can ask for. Knows nothing of messages, edits or sessions.
 #![tactic(auto)]
 
 ghost use Rattle.std.specs.Prelude.{◌≡◌};
 
-mod client_files;
 mod day_time;
 mod endings;
 mod keys;
+mod made_text;
 mod ports;
 mod screen;
+mod sides;
 mod wanted;
 
-use client_files::ClientFiles;
 use day_time::offset_here;
 use endings::{NO_MEMORY, NO_NET, OTHER, status_of, style_of};
 use hmr_base::StdSink;
-use hmr_types::Text;
 use jobs::ThreadSpawner;
 use keys::keys_of;
-use live_answers::{FolderFiles, Layered};
-use live_folder::FolderMarks;
 use live_server::{LivePlan, serve_live};
 use live_words::DevPlan;
 use ports::listen_next;
 use screen::{Manner, Screen};
-use std::alloc::{AllocError, Global};
+use sides::{Sides, page_roots, sides_of};
 use std::process::ExitCode;
 use std::time::Instant;
 use tcp_doors::TcpEntrance;
@@ -39,13 +37,6 @@ use wanted::wanted;
 /// How many doors there are at each address: 32 pages, and the others for what they load.
 const DOORS: u32 = 48;
 
-/// The folder that a server looks at, and the files that it answers by.
-#[derive(Drop)]
-struct Sides {
-    watched: FolderMarks<HostRuntime>,
-    files: Layered<ClientFiles, FolderFiles<HostRuntime>>,
-}
-
 fn main(rt: HostRuntime) -> ExitCode {
     let alloc = rt.alloc();
     let dev = match wanted(&rt, alloc) {
@@ -53,6 +44,9 @@ fn main(rt: HostRuntime) -> ExitCode {
         Err(status) => return ExitCode::from(status),
     };
     let Ok(keys) = keys_of(&rt, alloc, rt.stdin()) else {
+        return ExitCode::from(NO_MEMORY);
+    };
+    let Ok(roots) = page_roots(alloc) else {
         return ExitCode::from(NO_MEMORY);
     };
     let manner = manner_of(&rt, &dev);
@@ -71,19 +65,19 @@ fn main(rt: HostRuntime) -> ExitCode {
             return ExitCode::from(NO_NET);
         };
         screen.listens(port);
-        let Ok(sides) = sides_of(&rt, alloc, &dev.folder) else {
+        let Ok(sides) = sides_of(&rt, alloc, &dev, port) else {
             return ExitCode::from(NO_MEMORY);
         };
-        let Sides { mut watched, files } = sides;
+        let Sides { mut watched, site } = sides;
         let mut spawner = ThreadSpawner::new();
         let served = serve_live(
             &rt,
             alloc,
             &live,
             port,
-            dev.roots.as_slice(),
+            &roots,
             &mut watched,
-            files,
+            site,
             &mut entrance,
             &mut spawner,
             &mut screen,
@@ -120,15 +114,6 @@ fn plan_of(dev: &DevPlan) -> LivePlan
         doors: DOORS,
         recorded: dev.record.is_some(),
     }
-}
-
-// The two sides of the folder at a path.
-fn sides_of(rt: &HostRuntime, alloc: Global, folder: &Text) -> Result<Sides, AllocError> {
-    let folder = folder.clone()?.into_string();
-    Ok(Sides {
-        watched: FolderMarks::new(alloc, *rt, folder.as_str())?,
-        files: Layered::new(ClientFiles {}, FolderFiles::new(*rt, folder)),
-    })
 }
 
 // Says that a port can't be had.

@@ -2,7 +2,7 @@
 ghost use Rattle.std.specs.Prelude.{IfOk};
 ghost use Rattle.live_words.specs.Words.{CanServe};
 
-use crate::endings::{NO_FOLDER, NO_MEMORY, WRONG_WORDS, is_folder};
+use crate::endings::{NO_FOLDER, NO_MEMORY, WRONG_WORDS, has_file, is_folder};
 use live_words::{DevPlan, Wanted, WordsFault, fault_text, help_text, read_words};
 use std::alloc::{AllocError, Global};
 use std::env;
@@ -30,7 +30,30 @@ pub(crate) fn wanted(rt: &HostRuntime, alloc: Global) -> Result<DevPlan, u8>
         let _ = eprintln!(rt; "hmr dev: there is no folder {folder}");
         return Err(NO_FOLDER);
     }
-    Ok(plan)
+    if has_page(rt, alloc, &plan) {
+        Ok(plan)
+    } else {
+        Err(refuse_pageless(rt, &plan))
+    }
+}
+
+// Whether there is a page to serve: one of the folder, or one that is made of the named modules. Where memory
+// runs out, it is looked for later.
+fn has_page(rt: &HostRuntime, alloc: Global, plan: &DevPlan) -> bool {
+    if !plan.roots.as_slice().is_empty() {
+        return true;
+    }
+    has_file(rt, alloc, plan.folder.as_str(), "index.html").unwrap_or(true)
+}
+
+// Says that there is no page to serve, and gives the status.
+fn refuse_pageless(rt: &HostRuntime, plan: &DevPlan) -> u8 {
+    let folder = plan.folder.as_str();
+    let _ = eprintln!(rt;
+        "hmr dev: {folder} has no index.html; name the modules that a page is to load, as in \
+hmr dev {folder} /main.js"
+    );
+    WRONG_WORDS
 }
 
 // The words behind the program's name; none where one of them isn't UTF-8, as such a word names no folder.

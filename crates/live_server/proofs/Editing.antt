@@ -8,7 +8,7 @@ use Rattle.std.specs.Global.{Vec}
 use Rattle.hmr_types.specs.ModName.{is_name, is_segment, parts, slash}
 use Rattle.hmr_types.specs.declared.limits.TheConstants.{MESSAGE_BYTES}
 use Rattle.hub_editor.specs.Edits.{length_of, text_in}
-use Rattle.live_folder.specs.Texts.{IsShort}
+use Rattle.live_site.specs.CoreTexts.{IsShort}
 
 -- a name has at most 255 bytes
 name_short : (path : List ℕ) → is_name path ≡ true → length path ≤ 255

@@ -6,18 +6,19 @@ use crate::shared::Shared;
 use doors::{Coming, Visitor};
 use hmr_types::Text;
 use links::Link;
-use live_answers::{Answer, Files, Next, answer_head, answer_to_long, foreign_text};
+use live_answers::{Answer, Next, answer_to_long, foreign_text};
 use live_lines::{Foreign, News};
+use live_site::Site;
 use std::alloc::{AllocError, Global};
 use std::sync::Wait;
 
-/// Answers the heads of a visitor. It says whether the visitor asks for a WebSocket, which is then to be
+/// Answers the requests of a visitor. It says whether the visitor asks for a WebSocket, which is then to be
 /// opened; else the visitor is to be closed. It waits.
-pub(crate) fn answer_heads<R: Wait, E: Visitor, F: Files + Drop>(
+pub(crate) fn answer_heads<R: Wait, E: Visitor, S: Site + Drop>(
     rt: &R,
     alloc: Global,
     end: &mut E,
-    shared: &Shared<F>,
+    shared: &Shared<S>,
 ) -> bool
     requires fresh { E.phase end.old ≡ Phase.Fresh }
     ensures fresh { E.phase end.new ≡ Phase.Fresh }
@@ -26,6 +27,11 @@ pub(crate) fn answer_heads<R: Wait, E: Visitor, F: Files + Drop>(
     for _ in rt.forever() {
         match answer_next(rt, alloc, end, shared) {
             Next::Head => {}
+            Next::Ring => shared.bell.ring(),
+            Next::RingAndClose => {
+                shared.bell.ring();
+                return false;
+            }
             Next::Upgrade => return true,
             Next::Close | Next::ForeignHost | Next::ForeignOrigin => return false,
         }
@@ -33,12 +39,12 @@ pub(crate) fn answer_heads<R: Wait, E: Visitor, F: Files + Drop>(
     unreachable!()
 }
 
-// Answers the next head, and says what comes then.
-fn answer_next<R: Wait, E: Visitor, F: Files + Drop>(
+// Answers the next request, and says what comes then.
+fn answer_next<R: Wait, E: Visitor, S: Site + Drop>(
     rt: &R,
     alloc: Global,
     end: &mut E,
-    shared: &Shared<F>,
+    shared: &Shared<S>,
 ) -> Next
     requires fresh { E.phase end.old ≡ Phase.Fresh }
     ensures fresh { E.phase end.new ≡ Phase.Fresh }
@@ -47,7 +53,10 @@ fn answer_next<R: Wait, E: Visitor, F: Files + Drop>(
     let Ok(coming) = end.next_head(alloc) else {
         return Next::Close;
     };
-    let Ok(answer) = answer_to(rt, alloc, shared, coming) else {
+    let Some(body) = body_behind(alloc, end, shared, &coming) else {
+        return Next::Close;
+    };
+    let Ok(answer) = answer_to(rt, alloc, shared, coming, &body) else {
         return Next::Close;
     };
     if answer.text.is_empty() {
@@ -59,17 +68,41 @@ fn answer_next<R: Wait, E: Visitor, F: Files + Drop>(
     }
 }
 
+// The body behind a head, of no bytes where none is taken; None where it didn't come whole.
+fn body_behind<E: Visitor, S: Site + Drop>(
+    alloc: Global,
+    end: &mut E,
+    shared: &Shared<S>,
+    coming: &Coming,
+) -> Option<Vec<u8>>
+    requires fresh { E.phase end.old ≡ Phase.Fresh }
+    ensures fresh { E.phase end.new ≡ Phase.Fresh }
+    ensures later { E.faults end.old ≤ E.faults end.new }
+{
+    let length = match coming {
+        Coming::Head(head) => shared.site.body_length(head),
+        Coming::TooLong | Coming::Gone => None,
+    };
+    let Some(length) = length else {
+        return Some(Vec::new(alloc));
+    };
+    match end.next_body(alloc, length) {
+        Ok(body) => body,
+        Err(_) => None,
+    }
+}
+
 // The answer to what came.
-fn answer_to<R: Wait, F: Files + Drop>(
+fn answer_to<R: Wait, S: Site + Drop>(
     rt: &R,
     alloc: Global,
-    shared: &Shared<F>,
+    shared: &Shared<S>,
     coming: Coming,
+    body: &[u8],
 ) -> Result<Answer, AllocError> {
     match coming {
         Coming::Head(head) => {
-            let site = &shared.site;
-            let told = answer_head(alloc, &site.files, site.port, &site.roots, &head)?;
+            let told = shared.site.answer(rt, alloc, &head, body)?;
             tell_stranger(rt, alloc, shared, &head, told.next);
             Ok(told)
         }
@@ -82,19 +115,19 @@ fn answer_to<R: Wait, F: Files + Drop>(
 }
 
 // Tells that a request named another server.
-fn tell_stranger<R: Wait, F: Files + Drop>(
+fn tell_stranger<R: Wait, S: Drop>(
     rt: &R,
     alloc: Global,
-    shared: &Shared<F>,
+    shared: &Shared<S>,
     head: &[u8],
     next: Next,
 ) {
     let foreign = match next {
         Next::ForeignHost => Foreign::Host,
         Next::ForeignOrigin => Foreign::Origin,
-        Next::Head | Next::Close | Next::Upgrade => return,
+        Next::Head | Next::Ring | Next::RingAndClose | Next::Close | Next::Upgrade => return,
     };
-    if let Ok(told) = shown_name(alloc, head, shared.site.port) {
+    if let Ok(told) = shown_name(alloc, head, shared.port) {
         shared.news.tell(rt, News::Stranger { foreign, told });
     }
 }

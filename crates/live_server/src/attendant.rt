@@ -11,8 +11,8 @@ use crate::shared::Shared;
 use doors::{Attendant, Visitor};
 use hmr_hub::{Hub, Pass};
 use links::Link;
-use live_answers::Files;
 use live_desk::LiveDesk;
+use live_site::Site;
 use sessions::serve_session;
 use std::alloc::{AllocError, Global};
 use std::sync::{Arc, Wait};
@@ -20,20 +20,20 @@ use std::sync::{Arc, Wait};
 /// What serves the visitors of one door: a hub, and the one pass with which all their sessions are held. It
 /// counts its visits, and has whether the hub answered that its transcript is full.
 #[derive(Drop)]
-pub struct HubAttendant<R: Drop, F: Drop> {
+pub struct HubAttendant<R: Drop, S: Drop> {
     rt: R,
     hub: Arc<Hub, Global>,
     // None only while a session has it.
     pass: Option<Pass>,
-    shared: Shared<F>,
+    shared: Shared<S>,
     visits: u64,
     full: bool,
     ghost of_hub: { ForSome pass (λ p. IsPassOf (arc_value hub) p) },
 }
 
-impl<R: Drop, F: Drop> HubAttendant<R, F> {
+impl<R: Drop, S: Drop> HubAttendant<R, S> {
     /// An attendant that had no visits. It takes no memory.
-    pub fn new(rt: R, hub: Arc<Hub, Global>, pass: Pass, shared: Shared<F>) -> Self
+    pub fn new(rt: R, hub: Arc<Hub, Global>, pass: Pass, shared: Shared<S>) -> Self
         requires of { IsPassOf (arc_value hub) pass }
         ensures hub { result.hub ≡ hub }
         ensures pass { result.pass ≡ Some pass }
@@ -78,7 +78,7 @@ impl<R: Drop, F: Drop> HubAttendant<R, F> {
     }
 }
 
-impl<R: Wait + Copy + Drop, F: Files + Drop> HubAttendant<R, F> {
+impl<R: Wait + Copy + Drop, S: Site + Drop> HubAttendant<R, S> {
     ghost use Rattle.live_server.specs.Attendants.{SameAttendant, is_done};
 
     // Holds the session of a visitor who asked for one.
@@ -99,26 +99,27 @@ impl<R: Wait + Copy + Drop, F: Files + Drop> HubAttendant<R, F> {
             unreachable!()
         };
         let Shared {
-            site: _,
+            site,
+            port: _,
             bell,
             news,
         } = shared;
         bell.ring();
-        let mut desk = LiveDesk::new(self.rt, alloc, hub, pass, bell, news);
+        let mut desk = LiveDesk::new(self.rt, alloc, hub, pass, bell, news, site);
         let _ended = serve_session(rt, alloc, end, &mut desk);
         desk.leave();
         self.keep(desk);
     }
 
     // The hub and what is shared, once more.
-    fn parts(&self) -> Result<(Arc<Hub, Global>, Shared<F>), AllocError>
+    fn parts(&self) -> Result<(Arc<Hub, Global>, Shared<S>), AllocError>
         ensures hub { Rattle.std.specs.Prelude.IfOk result (λ parts. arc_value parts.0 ≡ arc_value self.now.hub) }
     {
         Ok((Arc::try_clone(&self.hub)?, self.shared.again()?))
     }
 
     // Takes back the pass of a session that ended.
-    fn keep(&mut self, desk: LiveDesk<R>)
+    fn keep(&mut self, desk: LiveDesk<R, S>)
         requires hub { arc_value desk.desk.hub ≡ arc_value self.old.hub }
         ensures hub { self.new.hub ≡ self.old.hub }
         ensures pass { self.new.pass ≡ Some desk.desk.pass }
@@ -130,7 +131,7 @@ impl<R: Wait + Copy + Drop, F: Files + Drop> HubAttendant<R, F> {
     }
 }
 
-impl<R: Wait + Copy + Drop, F: Files + Drop> Attendant for HubAttendant<R, F> {
+impl<R: Wait + Copy + Drop, S: Site + Drop> Attendant for HubAttendant<R, S> {
     ghost use Rattle.live_server.specs.Attendants.{SameAttendant, is_done};
 
     ghost is_done = { is_done };

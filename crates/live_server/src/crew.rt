@@ -21,8 +21,8 @@ use doors::{Door, Entrance};
 use hmr_hub::{Hub, Pass};
 use hub_desks::HubBoard;
 use jobs::{Running, Spawner, start};
-use live_answers::Files;
 use live_desk::LiveBoard;
+use live_site::Site;
 use std::alloc::{AllocError, Global};
 use std::sync::{Arc, Wait};
 use std::thread::Threads;
@@ -30,23 +30,24 @@ use transform_pool::{JobPass, JobQueue};
 
 /// Jobs of a hub that were begun, and the passes of those that ended so far.
 #[derive(Drop)]
-pub(crate) struct Crew<R: Wait + Copy + Drop, E: Entrance, F: Files + Drop>
+pub(crate) struct Crew<R: Wait + Copy + Drop, E: Entrance, S: Site + Drop>
 where
     E::Door: Drop,
 {
     pub(crate) hub: Arc<Hub, Global>,
-    pub(crate) running: Vec<Running<LiveJob<R, E::Door, F>>>,
+    pub(crate) running: Vec<Running<LiveJob<R, E::Door, S>>>,
     pub(crate) passes: Vec<Pass>,
 }
 
 impl<
     R: Threads + Wait + Copy + Drop + Send + 'static,
     E: Entrance,
-    F: Files + Drop + Send + Sync + 'static,
-> Crew<R, E, F>
+    S: Site + Drop + Send + Sync + 'static,
+> Crew<R, E, S>
 where
     E::Door: Drop + Send + 'static,
     <E::Door as Door>::End: Send + 'static,
+    S::File: Send + 'static,
 {
     // A crew of a hub, of which no job was begun yet. It takes no memory.
     pub(crate) fn new(alloc: Global, hub: Arc<Hub, Global>) -> Self
@@ -69,7 +70,7 @@ where
         pass: &mut Pass,
         entrance: &mut E,
         spawner: &mut P,
-        shared: &Shared<F>,
+        shared: &Shared<S>,
         queue: &Arc<JobQueue, Global>,
         mut takers: Vec<JobPass>,
     ) -> Result<(), LiveEnd>
@@ -101,7 +102,7 @@ where
         pass: &mut Pass,
         entrance: &mut E,
         spawner: &mut P,
-        shared: &Shared<F>,
+        shared: &Shared<S>,
         queue: &Arc<JobQueue, Global>,
         jobs: JobPass,
     ) -> Result<(), LiveEnd>
@@ -122,6 +123,7 @@ where
         let queue = Arc::try_clone(queue)?;
         let Shared {
             site: _,
+            port: _,
             bell,
             news,
         } = shared.again()?;
@@ -139,7 +141,7 @@ where
         pass: &mut Pass,
         entrance: &mut E,
         spawner: &mut P,
-        shared: &Shared<F>,
+        shared: &Shared<S>,
         doors: usize,
     ) -> Result<(), LiveEnd>
         requires crew { IsCrew ⟦<E::Door as Door>⟧ (arc_value self.old.hub) self.old.running self.old.passes }
@@ -167,7 +169,7 @@ where
         pass: &mut Pass,
         entrance: &mut E,
         spawner: &mut P,
-        shared: &Shared<F>,
+        shared: &Shared<S>,
     ) -> Result<(), LiveEnd>
         requires crew { IsCrew ⟦<E::Door as Door>⟧ (arc_value self.old.hub) self.old.running self.old.passes }
         requires of { IsPassOf (arc_value self.old.hub) pass.old }
@@ -226,7 +228,7 @@ where
         alloc: Global,
         entrance: &mut E,
         spawner: &mut P,
-        job: LiveJob<R, E::Door, F>,
+        job: LiveJob<R, E::Door, S>,
     ) -> Result<(), LiveEnd>
         requires crew { IsCrew ⟦<E::Door as Door>⟧ (arc_value self.old.hub) self.old.running self.old.passes }
         requires place { HasPlace self.old.running self.old.passes }

@@ -3,7 +3,7 @@ ghost use Rattle.std.specs.Prelude.{◌≡◌, [], List, true};
 ghost use Rattle.std.specs.Arc.{arc_value};
 ghost use Rattle.std.specs.Option.{ForSome};
 ghost use Rattle.hmr_types.specs.ModName.{is_name};
-ghost use Rattle.live_folder.specs.Texts.{IsShort};
+ghost use Rattle.live_site.specs.CoreTexts.{IsShort};
 ghost use Rattle.transform_pool.specs.Passes as pool;
 ghost use Rattle.transform_pool.specs.Roles.{putting};
 ghost use Rattle.hmr_hub.specs.Calls.{SameKnower};
@@ -22,6 +22,7 @@ use hmr_types::ModName;
 use hub_editor::{EditStop, Editor};
 use live_folder::{Change, Look, PassedOver, SkipCause};
 use live_lines::{News, PassedCause};
+use live_site::Site;
 use std::alloc::{AllocError, Global};
 use std::sync::{Arc, Wait};
 use std::thread::Parker;
@@ -61,11 +62,11 @@ impl LiveEditor {
     }
 
     /// Makes the edits that a look brings, and tells what there is to tell. Some: the server ends. It waits.
-    pub fn take<R: Wait, F: Drop>(
+    pub fn take<R: Wait, S: Site + Drop>(
         &mut self,
         rt: &R,
         alloc: Global,
-        shared: &Shared<F>,
+        shared: &Shared<S>,
         known: &mut Known,
         look: Look,
     ) -> Option<LiveEnd>
@@ -84,11 +85,11 @@ impl LiveEditor {
     }
 
     // Makes edits one after another, up to the first that ends the server, and rings for them.
-    fn make_each<R: Wait, F: Drop>(
+    fn make_each<R: Wait, S: Site + Drop>(
         &mut self,
         rt: &R,
         alloc: Global,
-        shared: &Shared<F>,
+        shared: &Shared<S>,
         known: &mut Known,
         changes: Vec<Change>,
     ) -> Option<LiveEnd>
@@ -106,12 +107,12 @@ impl LiveEditor {
         None
     }
 
-    // Makes an edit, unless the module has this text.
-    fn make<R: Wait, F: Drop>(
+    // Makes an edit, unless the file of the module has this text.
+    fn make<R: Wait, S: Site + Drop>(
         &mut self,
         rt: &R,
         alloc: Global,
-        shared: &Shared<F>,
+        shared: &Shared<S>,
         known: &mut Known,
         change: Change,
     ) -> Option<LiveEnd>
@@ -122,11 +123,22 @@ impl LiveEditor {
             return None;
         }
         wait_for_workers(rt, shared, known);
-        let Ok((own_name, own_text)) = copies_of(alloc, &name, &text) else {
+        let Ok(read) = read_change(alloc, shared, known, name, text) else {
             return Some(LiveEnd::NoMemory);
         };
-        let made = self.edit(rt, alloc, name, text);
-        note(rt, alloc, shared, known, own_name, own_text, made)
+        let ReadChange {
+            name,
+            own_name,
+            told,
+            text,
+            file,
+        } = read;
+        if told.is_none() && text.is_some() {
+            tell_passed_over(rt, alloc, shared, &own_name, PassedCause::TextTooLong);
+            return None;
+        }
+        let made = self.edit(rt, alloc, name, told);
+        note(rt, alloc, shared, known, own_name, text, file, made)
     }
 
     // Makes an edit.
@@ -176,12 +188,12 @@ impl LiveEditor {
 }
 
 // Waits while many jobs wait for workers, for two seconds at most.
-fn wait_for_workers<R: Wait, F: Drop>(rt: &R, shared: &Shared<F>, known: &Known) {
+fn wait_for_workers<R: Wait, S: Drop>(rt: &R, shared: &Shared<S>, known: &Known) {
     wait_for_results(rt, shared, known.jobs().saturating_sub(WAITING));
 }
 
 /// Waits until workers have told so many results, for two seconds at most.
-pub(crate) fn wait_for_results<R: Wait, F: Drop>(rt: &R, shared: &Shared<F>, results: u64) {
+pub(crate) fn wait_for_results<R: Wait, S: Drop>(rt: &R, shared: &Shared<S>, results: u64) {
     let parker = Parker::new();
     for _ in 0..LOOKS {
         if shared.bell.results() >= results {
@@ -191,39 +203,71 @@ pub(crate) fn wait_for_results<R: Wait, F: Drop>(rt: &R, shared: &Shared<F>, res
     }
 }
 
-// A name and a text once more.
-fn copies_of(
+// A change as the site reads it.
+#[derive(Drop)]
+struct ReadChange<S: Site + Drop> {
+    name: ModName,
+    own_name: ModName,
+    // What the core is told; None where the file is gone, or would be too long for the core.
+    told: Option<Vec<u8>>,
+    text: Option<Vec<u8>>,
+    file: Option<S::File>,
+    ghost is_name: { is_name name ≡ true },
+    ghost short: { ForSome told IsShort },
+}
+
+fn read_change<S: Site + Drop>(
     alloc: Global,
-    name: &ModName,
-    text: &Option<Vec<u8>>,
-) -> Result<(ModName, Option<Vec<u8>>), AllocError> {
-    let copy = match text {
-        Some(text) => Some(Vec::from_slice(alloc, text)?),
-        None => None,
+    shared: &Shared<S>,
+    known: &Known,
+    name: ModName,
+    text: Option<Vec<u8>>,
+) -> Result<ReadChange<S>, AllocError>
+    requires is_name { is_name name ≡ true }
+{
+    let own_name = name.clone()?;
+    let Some(text) = text else {
+        return Ok(ReadChange {
+            name,
+            own_name,
+            told: None,
+            text: None,
+            file: None,
+        });
     };
-    Ok((name.clone()?, copy))
+    let version = known.counted().saturating_add(1);
+    let file = shared.site.read(alloc, &name, version, &text)?;
+    let told = shared.site.core_text(alloc, &file)?;
+    Ok(ReadChange {
+        name,
+        own_name,
+        told,
+        text: Some(text),
+        file: Some(file),
+    })
 }
 
 // Notes and tells what came of an edit. Some: the server ends.
-fn note<R: Wait, F: Drop>(
+fn note<R: Wait, S: Site + Drop>(
     rt: &R,
     alloc: Global,
-    shared: &Shared<F>,
+    shared: &Shared<S>,
     known: &mut Known,
     name: ModName,
     text: Option<Vec<u8>>,
+    file: Option<S::File>,
     made: Result<(), EditStop>,
 ) -> Option<LiveEnd> {
     let cause = match made {
         Ok(()) => {
-            if text.is_some() {
+            let has_job = text.is_some();
+            let kept = keep(rt, shared, known, name, text, file);
+            // A worker takes no job before it is noted, so the site has the file before its result is told.
+            if has_job {
                 shared.bell.note_job();
             }
-            return match known.note(name, text) {
-                Ok(news) => {
-                    shared.news.tell(rt, news);
-                    None
-                }
+            return match kept {
+                Ok(()) => None,
                 Err(_) => Some(LiveEnd::NoMemory),
             };
         }
@@ -233,14 +277,41 @@ fn note<R: Wait, F: Drop>(
         Err(EditStop::Names) => PassedCause::TooManyNames,
         Err(EditStop::Sources) => PassedCause::SourceTotal,
     };
-    if let Ok(path) = text_of(alloc, &name) {
-        shared.news.tell(rt, News::Passed { path, cause });
-    }
+    tell_passed_over(rt, alloc, shared, &name, cause);
     None
 }
 
+// Keeps what a file is by an edit that was made, and tells it.
+fn keep<R: Wait, S: Site + Drop>(
+    rt: &R,
+    shared: &Shared<S>,
+    known: &mut Known,
+    name: ModName,
+    text: Option<Vec<u8>>,
+    file: Option<S::File>,
+) -> Result<(), AllocError> {
+    let version = known.counted().saturating_add(1);
+    shared.site.keep(rt, &name, version, file)?;
+    let news = known.note(name, text)?;
+    shared.news.tell(rt, news);
+    Ok(())
+}
+
+// Tells that a file was passed over.
+fn tell_passed_over<R: Wait, S: Drop>(
+    rt: &R,
+    alloc: Global,
+    shared: &Shared<S>,
+    name: &ModName,
+    cause: PassedCause,
+) {
+    if let Ok(path) = text_of(alloc, name) {
+        shared.news.tell(rt, News::Passed { path, cause });
+    }
+}
+
 // Tells which files were passed over.
-fn tell_passed<R: Wait, F: Drop>(rt: &R, shared: &Shared<F>, passed: Vec<PassedOver>) {
+fn tell_passed<R: Wait, S: Drop>(rt: &R, shared: &Shared<S>, passed: Vec<PassedOver>) {
     for PassedOver { path, cause } in passed {
         let cause = match cause {
             SkipCause::TextTooLong => PassedCause::TextTooLong,

@@ -12,18 +12,19 @@ use crate::taking::take_in;
 use doors::{Door, Entrance};
 use hmr_hub::{Hub, Pass};
 use jobs::{Running, Spawner, finish};
-use live_answers::Files;
+use live_site::Site;
 use std::sync::Wait;
 use std::thread::Threads;
 
 impl<
     R: Threads + Wait + Copy + Drop + Send + 'static,
     E: Entrance,
-    F: Files + Drop + Send + Sync + 'static,
-> Crew<R, E, F>
+    S: Site + Drop + Send + Sync + 'static,
+> Crew<R, E, S>
 where
     E::Door: Drop + Send + 'static,
     <E::Door as Door>::End: Send + 'static,
+    S::File: Send + 'static,
 {
     // Waits for the end of each job, and gives the passes of all, each of the hub. Each door is given back to
     // the entrance. It takes no memory.
@@ -50,12 +51,12 @@ where
 }
 
 // Waits for the end of each job.
-fn finish_jobs<R: Threads + Wait + Copy + Drop, E: Entrance, P: Spawner, F: Files + Drop>(
+fn finish_jobs<R: Threads + Wait + Copy + Drop, E: Entrance, P: Spawner, S: Site + Drop>(
     rt: &R,
     hub: &Hub,
     entrance: &mut E,
     spawner: &mut P,
-    mut running: Vec<Running<LiveJob<R, E::Door, F>>>,
+    mut running: Vec<Running<LiveJob<R, E::Door, S>>>,
     passes: &mut Vec<Pass>,
 )
 where
@@ -74,12 +75,12 @@ where
 }
 
 // Waits for the end of a job.
-fn finish_job<R: Threads + Wait + Copy + Drop, E: Entrance, P: Spawner, F: Files + Drop>(
+fn finish_job<R: Threads + Wait + Copy + Drop, E: Entrance, P: Spawner, S: Site + Drop>(
     rt: &R,
     hub: &Hub,
     entrance: &mut E,
     spawner: &mut P,
-    running: Running<LiveJob<R, E::Door, F>>,
+    running: Running<LiveJob<R, E::Door, S>>,
     passes: &mut Vec<Pass>,
 )
 where

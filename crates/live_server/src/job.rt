@@ -18,9 +18,9 @@ pub struct LiveWorker {
 
 /// A door that is to be served by an attendant, which had as many visits as the door.
 #[derive(Drop)]
-pub struct LiveDoor<R: Drop, D: Door + Drop, F: Drop> {
+pub struct LiveDoor<R: Drop, D: Door + Drop, S: Drop> {
     pub(crate) door: D,
-    pub(crate) attendant: HubAttendant<R, F>,
+    pub(crate) attendant: HubAttendant<R, S>,
     ghost going: { D.is_shut door ≡ false },
     ghost back: { D.is_out door ≡ false },
     ghost ready: { is_done attendant ≡ false },
@@ -29,20 +29,20 @@ pub struct LiveDoor<R: Drop, D: Door + Drop, F: Drop> {
 
 /// What a thread of a live server is given to do.
 #[derive(Drop)]
-pub enum LiveJob<R: Drop, D: Door + Drop, F: Drop> {
+pub enum LiveJob<R: Drop, D: Door + Drop, S: Drop> {
     /// Kind 0.
     Worker(LiveWorker),
     /// Kind 1.
-    Door(LiveDoor<R, D, F>),
+    Door(LiveDoor<R, D, S>),
 }
 
 /// What is handed back for a job. None stands exactly where the job was given up.
 #[derive(Drop)]
-pub enum LiveOut<R: Drop, D: Drop, F: Drop> {
+pub enum LiveOut<R: Drop, D: Drop, S: Drop> {
     /// A worker's board, and how many results it told, or why it stopped.
     Worker(LiveBoard, Option<Result<u64, HubStop>>),
     /// A door, which has no end out, its attendant, and why it ended.
-    Door(D, HubAttendant<R, F>, Option<DoorEnd>),
+    Door(D, HubAttendant<R, S>, Option<DoorEnd>),
 }
 
 impl LiveWorker {
@@ -56,9 +56,9 @@ impl LiveWorker {
     }
 }
 
-impl<R: Drop, D: Door + Drop, F: Drop> LiveDoor<R, D, F> {
+impl<R: Drop, D: Door + Drop, S: Drop> LiveDoor<R, D, S> {
     /// The job of an attendant at a door, both of which had equally many visits. It takes no memory.
-    pub fn new(door: D, attendant: HubAttendant<R, F>) -> Self
+    pub fn new(door: D, attendant: HubAttendant<R, S>) -> Self
         requires going { D.is_shut door ≡ false }
         requires back { D.is_out door ≡ false }
         requires ready { is_done attendant ≡ false }

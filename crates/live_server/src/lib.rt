@@ -34,6 +34,6 @@ mod work;
 pub use attendant::HubAttendant;
 pub use job::{LiveDoor, LiveJob, LiveOut, LiveWorker};
 pub use plan::{LiveEnd, LivePlan, LiveReport};
-pub use shared::{Shared, Site};
+pub use shared::Shared;
 pub use terminal::{Key, Terminal};
 pub use top::serve_live;

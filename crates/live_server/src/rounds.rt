@@ -8,6 +8,8 @@ use crate::plan::LiveEnd;
 use crate::shared::Shared;
 use crate::terminal::{Key, Terminal};
 use live_folder::Watched;
+use live_lines::News;
+use live_site::Site;
 use std::alloc::Global;
 use std::io;
 use std::sync::Wait;
@@ -27,12 +29,12 @@ const MOST_NEWS: usize = 65_536;
 
 /// Opens the doors once the modules of the folder are served, and then looks at the folder again and again:
 /// 50 milliseconds after a look, and later where one that brought no edit took longer. It waits.
-pub(crate) fn run_rounds<R: Wait + Clock, W: Watched, F: Drop, T: Terminal>(
+pub(crate) fn run_rounds<R: Wait + Clock, W: Watched, S: Site + Drop, T: Terminal>(
     rt: &R,
     alloc: Global,
     editor: &mut LiveEditor,
     watched: &mut W,
-    shared: &Shared<F>,
+    shared: &Shared<S>,
     terminal: &mut T,
 ) -> LiveEnd
     ensures goes { GoesOn editor.old editor.new }
@@ -51,26 +53,34 @@ pub(crate) fn run_rounds<R: Wait + Clock, W: Watched, F: Drop, T: Terminal>(
 }
 
 // Opens the doors, once the workers have told what came of the first look.
-fn open_doors<R: Wait, F: Drop, T: Terminal>(
+fn open_doors<R: Wait, S: Site + Drop, T: Terminal>(
     rt: &R,
     alloc: Global,
     known: &Known,
-    shared: &Shared<F>,
+    shared: &Shared<S>,
     terminal: &mut T,
 ) {
     wait_for_results(rt, shared, known.jobs());
+    settle(rt, shared, known);
     shared.bell.open();
     terminal.ready(alloc, known.modules());
 }
 
+// Tells the site that all edits have their results, where it is so.
+fn settle<R: Wait, S: Site + Drop>(rt: &R, shared: &Shared<S>, known: &Known) {
+    if shared.bell.results() >= known.jobs() {
+        shared.site.settle(rt, known.counted());
+    }
+}
+
 // Looks at the folder, and rests. Some: the server ends.
-fn run_round<R: Wait + Clock, W: Watched, F: Drop, T: Terminal>(
+fn run_round<R: Wait + Clock, W: Watched, S: Site + Drop, T: Terminal>(
     rt: &R,
     alloc: Global,
     editor: &mut LiveEditor,
     known: &mut Known,
     watched: &mut W,
-    shared: &Shared<F>,
+    shared: &Shared<S>,
     terminal: &mut T,
 ) -> Option<LiveEnd>
     ensures goes { GoesOn editor.old editor.new }
@@ -87,17 +97,17 @@ fn run_round<R: Wait + Clock, W: Watched, F: Drop, T: Terminal>(
     } else {
         FEWEST_STEPS
     };
-    rest(rt, alloc, shared, terminal, steps)
+    rest(rt, alloc, shared, known, terminal, steps)
 }
 
 // Looks at the folder, and makes the edits that it brings. After want of memory the next look shows the same.
-fn look_once<R: Wait, W: Watched, F: Drop>(
+fn look_once<R: Wait, W: Watched, S: Site + Drop>(
     rt: &R,
     alloc: Global,
     editor: &mut LiveEditor,
     known: &mut Known,
     watched: &mut W,
-    shared: &Shared<F>,
+    shared: &Shared<S>,
 ) -> Option<LiveEnd>
     ensures goes { GoesOn editor.old editor.new }
 {
@@ -120,15 +130,17 @@ fn steps_after(clock: &impl Clock, start: io::Result<Instant>) -> u64 {
 }
 
 // Rests, tells news and hears keys. Some: the server ends.
-fn rest<R: Wait, F: Drop, T: Terminal>(
+fn rest<R: Wait, S: Site + Drop, T: Terminal>(
     rt: &R,
     alloc: Global,
-    shared: &Shared<F>,
+    shared: &Shared<S>,
+    known: &Known,
     terminal: &mut T,
     steps: u64,
 ) -> Option<LiveEnd> {
     let parker = Parker::new();
     for _ in 0..steps {
+        settle(rt, shared, known);
         tell_all(rt, alloc, shared, terminal);
         if shared.bell.is_full() {
             return Some(LiveEnd::Full);
@@ -144,16 +156,37 @@ fn rest<R: Wait, F: Drop, T: Terminal>(
 }
 
 /// Tells the news that came.
-pub(crate) fn tell_all<R: Wait, F: Drop, T: Terminal>(
+pub(crate) fn tell_all<R: Wait, S: Site + Drop, T: Terminal>(
     rt: &R,
     alloc: Global,
-    shared: &Shared<F>,
+    shared: &Shared<S>,
     terminal: &mut T,
 ) {
     for _ in 0..MOST_NEWS {
         let Some(news) = shared.news.take(rt) else {
             return;
         };
-        terminal.tell(alloc, news);
+        terminal.tell(alloc, shown(rt, alloc, shared, news));
+    }
+}
+
+// News as people are shown them: a fault with the line of the file, where the site has it.
+fn shown<R: Wait, S: Site + Drop>(rt: &R, alloc: Global, shared: &Shared<S>, news: News) -> News {
+    let News::Fault {
+        name,
+        fault,
+        line_text,
+    } = news
+    else {
+        return news;
+    };
+    let line_text = match shared.site.line(rt, alloc, &name, fault.line) {
+        Ok(Some(line)) => line,
+        _ => line_text,
+    };
+    News::Fault {
+        name,
+        fault,
+        line_text,
     }
 }

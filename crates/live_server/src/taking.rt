@@ -11,10 +11,10 @@ use doors::{Door, Entrance};
 use hmr_hub::{Hub, Pass};
 
 /// Takes in what a job leaves: its door goes back to the entrance, and its pass to the others.
-pub(crate) fn take_in<R: Drop, E: Entrance, F: Drop>(
+pub(crate) fn take_in<R: Drop, E: Entrance, S: Drop>(
     hub: &Hub,
     entrance: &mut E,
-    out: LiveOut<R, E::Door, F>,
+    out: LiveOut<R, E::Door, S>,
     passes: &mut Vec<Pass>,
 )
 where
@@ -44,7 +44,7 @@ fn put_pass(hub: &Hub, pass: Pass, passes: &mut Vec<Pass>)
 }
 
 /// Puts the pass of an attendant to the others.
-pub(crate) fn hand_back<R: Drop, F: Drop>(attendant: HubAttendant<R, F>, passes: &mut Vec<Pass>)
+pub(crate) fn hand_back<R: Drop, S: Drop>(attendant: HubAttendant<R, S>, passes: &mut Vec<Pass>)
     requires there { is_some attendant.pass ≡ true }
     requires room { vec_len passes.old < vec_capacity passes.old }
     ensures taken { TakenIn (arc_value attendant.hub) passes.old passes.new }

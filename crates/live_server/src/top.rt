@@ -20,14 +20,14 @@ use crate::ending::wind_up_all;
 use crate::live_editor::LiveEditor;
 use crate::plan::{LiveEnd, LivePlan, LiveReport};
 use crate::rounds::{run_rounds, tell_all};
-use crate::shared::{Shared, Site};
+use crate::shared::Shared;
 use crate::terminal::Terminal;
 use doors::{Door, Entrance};
 use hmr_hub::{Hub, HubFault, Pass};
 use hmr_types::ModName;
 use jobs::Spawner;
-use live_answers::Files;
 use live_folder::Watched;
+use live_site::Site;
 use module_graph::copy_of;
 use std::alloc::{AllocError, Global};
 use std::sync::{Arc, Wait};
@@ -53,7 +53,7 @@ pub fn serve_live<
     E: Entrance,
     P: Spawner,
     W: Watched,
-    F: Files + Drop + Send + Sync + 'static,
+    S: Site + Drop + Send + Sync + 'static,
     T: Terminal,
 >(
     rt: &R,
@@ -62,7 +62,7 @@ pub fn serve_live<
     port: u16,
     roots: &[ModName],
     watched: &mut W,
-    files: F,
+    site: S,
     entrance: &mut E,
     spawner: &mut P,
     terminal: &mut T,
@@ -70,6 +70,7 @@ pub fn serve_live<
 where
     E::Door: Drop + Send + 'static,
     <E::Door as Door>::End: Send + 'static,
+    S::File: Send + 'static,
     requires roots { AreRoots roots.now }
     requires workers { (1 ≤ plan.now.workers) × (plan.now.workers ≤ 16) }
     requires none_begun { P.begun spawner.old ≡ none_begun }
@@ -78,13 +79,7 @@ where
     ensures served { IfOk result (λ report. (p : Pass) × Served roots.now (P.begun spawner.new) p
         × HasRecord plan.now.recorded p report.record) }
 {
-    let shown = copy_of(alloc, roots)?;
-    let site = Site {
-        files,
-        port,
-        roots: shown,
-    };
-    let shared = Shared::new(alloc, site)?;
+    let shared = Shared::new(alloc, site, port)?;
     let (hub, pass) = new_hub(alloc, copy_of(alloc, roots)?)?;
     let (queue, jobs, takers) = JobQueue::new(alloc, plan.workers as usize)?;
     let hub = Arc::new(alloc, hub)?;
@@ -134,7 +129,7 @@ fn run<
     E: Entrance,
     P: Spawner,
     W: Watched,
-    F: Files + Drop + Send + Sync + 'static,
+    S: Site + Drop + Send + Sync + 'static,
     T: Terminal,
 >(
     rt: &R,
@@ -148,8 +143,8 @@ fn run<
     mut pass: Pass,
     jobs: JobPass,
     takers: Vec<JobPass>,
-    mut crew: Crew<R, E, F>,
-    shared: &Shared<F>,
+    mut crew: Crew<R, E, S>,
+    shared: &Shared<S>,
     watched: &mut W,
     entrance: &mut E,
     spawner: &mut P,
@@ -158,6 +153,7 @@ fn run<
 where
     E::Door: Drop + Send + 'static,
     <E::Door as Door>::End: Send + 'static,
+    S::File: Send + 'static,
     requires roots { AreRoots roots.now }
     requires of { IsPassOf hub.now pass }
     requires first { IsFirst roots.now pass }
@@ -195,22 +191,23 @@ fn begin<
     R: Threads + Wait + Copy + Drop + Send + 'static,
     E: Entrance,
     P: Spawner,
-    F: Files + Drop + Send + Sync + 'static,
+    S: Site + Drop + Send + Sync + 'static,
 >(
     rt: &R,
     alloc: Global,
     plan: &LivePlan,
-    crew: &mut Crew<R, E, F>,
+    crew: &mut Crew<R, E, S>,
     pass: &mut Pass,
     entrance: &mut E,
     spawner: &mut P,
-    shared: &Shared<F>,
+    shared: &Shared<S>,
     queue: &Arc<JobQueue, Global>,
     takers: Vec<JobPass>,
 ) -> Result<(), LiveEnd>
 where
     E::Door: Drop + Send + 'static,
     <E::Door as Door>::End: Send + 'static,
+    S::File: Send + 'static,
     requires crew { IsCrew ⟦<E::Door as Door>⟧ (arc_value crew.old.hub) crew.old.running crew.old.passes }
     requires of { IsPassOf (arc_value crew.old.hub) pass.old }
     requires each_of { All (λ p. queues.IsPassOf (arc_value queue.now) p) takers.items }
@@ -233,12 +230,12 @@ where
 }
 
 // Makes the edits until the end, where all jobs were begun.
-fn run_to_end<R: Wait + Clock, W: Watched, F: Drop, T: Terminal>(
+fn run_to_end<R: Wait + Clock, W: Watched, S: Site + Drop, T: Terminal>(
     rt: &R,
     alloc: Global,
     editor: &mut LiveEditor,
     watched: &mut W,
-    shared: &Shared<F>,
+    shared: &Shared<S>,
     terminal: &mut T,
     begun: Result<(), LiveEnd>,
 ) -> LiveEnd

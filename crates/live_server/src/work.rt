@@ -4,13 +4,13 @@ ghost use Rattle.std.specs.Prelude.{◌≡◌, false};
 use crate::job::{LiveDoor, LiveJob, LiveOut, LiveWorker};
 use doors::{Door, serve_door};
 use jobs::{Job, OpenGate};
-use live_answers::Files;
+use live_site::Site;
 use std::alloc::Global;
 use std::sync::Wait;
 use transform_pool::work;
 
-impl<R: Wait + Copy + Drop, D: Door + Drop, F: Files + Drop> Job for LiveJob<R, D, F> {
-    type Out = LiveOut<R, D, F>;
+impl<R: Wait + Copy + Drop, D: Door + Drop, S: Site + Drop> Job for LiveJob<R, D, S> {
+    type Out = LiveOut<R, D, S>;
 
     ghost use Rattle.live_server.specs.Outs.{OutOf, kind_of};
 
@@ -20,7 +20,7 @@ impl<R: Wait + Copy + Drop, D: Door + Drop, F: Files + Drop> Job for LiveJob<R, 
 
     ghost kind_of = { kind_of };
 
-    fn work<W: Wait>(self, rt: &W, alloc: Global) -> LiveOut<R, D, F> {
+    fn work<W: Wait>(self, rt: &W, alloc: Global) -> LiveOut<R, D, S> {
         match self {
             LiveJob::Worker(LiveWorker { mut board }) => {
                 let ended = work(rt, alloc, &mut board, &OpenGate);
@@ -38,7 +38,7 @@ impl<R: Wait + Copy + Drop, D: Door + Drop, F: Files + Drop> Job for LiveJob<R, 
         }
     }
 
-    fn give_up(self) -> LiveOut<R, D, F> {
+    fn give_up(self) -> LiveOut<R, D, S> {
         match self {
             LiveJob::Worker(LiveWorker { board }) => LiveOut::Worker(board, None),
             LiveJob::Door(LiveDoor { door, attendant }) => LiveOut::Door(door, attendant, None),

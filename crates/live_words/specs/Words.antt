@@ -1,6 +1,6 @@
 -- What can be served.
-use Rattle.std.specs.Prelude.{◌≤◌, ℕ, length, IfSome, ⊤}
-use Rattle.core_model.specs.Roots.{AreRoots}
+use Rattle.std.specs.Prelude.{◌≡◌, ◌≤◌, ℕ, length, IfSome, true, ⊤}
+use Rattle.core_model.specs.Roots.{are_distinct}
 use Rattle.hmr_types.specs.declared.limits.TheConstants.{ROOTS}
 use Rattle.live_words.specs.declared.dev_plan.DevPlan.{DevPlan}
 use Rattle.live_words.specs.declared.dev_plan.Wanted.{Wanted}
@@ -18,10 +18,11 @@ pub record Fits (came : Came) : Type 0 where
   pub workers : IfSome came.workers (InRange 1 16)
   pub few : length came.roots.items ≤ ROOTS
 
--- a plan with 1 to 16 workers, and roots that a page can have
+-- a plan with 1 to 16 workers, and 16 modules at most of a made page, no two equal
 pub record CanServe (plan : DevPlan) : Type 0 where
   pub workers : InRange 1 16 plan.workers
-  pub roots : AreRoots plan.roots
+  pub few : length plan.roots ≤ ROOTS
+  pub distinct : are_distinct plan.roots ≡ true
 
 -- where something is to be served, it can be
 abbrev pub IsServable : Wanted → Type 0

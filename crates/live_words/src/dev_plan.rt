@@ -6,7 +6,7 @@ use hmr_types::{ModName, Sequence, Text};
 pub struct DevPlan {
     /// The path of the folder.
     pub folder: Text,
-    /// The roots of a page that names none: one at least, 16 at most, no two equal.
+    /// The modules of the page that is made where the folder has none: 16 at most, no two equal.
     pub roots: Sequence<ModName>,
     /// The port, 0 for any.
     pub port: u16,

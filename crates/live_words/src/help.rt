@@ -4,11 +4,11 @@
 pub fn help_text() -> &'static str {
     r#"usage: hmr dev FOLDER [ROOT..] [--port N] [--strict-port] [--workers N] [--json] [--record FILE]
 
-Serves the pages and modules of a folder to browsers on this machine until it is told to end, and updates
-each open page at each save.
+Serves the pages of a folder to browsers on this machine until it is told to end, and updates each open page
+at each save.
 
-  FOLDER          the folder; a file that is no module is served as it is
-  ROOT..          the modules at which a page begins that names none itself; /main.js where none is named
+  FOLDER          the folder, with an index.html
+  ROOT..          the modules of a page, as /main.js, that is made where the folder has no index.html
   --port N        the port, or the next free one; 5173 where it is left out, any where it is 0
   --strict-port   that port and no other
   --workers N     how many threads read changed texts, from 1 to 16; 2 where it is left out

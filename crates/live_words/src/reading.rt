@@ -1,7 +1,7 @@
 // The words, read one after another.
-ghost use Rattle.std.specs.Prelude.{◌≡◌, ◌≤◌, IfOk, IfSome, length, true};
+ghost use Rattle.std.specs.Prelude.{◌≡◌, ◌≤◌, IfOk, IfSome, true};
 ghost use Rattle.core_model.specs.Names.{has};
-ghost use Rattle.core_model.specs.Roots.{AreRoots, are_distinct};
+ghost use Rattle.core_model.specs.Roots.{are_distinct};
 ghost use Rattle.hmr_types.specs.declared.limits.TheConstants.{ROOTS};
 ghost use Rattle.live_words.specs.Words.{Fits, InRange, IsServable};
 
@@ -16,7 +16,7 @@ use std::alloc::{AllocError, Global};
 
 /// What the words ask for, those behind `dev`: one folder, and then roots; options may stand anywhere, with
 /// their values behind them or behind a `=`. Where `--help` stands, the help is wanted, if nothing before it is
-/// wrong. Where none is named the root is /main.js, the port 5173, and there are 2 workers.
+/// wrong. Where none is named the port is 5173, and there are 2 workers.
 pub fn read_words(alloc: Global, words: &[String]) -> Result<Wanted, WordsFault>
     ensures { IfOk result IsServable }
 {
@@ -24,7 +24,7 @@ pub fn read_words(alloc: Global, words: &[String]) -> Result<Wanted, WordsFault>
     for word in words {
         came.take(alloc, word.as_str())?;
     }
-    came.finish(alloc)
+    came.finish()
 }
 
 // What came so far.
@@ -189,7 +189,7 @@ impl Came {
     }
 
     // What all of the words ask for.
-    fn finish(self, alloc: Global) -> Result<Wanted, WordsFault>
+    fn finish(self) -> Result<Wanted, WordsFault>
         requires fits { Fits self }
         ensures { IfOk result IsServable }
     {
@@ -216,7 +216,6 @@ impl Came {
         if !are_distinct(&roots) {
             return Err(WordsFault::RootTwice);
         }
-        let roots = or_main(alloc, roots)?;
         Ok(Wanted::Serve(DevPlan {
             folder,
             roots: Sequence::from_vec(roots),
@@ -226,24 +225,6 @@ impl Came {
             is_json,
             record,
         }))
-    }
-}
-
-// The roots; where none is named, the module /main.js.
-fn or_main(alloc: Global, mut roots: Vec<ModName>) -> Result<Vec<ModName>, WordsFault>
-    requires few { length roots.items ≤ ROOTS }
-    requires distinct { are_distinct roots.items ≡ true }
-    ensures { IfOk result (λ all. AreRoots all.items) }
-{
-    if !roots.is_empty() {
-        return Ok(roots);
-    }
-    match ModName::read(alloc, b"/main.js") {
-        Ok(main) => match roots.push(main) {
-            Ok(()) => Ok(roots),
-            Err(_) => Err(WordsFault::NoMemory),
-        },
-        Err(_) => Err(WordsFault::NoMemory),
     }
 }
 
