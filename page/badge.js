@@ -1,48 +1,35 @@
-// The badge at the corner of the page: how many bindings are stale, and the list of them once it is clicked; and
-// a sentence where the page isn't connected. There is no badge where there is nothing to say.
-import { element, shadow } from './dom.js';
+// The badge: how many bindings are old, or that something is wrong. It opens a list of them. Where there is
+// nothing to say there is no badge.
 
-const STYLE = `
-  .badge { position: fixed; right: 14px; bottom: 14px; z-index: 2147483646; max-width: min(92vw, 640px);
-    font: 12.5px/1.5 ui-monospace, SFMono-Regular, Menlo, Consolas, monospace; text-align: right; }
-  button { padding: 3px 11px; border: 0; border-radius: 12px; background: #a15c07; color: #fff; font: inherit;
-    cursor: pointer; }
-  .away { display: inline-block; padding: 3px 11px; border-radius: 12px; background: #3a424c; color: #fff; }
-  ul { margin: 0 0 8px; padding: 10px 14px; border-radius: 8px; background: #17191d; color: #f3b95c; text-align: left;
-    list-style: none; overflow: auto; max-height: 50vh; }
-  li { overflow-wrap: anywhere; }`;
+import { shown } from './names.js';
+import { element, part } from './shadow.js';
+import { staleEdges, staleWords, stopWords } from './stale.js';
 
-/** A stale binding in words. */
-const said = ({ from, name, to, linked, live }) => `${from} still has ${name} of ${to} v${linked} (now v${live})`;
+export function showBadge(page) {
+  const stale = page.isAdopted ? staleEdges(page) : [];
+  const badge = part('badge');
+  const unfollowed = [...page.unfollowed].map((name) => element('li', `${shown(name)} isn't followed`));
+  const rows = [...stale.map(asRow), ...unfollowed];
+  [badge.className, badge.textContent] = face(page, stale.length);
+  badge.hidden = badge.className === 'good' && rows.length === 0;
+  part('list').replaceChildren(...rows, element('li', doings(page)));
+  if (badge.hidden) part('list').hidden = true;
+}
 
-export class Badge {
-  constructor() {
-    Object.assign(this, { root: null, isOpen: false, shown: '' });
-  }
+function face(page, stale) {
+  if (page.isAway) return ['away', 'hmr: no server'];
+  if (page.faults.size > 0) return ['fault', 'hmr: fault'];
+  return stale > 0 ? ['stale', `${stale} stale`] : ['good', 'hmr'];
+}
 
-  /** Shows these stale bindings, and a sentence where the page isn't connected. */
-  show(stale, state) {
-    const lines = stale.map(said);
-    const key = JSON.stringify([lines, state]);
-    if (key === this.shown) return;
-    this.shown = key;
-    this.draw(lines, state);
-  }
+function asRow(edge) {
+  const row = element('li', staleWords(edge));
+  row.append(element('small', ` ${stopWords(edge)}`));
+  return row;
+}
 
-  draw(lines, state) {
-    if (lines.length === 0 && state === null && this.root === null) return;
-    this.root ??= shadow('hmr-badge', STYLE);
-    this.root.querySelector('.badge')?.remove();
-    if (lines.length === 0 && state === null) return;
-    const list = element('ul', {}, ...lines.map((line) => element('li', {}, line)));
-    const button = element('button', { title: 'bindings that still have an older instance' }, `${lines.length} stale`);
-    list.hidden = !this.isOpen;
-    button.onclick = () => {
-      this.isOpen = !this.isOpen;
-      list.hidden = !this.isOpen;
-    };
-    const away = state === null ? [] : [element('span', { class: 'away' }, state)];
-    const parts = lines.length === 0 ? away : [list, ...away, button];
-    this.root.append(element('div', { class: 'badge' }, ...parts));
-  }
+function doings({ last, number, live }) {
+  const where = `page ${number}, ${live.size} modules`;
+  if (last === null || last.kind === 'load') return where;
+  return `${where}; the last update: ${last.triggeredBy.map(shown).join(', ')}`;
 }

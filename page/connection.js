@@ -1,64 +1,62 @@
-// The connection of a page with its server. A session is one request after another, each with its answer. Where
-// a session ends, another one is tried, after a pause that grows up to four seconds. The page that a session had
-// loaded is then loaded anew, as the modules of the new session may be others. A page that the server doesn't
-// take, since 32 are open, says so and tries again.
-const SHORTEST = 200;
-const LONGEST = 4000;
-const REFUSALS = { 2: '32 pages are open; this one is loaded once another is closed',
-  7: 'the roots of this page are more than 16, or two of them are equal' };
-const pause = (time) => new Promise((done) => { setTimeout(done, time); });
+// The connection to the server: one WebSocket, on which each request waits for its answer. Where it is cut
+// the page waits for the server, and goes on with the same one; another one, begun since, makes the browser
+// load the page again.
 
-export class Connection {
-  /** `show(state)` is called after each answer; `state` is a sentence where the page isn't connected, else null. */
-  constructor(address, page, show) {
-    Object.assign(this, { address, page, show, wait: SHORTEST });
+import { pendingRequest, take } from './turns.js';
+
+const CLOSED = new Error('the connection was closed');
+
+/** Speaks to the server until the page is left. */
+export async function stayConnected(page) {
+  while (!page.isLeaving) {
+    const fault = await speak(page).then(() => null, (error) => error);
+    if (fault === null && (page.isLeaving || page.isFollowing)) continue;
+    if (fault !== null && fault !== CLOSED) console.error('hmr:', fault);
+    page.number = 0;
+    page.plan = null;
+    await serverIsBack(page);
   }
+  location.reload();
+}
 
-  /** Holds sessions, one after another, as long as the page is there. */
-  async live() {
-    for (;;) {
-      const state = await this.session().catch(({ message }) => message);
-      if (this.page.isReloading) {
-        location.reload();
-        return;
-      }
-      this.show(state);
-      await pause(this.wait);
-      this.wait = Math.min(this.wait * 1.6, LONGEST);
+// One connection, from hello to bye.
+async function speak(page) {
+  page.number = 0;
+  const scheme = location.protocol === 'https:' ? 'wss' : 'ws';
+  const socket = new WebSocket(`${scheme}://${location.host}/@hmr/ws?page=${page.id}`);
+  page.cut = () => socket.close();
+  const next = (text) => new Promise((done, refuse) => {
+    socket.onopen = socket.onmessage = done;
+    socket.onclose = () => refuse(CLOSED);
+    if (socket.readyState >= WebSocket.CLOSING) refuse(CLOSED);
+    else if (text !== undefined) socket.send(text);
+  });
+  try {
+    await next();
+    for (let isOver = false; !isOver;) {
+      const request = await pendingRequest(page);
+      page.isAsking = request.type === 'ask';
+      const { data } = await next(JSON.stringify(request));
+      page.isAsking = false;
+      const answer = JSON.parse(data);
+      page.browser.note(request, answer);
+      await take(page, request, answer);
+      if (answer.type === 'not-yet') await page.browser.pause(50);
+      isOver = request.type === 'bye' || (answer.type === 'refused' && request.type === 'hello');
     }
+  } finally {
+    socket.close();
   }
+}
 
-  /** One session; the sentence why it ended. */
-  async session() {
-    const socket = new WebSocket(this.address);
-    const next = (text) => new Promise((take, refuse) => {
-      const over = () => refuse(new Error('there is no server; the page waits for it'));
-      Object.assign(socket, { onopen: take, onmessage: take, onclose: over });
-      if (socket.readyState >= WebSocket.CLOSING) over();
-      else if (text !== undefined) socket.send(text);
-    });
-    try {
-      await next();
-      if (this.page.isLoaded()) {
-        this.page.isReloading = true;
-        return null;
-      }
-      this.page.leave();
-      for (;;) {
-        const request = this.page.request();
-        const asked = performance.now();
-        const answer = JSON.parse((await next(JSON.stringify(request))).data);
-        if (request.type === 'bye') return null;
-        if (request.type === 'hello' && answer.type === 'refused') return REFUSALS[answer.code] ?? 'the server refused';
-        this.wait = SHORTEST;
-        await this.page.take(request, answer);
-        this.show(null);
-        // An ask that waits at the server needs no pause here.
-        const isWaiting = answer.type === 'idle' || answer.type === 'not-yet';
-        if (isWaiting && performance.now() - asked < 50) await pause(100);
-      }
-    } finally {
-      socket.close();
-    }
+async function serverIsBack(page) {
+  for (let wait = 300; ; wait = Math.min(wait * 1.5, 3000)) {
+    await page.browser.pause(wait);
+    const told = await fetch('/@hmr/run').then((answer) => answer.json()).catch(() => null);
+    page.isAway = told === null;
+    page.show();
+    if (page.isAway) continue;
+    if (String(told.run) !== page.run) page.isLeaving = true;
+    return;
   }
 }

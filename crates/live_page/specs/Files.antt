@@ -1,12 +1,5 @@
--- The paths of the client's files.
-use Rattle.std.specs.Prelude.{ℕ, Bool, List, [], ◌∷◌, codes, bytes_eq}
-use Rattle.std.specs.List.{list_any}
-
-abbrev pub paths : List (List ℕ)
-paths =
-    codes "/@hmr/client.js" ∷ codes "/@hmr/badge.js" ∷ codes "/@hmr/connection.js" ∷ codes "/@hmr/dom.js"
-    ∷ codes "/@hmr/instances.js" ∷ codes "/@hmr/module_text.js" ∷ codes "/@hmr/overlay.js"
-    ∷ codes "/@hmr/page.js" ∷ codes "/@hmr/view.js" ∷ []
+-- The path of the client's file.
+use Rattle.std.specs.Prelude.{ℕ, Bool, List, codes, bytes_eq}
 
 abbrev pub is_file : List ℕ → Bool
-is_file path = list_any (λ p. bytes_eq path p) paths
+is_file path = bytes_eq path (codes "/@hmr/client.js")

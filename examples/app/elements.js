@@ -1,0 +1,3 @@
+export function element(tag, text) {
+  return Object.assign(document.createElement(tag), { textContent: text });
+}

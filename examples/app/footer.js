@@ -1,0 +1,1 @@
+export const footer = () => "Save a file of this folder, and look.";
