@@ -117,8 +117,7 @@ module.exports = [
       await pause(500);
       const tabs = [];
       for (let i = 0; i < 32; i += 1) tabs.push(await v.open());
-      const last = await v.open('index.html', 'document.querySelector("hmr-page") !== null');
-      assert.match(await overlay(last), /32 pages open/);
+      const last = await v.open('index.html', `${part('overlay')}?.innerText.includes("32 pages open") === true`);
       assert.equal((await v.program.told('refused')).code, 2);
       await v.close(tabs.pop());
       await last.until(OPENED);
