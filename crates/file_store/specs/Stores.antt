@@ -1,5 +1,5 @@
 -- What a store of files is: files by version, which versions are served, and the plans that pages told.
-use Rattle.std.specs.Prelude.{ℕ, List, filter, Bool, not, ◌&&◌, ◌==◌, bytes_eq, Option, Some, None, if◌then◌else◌}
+use Rattle.std.specs.Prelude.{ℕ, List, Bool, ◌&&◌, ◌==◌, bytes_eq, Option, Some, None, if◌then◌else◌}
 use Rattle.std.specs.BTreeMap.{insert_entry}
 use Rattle.std.specs.Cmp.Lexicographic.{slice_cmp}
 use Rattle.std.specs.List.{find}
@@ -43,6 +43,3 @@ same_plan a b = (a.page == b.page) && (a.plan == b.plan)
 
 abbrev pub plan_at : List Told → PlanId → Option Told
 plan_at plans id = find (λ p. same_plan p.id id) plans
-
-abbrev pub plans_without : ℕ → List Told → List Told
-plans_without page plans = filter (λ p. not (p.id.page == page)) plans

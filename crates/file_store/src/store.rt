@@ -1,7 +1,6 @@
 // Files by version, and the plans that name them.
 ghost use Rattle.std.specs.Prelude.{◌≡◌, ◌++◌, ◌∷◌, [], IfOk, OnErr, OnOk};
 ghost use Rattle.std.specs.Option.{option_copied};
-ghost use Rattle.file_store.specs.Stores.{plans_without};
 
 use hmr_types::{ModName, Ver};
 use instance_urls::PlanId;
@@ -44,7 +43,7 @@ impl<T> Model for FileStore<T> {
 }
 
 impl<T: Drop> FileStore<T> {
-    ghost use Rattle.file_store.specs.Stores.{file_at, plan_at, plans_without, served_at, with_file, with_served, without};
+    ghost use Rattle.file_store.specs.Stores.{file_at, plan_at, served_at, with_file, with_served, without};
 
     /// A store of nothing. It takes no memory.
     pub fn new(alloc: Global) -> FileStore<T>
@@ -118,19 +117,4 @@ impl<T: Drop> FileStore<T> {
     {
         self.plans.iter().find(|plan| plan.id() == id)
     }
-
-    /// Lets go the plans of a page that isn't connected any more.
-    pub fn drop_page(&mut self, page: u64)
-        ensures plans { self.new.plans ≡ plans_without page self.old.plans }
-        ensures files { self.new.files ≡ self.old.files }
-        ensures served { self.new.served ≡ self.old.served }
-    {
-        drop_plans(&mut self.plans, page);
-    }
-}
-
-fn drop_plans(plans: &mut VecDeque<ToldPlan>, page: u64)
-    ensures { plans.new.items ≡ plans_without page plans.old.items }
-{
-    plans.retain(|plan| plan.id().page != page);
 }

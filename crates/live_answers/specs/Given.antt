@@ -1,5 +1,5 @@
 -- What is at a path.
-use Rattle.std.specs.Prelude.{◌≢◌, ◌⊎◌, ℕ, Bool, List, [], ◌∷◌, if◌then◌else◌, bytes_eq}
+use Rattle.std.specs.Prelude.{ℕ, Bool, List}
 use Rattle.live_answers.specs.declared.found.Found.{Found}
 use Rattle.live_answers.specs.declared.found.Found.TheVariants as found
 use Rattle.live_answers.specs.declared.media.Media.{Media}
@@ -26,13 +26,3 @@ Gives = List ℕ → Given → Type 0
 -- whatever
 abbrev pub GivesAt : Type 1
 GivesAt = List ℕ → List ℕ → Bool → Given → Type 0
-
--- what is found in one is that, unless it is nothing: then it is what is found in the other
-abbrev pub GivesEither : Gives → Gives → Gives
-GivesEither first second path given =
-    (first path given × (given ≢ nothing)) ⊎ (first path nothing × second path given)
-
--- the first text of a list of paths and texts that stands at the path
-abbrev pub text_at : List (List ℕ × List ℕ) → List ℕ → Given
-text_at [] path = nothing
-text_at (file ∷ files) path = if bytes_eq file.0 path then a_file file.1 else text_at files path

@@ -1,9 +1,6 @@
 pub mod Given
 pub mod Media
-pub mod Memory
-pub mod Pages
 pub mod Paths
-pub mod Plain
 pub mod Replies
 pub mod Serving
 pub mod Shown

@@ -3,10 +3,8 @@
 //!
 //! [`answer_head`] says of a head and its body what is written, and whether the connection goes on, is
 //! closed, or becomes a WebSocket; [`body_length`] how many bytes of a body are read before. What is at a
-//! path, and what becomes of a body there, is told by a [`Paths`]. A [`PlainSite`] is one of files alone: a
-//! [`FolderFiles`] reads them from a folder of the file system, a [`MemFiles`] has them in memory, and a
-//! [`Layered`] looks in one and then in another. Each page of it takes the page's client by a tag; where
-//! there is no page, one is made.
+//! path, and what becomes of a body there, is told by a [`Paths`]. A [`FolderFiles`] reads files from a
+//! folder of the file system.
 //!
 //! Stands on `request_guard` for who is let in and for media types, on `http_heads` for what a head asks, on
 //! `request_details` for what else it says. Keeps: an answer is a function of the head, the port, the body,
@@ -19,12 +17,8 @@ mod files;
 mod folder_files;
 mod foreign;
 mod found;
-mod layered;
 mod media;
-mod mem_files;
-mod pages;
 mod paths;
-mod plain_site;
 mod reply;
 mod site;
 mod status;
@@ -36,9 +30,5 @@ pub use files::{FILE_BYTES, Files};
 pub use folder_files::FolderFiles;
 pub use foreign::foreign_text;
 pub use found::Found;
-pub use layered::Layered;
 pub use media::Media;
-pub use mem_files::{MemEntry, MemFiles};
-pub use pages::{client_tag, made_page, with_tag};
-pub use plain_site::PlainSite;
 pub use site::{Paths, Posted};
