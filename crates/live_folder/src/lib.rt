@@ -3,7 +3,7 @@
 //! A [`Watched`] is looked at again and again, and each [`Look`] has what changed since the one before:
 //! the modules with their new texts, the modules that are gone, and the files that were passed over, with
 //! the cause. One file that can't be had doesn't keep the others. [`FolderMarks`] looks at a folder of the
-//! file system, [`MadePage`] puts a page to what another shows, and [`ToldLooks`] gives looks that were
+//! file system, mostly by glances, [`MadePage`] puts a page to what another shows, and [`ToldLooks`] gives looks that were
 //! made before.
 //!
 //! Stands on `file_names` for the modules that stand for files and on `hmr_base` for reading files. Keeps:
@@ -11,6 +11,7 @@
 #![tactic(auto)]
 
 mod folder_marks;
+mod glances;
 mod look;
 mod made_page;
 mod marks;

@@ -70,6 +70,8 @@ pub enum SkipCause {
     BadName,
     /// It couldn't be read.
     Unreadable,
+    /// It is a link to a file outside of the folder.
+    Outside,
 }
 
 /// A file that was passed over: its path from the folder on, and why.

@@ -23,7 +23,7 @@ pub struct MadePage<W: Drop> {
     text: Vec<u8>,
     // Whether no look was answered.
     is_due: bool,
-    // A look of the folder that wasn't answered, for want of memory.
+    // A look of the folder that wasn't answered, since memory ran out.
     held: Option<Look>,
     ghost short: { IsShort text },
 }

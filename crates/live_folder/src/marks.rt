@@ -1,8 +1,8 @@
-// The marks of all files below a folder that may be modules. The folder is gone through level by level; a
-// path has at most 255 bytes, so that there are no more levels.
+// The marks of all files below a folder that may be modules, and of the folders that they are in. The folder is
+// gone through level by level; a path has at most 255 bytes, so that there are no more levels.
 use std::alloc::{AllocError, AllocFailed, Global};
 use std::collections::BTreeMap;
-use std::fs::DirEntry;
+use std::fs::{DirEntry, Metadata};
 use std::io::ErrorKind;
 use std::rt::Files;
 use std::time::SystemTime;
@@ -14,15 +14,34 @@ const LEVELS: usize = 256;
 /// The longest path, in bytes.
 const PATH_BYTES: usize = 255;
 
-/// That by which a change of a file shows: its length and the time of its last change.
+/// That by which a change of a file shows: its length and the time of its last change, and whether it is a
+/// link.
 #[derive(Clone, Copy, PartialEq, Eq)]
 pub(crate) struct Mark {
     length: u64,
     changed: Option<SystemTime>,
+    pub is_link: bool,
 }
 
-/// The files that may be modules, by their paths from the folder on, each with its mark.
-pub(crate) type Marks = BTreeMap<String, Mark>;
+/// What is known of a folder, by paths from the folder on.
+#[derive(Drop)]
+pub(crate) struct Marks {
+    /// The files that may be modules.
+    pub files: BTreeMap<String, Mark>,
+    /// The folder itself, whose path is of no bytes, and those below it that were looked into, each with the
+    /// time of its last change: a file was made there, taken away, or put in another's place.
+    pub folders: BTreeMap<String, Option<SystemTime>>,
+}
+
+impl Marks {
+    /// What is known of a folder that wasn't looked at.
+    pub fn new(alloc: Global) -> Marks {
+        Marks {
+            files: BTreeMap::new(alloc),
+            folders: BTreeMap::new(alloc),
+        }
+    }
+}
 
 /// Why a folder has no marks now.
 #[derive(Clone, Copy, PartialEq, Eq)]
@@ -62,7 +81,7 @@ pub(crate) fn marks_below<R: Files + AllocGlobal + Clone + Drop>(
     alloc: Global,
     folder: &str,
 ) -> Result<Marks, NoMarks> {
-    let mut found = BTreeMap::new(alloc);
+    let mut found = Marks::new(alloc);
     let mut level = Vec::new(alloc);
     list_folder(rt, alloc, folder, "", &mut found, &mut level)?;
     for _ in 0..LEVELS {
@@ -119,6 +138,11 @@ fn list_folder<R: Files + AllocGlobal + Clone + Drop>(
     next: &mut Vec<String>,
 ) -> Result<(), NoMarks> {
     let place = format!(in alloc; "{folder}{path}")?;
+    // The time comes before the list, so that a change within it shows at the next glance.
+    let changed = fs::metadata(rt, place.as_str())?.modified().ok();
+    found
+        .folders
+        .insert(String::from_str(alloc, path)?, changed)?;
     for entry in fs::read_dir(rt, place.as_str())? {
         match entry {
             Ok(entry) => take_entry(rt, alloc, path, &entry, found, next)?,
@@ -157,23 +181,62 @@ fn take_entry<R: Files + AllocGlobal + Clone + Drop>(
     if !is_followed(name) {
         return Ok(());
     }
-    let data = if data.is_symlink() {
-        match fs::metadata(rt, entry.path()) {
+    if let Some(mark) = mark_of(rt, entry.path().as_str(), data) {
+        let path = format!(in alloc; "{path}/{name}")?;
+        found.files.insert(path, mark)?;
+    }
+    Ok(())
+}
+
+// The mark of what has this metadata at a place, where that is a file or a link to one.
+fn mark_of<R: Files>(rt: &R, place: &str, data: Metadata) -> Option<Mark> {
+    let is_link = data.is_symlink();
+    let data = if is_link {
+        match fs::metadata(rt, place) {
             Ok(target) => target,
             Err(_) => data,
         }
     } else {
         data
     };
-    if data.is_file() {
-        let mark = Mark {
-            length: data.len(),
-            changed: data.modified().ok(),
-        };
-        let path = format!(in alloc; "{path}/{name}")?;
-        found.insert(path, mark)?;
+    if !data.is_file() {
+        return None;
     }
-    Ok(())
+    Some(Mark {
+        length: data.len(),
+        changed: data.modified().ok(),
+        is_link,
+    })
+}
+
+/// The mark of the file at a path of the folder; None where there is no file now.
+pub(crate) fn mark_at<R: Files>(
+    rt: &R,
+    alloc: Global,
+    folder: &str,
+    path: &str,
+) -> Result<Option<Mark>, AllocError> {
+    let place = format!(in alloc; "{folder}{path}")?;
+    match fs::symlink_metadata(rt, place.as_str()) {
+        Ok(data) => Ok(mark_of(rt, place.as_str(), data)),
+        Err(error) if error.kind() == ErrorKind::OutOfMemory => Err(AllocError),
+        Err(_) => Ok(None),
+    }
+}
+
+/// The time of the last change of the folder at a path; None where there is none now.
+pub(crate) fn folder_change<R: Files>(
+    rt: &R,
+    alloc: Global,
+    folder: &str,
+    path: &str,
+) -> Result<Option<SystemTime>, AllocError> {
+    let place = format!(in alloc; "{folder}{path}")?;
+    match fs::metadata(rt, place.as_str()) {
+        Ok(data) => Ok(data.modified().ok()),
+        Err(error) if error.kind() == ErrorKind::OutOfMemory => Err(AllocError),
+        Err(_) => Ok(None),
+    }
 }
 
 // Whether a file of this name is one that pages are made of.
@@ -189,17 +252,4 @@ fn is_followed(name: &str) -> bool {
 // Whether what has this name is never looked at.
 fn is_passed(name: &str) -> bool {
     name.starts_with('.') || name == "node_modules"
-}
-
-/// Whether both have the same files with the same marks. It takes no memory.
-pub(crate) fn same_marks(one: &Marks, other: &Marks) -> bool {
-    if one.len() != other.len() {
-        return false;
-    }
-    for (path, mark) in one {
-        if other.get(path) != Some(mark) {
-            return false;
-        }
-    }
-    true
 }

@@ -42,11 +42,13 @@ fault_text style name fault line =
     ++ off style ++ lines_below fault.col line
 
 abbrev pub passed_words : PassedCause → List ℕ
-passed_words passed.TextTooLong = codes "it has more than 131,072 bytes"
+passed_words passed.FileTooLong = codes "it has more than 64 MiB"
+passed_words passed.TextTooLong = codes "its imports take more than 131,072 bytes"
 passed_words passed.BadName = codes "no module can have this name"
 passed_words passed.TooManyNames = codes "there are 8,192 modules"
 passed_words passed.SourceTotal = codes "all sources together would have more than 32 MiB"
 passed_words passed.Unreadable = codes "it can't be read"
+passed_words passed.Outside = codes "it is a link to a file outside of the folder"
 
 -- a file that was passed over
 abbrev pub passed_text : Style → List ℕ → PassedCause → List ℕ

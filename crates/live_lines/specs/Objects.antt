@@ -110,11 +110,13 @@ abort_word Broken = codes "broken"
 abort_word Link = codes "link"
 
 abbrev pub passed_word : PassedCause → List ℕ
+passed_word passed.FileTooLong = codes "file-too-long"
 passed_word passed.TextTooLong = codes "text-too-long"
 passed_word passed.BadName = codes "bad-name"
 passed_word passed.TooManyNames = codes "too-many-names"
 passed_word passed.SourceTotal = codes "source-total"
 passed_word passed.Unreadable = codes "unreadable"
+passed_word passed.Outside = codes "outside"
 
 abbrev pub foreign_word : Foreign → List ℕ
 foreign_word Host = codes "host"

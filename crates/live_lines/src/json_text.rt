@@ -257,11 +257,13 @@ fn passed_str(cause: PassedCause) -> &'static str
     ensures { result.now ≡ passed_word cause }
 {
     match cause {
+        PassedCause::FileTooLong => "file-too-long",
         PassedCause::TextTooLong => "text-too-long",
         PassedCause::BadName => "bad-name",
         PassedCause::TooManyNames => "too-many-names",
         PassedCause::SourceTotal => "source-total",
         PassedCause::Unreadable => "unreadable",
+        PassedCause::Outside => "outside",
     }
 }
 

@@ -5,7 +5,9 @@ use hmr_types::{ClientId, ModName, Sequence, Text, TextFault, Ver};
 /// Why a file was passed over.
 #[derive(Clone, Copy, Debug, PartialEq, Eq)]
 pub enum PassedCause {
-    /// It has more than 131,072 bytes.
+    /// It has more than 64 MiB.
+    FileTooLong,
+    /// What the core is told of it would have more than 131,072 bytes.
     TextTooLong,
     /// No module can have its name.
     BadName,
@@ -15,6 +17,8 @@ pub enum PassedCause {
     SourceTotal,
     /// It couldn't be read.
     Unreadable,
+    /// It is a link to a file outside of the folder.
+    Outside,
 }
 
 /// What of a request named another server.

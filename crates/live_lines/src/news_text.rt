@@ -41,11 +41,13 @@ fn passed_str(cause: PassedCause) -> &'static str
     ensures { result.now ≡ passed_words cause }
 {
     match cause {
-        PassedCause::TextTooLong => "it has more than 131,072 bytes",
+        PassedCause::FileTooLong => "it has more than 64 MiB",
+        PassedCause::TextTooLong => "its imports take more than 131,072 bytes",
         PassedCause::BadName => "no module can have this name",
         PassedCause::TooManyNames => "there are 8,192 modules",
         PassedCause::SourceTotal => "all sources together would have more than 32 MiB",
         PassedCause::Unreadable => "it can't be read",
+        PassedCause::Outside => "it is a link to a file outside of the folder",
     }
 }
 
