@@ -30,10 +30,15 @@ use std::time::Duration;
 use transform_pool::{JobPass, JobQueue};
 
 /// How many jobs may wait for workers before the next edit is made.
-const WAITING: u64 = 48;
+const MOST_WAITING: u64 = 48;
 
-/// How often it is looked whether fewer wait, a millisecond apart.
-const LOOKS: u32 = 2000;
+/// How many wait at most once edits are made again.
+const FEW_WAITING: u64 = 16;
+
+/// How often it is looked whether fewer wait, and how far apart in microseconds: two seconds in all.
+const LOOKS: u32 = 20_000;
+
+const LOOK_MICROS: u64 = 100;
 
 impl LiveEditor {
     /// An editor that made no edit. It takes no memory.
@@ -187,9 +192,12 @@ impl LiveEditor {
     }
 }
 
-// Waits while many jobs wait for workers, for two seconds at most.
+// Where many jobs wait for workers, waits until few do, for two seconds at most.
 fn wait_for_workers<R: Wait, S: Drop>(rt: &R, shared: &Shared<S>, known: &Known) {
-    wait_for_results(rt, shared, known.jobs().saturating_sub(WAITING));
+    let waiting = known.jobs().saturating_sub(shared.bell.results());
+    if waiting > MOST_WAITING {
+        wait_for_results(rt, shared, known.jobs().saturating_sub(FEW_WAITING));
+    }
 }
 
 /// Waits until workers have told so many results, for two seconds at most.
@@ -199,7 +207,7 @@ pub(crate) fn wait_for_results<R: Wait, S: Drop>(rt: &R, shared: &Shared<S>, res
         if shared.bell.results() >= results {
             return;
         }
-        parker.park_timeout(rt, Duration::from_millis(1));
+        parker.park_timeout(rt, Duration::from_micros(LOOK_MICROS));
     }
 }
 
@@ -314,9 +322,10 @@ fn tell_passed_over<R: Wait, S: Drop>(
 fn tell_passed<R: Wait, S: Drop>(rt: &R, shared: &Shared<S>, passed: Vec<PassedOver>) {
     for PassedOver { path, cause } in passed {
         let cause = match cause {
-            SkipCause::TextTooLong => PassedCause::TextTooLong,
+            SkipCause::TextTooLong => PassedCause::FileTooLong,
             SkipCause::BadName => PassedCause::BadName,
             SkipCause::Unreadable => PassedCause::Unreadable,
+            SkipCause::Outside => PassedCause::Outside,
         };
         shared.news.tell(rt, News::Passed { path, cause });
     }

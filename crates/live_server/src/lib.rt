@@ -4,10 +4,11 @@
 //!
 //! [`serve_live`] is the whole of it. A [`HubAttendant`] serves the visitors of one door, each session at a
 //! desk that is made anew from the one pass of the door; workers transform texts; the caller's thread looks
-//! at the folder, makes the edits, and gives news to a [`Terminal`].
+//! at the folder, makes the edits, and gives news to a [`Terminal`]. What the core is told of a file, and
+//! what is answered to who asks for one, a site says.
 //!
-//! Stands on `doors` and `sessions` for what comes, on `live_answers` for what is no session, on `live_desk`
-//! for desks and boards, on `hub_editor` for edits and on `live_folder` for the folder. Keeps: each pass that is
+//! Stands on `doors` and `sessions` for what comes, on `live_site` for the site, on `live_answers` for the
+//! answers to heads, on `live_desk` for desks and boards, on `hub_editor` for edits and on `live_folder` for the folder. Keeps: each pass that is
 //! joined at the end is one of the hub; an attendant keeps its hub and the number of its pass over all its
 //! visits, and each visitor's end is shut; no door that has an end out goes back to the entrance, and the
 //! entrance is shut at the end. Knows nothing of sockets, of how news are written, nor of the command line.
@@ -22,6 +23,7 @@ mod finishing;
 mod job;
 mod known;
 mod live_editor;
+mod pace;
 mod plan;
 mod recording;
 mod rounds;

@@ -4,6 +4,7 @@ ghost use Rattle.live_server.specs.Editors.{GoesOn};
 use crate::editor::wait_for_results;
 use crate::known::Known;
 use crate::live_editor::LiveEditor;
+use crate::pace::{Pace, STEP_MILLIS};
 use crate::plan::LiveEnd;
 use crate::shared::Shared;
 use crate::terminal::{Key, Terminal};
@@ -16,19 +17,11 @@ use std::sync::Wait;
 use std::thread::Parker;
 use std::time::{Clock, Duration, Instant};
 
-/// How long one rests before it listens again, in milliseconds.
-const STEP_MILLIS: u64 = 25;
-
-/// How often one rests after a look, at least and at most.
-const FEWEST_STEPS: u64 = 2;
-
-const MOST_STEPS: u64 = 200;
-
 /// How many news are told at once.
 const MOST_NEWS: usize = 65_536;
 
 /// Opens the doors once the modules of the folder are served, and then looks at the folder again and again:
-/// 50 milliseconds after a look, and later where one that brought no edit took longer. It waits.
+/// 50 milliseconds after a look, and later where looks that brought no edit took longer. It waits.
 pub(crate) fn run_rounds<R: Wait + Clock, W: Watched, S: Site + Drop, T: Terminal>(
     rt: &R,
     alloc: Global,
@@ -44,8 +37,12 @@ pub(crate) fn run_rounds<R: Wait + Clock, W: Watched, S: Site + Drop, T: Termina
         return end;
     }
     open_doors(rt, alloc, &known, shared, terminal);
+    let mut pace = Pace::new();
     for _ in rt.forever() {
-        if let Some(end) = run_round(rt, alloc, editor, &mut known, watched, shared, terminal) {
+        let ended = run_round(
+            rt, alloc, editor, &mut known, &mut pace, watched, shared, terminal,
+        );
+        if let Some(end) = ended {
             return end;
         }
     }
@@ -79,6 +76,7 @@ fn run_round<R: Wait + Clock, W: Watched, S: Site + Drop, T: Terminal>(
     alloc: Global,
     editor: &mut LiveEditor,
     known: &mut Known,
+    pace: &mut Pace,
     watched: &mut W,
     shared: &Shared<S>,
     terminal: &mut T,
@@ -92,15 +90,16 @@ fn run_round<R: Wait + Clock, W: Watched, S: Site + Drop, T: Terminal>(
         return ended;
     }
     // A look that brings edits waits until the files are still, and that isn't time that it takes.
-    let steps = if known.counted() == before {
-        steps_after(rt, start)
+    let millis = if known.counted() == before {
+        millis_since(rt, start)
     } else {
-        FEWEST_STEPS
+        0
     };
+    let steps = pace.steps_after(millis);
     rest(rt, alloc, shared, known, terminal, steps)
 }
 
-// Looks at the folder, and makes the edits that it brings. After want of memory the next look shows the same.
+// Looks at the folder, and makes the edits that it brings. Where memory runs out the next look shows the same.
 fn look_once<R: Wait, W: Watched, S: Site + Drop>(
     rt: &R,
     alloc: Global,
@@ -117,16 +116,15 @@ fn look_once<R: Wait, W: Watched, S: Site + Drop>(
     editor.take(rt, alloc, shared, known, look)
 }
 
-// How often one rests after a look that began then, so that looks take a fiftieth of the time.
-fn steps_after(clock: &impl Clock, start: io::Result<Instant>) -> u64 {
+// How many milliseconds went by since then, 10 seconds at most; none where the clock can't tell.
+fn millis_since(clock: &impl Clock, start: io::Result<Instant>) -> u64 {
     let Ok(start) = start else {
-        return FEWEST_STEPS;
+        return 0;
     };
     let Ok(taken) = start.elapsed(clock) else {
-        return FEWEST_STEPS;
+        return 0;
     };
-    let millis = taken.as_secs().min(10) * 1000 + u64::from(taken.subsec_millis());
-    (FEWEST_STEPS + 2 * millis).min(MOST_STEPS)
+    taken.as_secs().min(10) * 1000 + u64::from(taken.subsec_millis())
 }
 
 // Rests, tells news and hears keys. Some: the server ends.
