@@ -65,16 +65,19 @@ impl<R: Wait, F: Files + Drop> Paths for SitePaths<'_, R, F> {
 
 impl<R: Wait, F: Files + Drop> SitePaths<'_, R, F> {
     // What is at a plain URL: what is served of the module there, else the file, else for who wants a
-    // page the one at the top.
+    // page the one at the top. A browser asks for `/favicon.ico` unbidden, so there an icon of no bytes
+    // keeps the page's console free of a fault.
     fn plain(&self, alloc: Global, path: &[u8], wants_page: bool) -> Result<Found, AllocError> {
         if let Some(found) = self.served(alloc, path)? {
             return Ok(found);
         }
-        let found = self.site.files.find(alloc, path)?;
-        if wants_page && matches!(found, Found::Missing) {
-            return self.top_page(alloc);
+        match self.site.files.find(alloc, path)? {
+            Found::Missing if path == b"/favicon.ico".as_slice() => Ok(Found::File(Vec::new(
+                alloc,
+            ))),
+            Found::Missing if wants_page => self.top_page(alloc),
+            found => Ok(found),
         }
-        Ok(found)
     }
 
     fn top_page(&self, alloc: Global) -> Result<Found, AllocError> {

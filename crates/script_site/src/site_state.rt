@@ -21,6 +21,9 @@ pub(crate) struct SiteState {
     store: FileStore<Arc<ScannedFile, Global>>,
     /// The last file of each name as it was read, good or not.
     read: BTreeMap<ModName, Arc<ScannedFile, Global>>,
+    /// How many bytes of files were kept since all files were last seen to have at most half of what they
+    /// may.
+    unmeasured: usize,
     /// How many plans are kept.
     plans: usize,
     /// How often a page was sent.
@@ -42,6 +45,7 @@ impl SiteState {
         SiteState {
             store: FileStore::new(alloc),
             read: BTreeMap::new(alloc),
+            unmeasured: 0,
             plans: 0,
             pages: 0,
             settled: 0,
@@ -61,8 +65,11 @@ impl SiteState {
                 size: file.text.len(),
                 file: Arc::try_clone(&file)?,
             };
+            self.unmeasured = self.unmeasured.saturating_add(stored.size);
             self.store.put(version, stored)?;
-            self.make_room();
+            if self.may_be_over() {
+                self.make_room();
+            }
         }
         self.read.insert(name.clone()?, file)?;
         Ok(())
@@ -146,6 +153,18 @@ impl SiteState {
     /// The plan of this number; None where it isn't kept.
     pub fn plan(&self, id: PlanId) -> Option<&ToldPlan> {
         self.store.plan(id)
+    }
+
+    // Whether files may take more memory than they may. They are measured only where that could be.
+    fn may_be_over(&mut self) -> bool {
+        if self.unmeasured <= MOST_BYTES / 2 {
+            return false;
+        }
+        if self.store.is_over(MOST_BYTES / 2) {
+            return true;
+        }
+        self.unmeasured = 0;
+        false
     }
 
     // Where files take more memory than they may, lets go those that aren't needed, and then the oldest
