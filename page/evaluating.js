@@ -20,8 +20,9 @@ export function eagerOf(page, plan, begun) {
       const instance = left.pop();
       if (instance === undefined || reached.has(instance)) continue;
       reached.add(instance);
-      const lazy = lazyTargets(instance.module);
-      instance.links.forEach((to, name) => lazy.has(name) || left.push(to));
+      instance.module.lazy ??= lazyTargets(instance.module);
+      const { links, module: { lazy } } = instance;
+      links.forEach((to, name) => lazy.has(name) || left.push(to));
     }
   };
   for (const name of [page.root, ...page.extras.keys()]) reach(page.live.get(name));

@@ -63,8 +63,3 @@ export function resolve(importer, specifier) {
 export function absolute(url) {
   return new URL(url, `${origin}/`).href;
 }
-
-/** The order of names by bytes; they have characters of ASCII alone. */
-export function byBytes(one, other) {
-  return one < other ? -1 : Number(one > other);
-}

@@ -1,8 +1,6 @@
 // A plan: a load, a reload or an update while it is fetched, and what it makes of the page. Nothing here
 // asks the browser.
 
-import { byBytes } from './names.js';
-
 const KINDS = { connected: 'load', update: 'update', 'full-reload': 'reload' };
 
 /** Whether an answer begins a plan. */
@@ -16,7 +14,8 @@ export function beginPlan(page, answer) {
   page.plans += 1;
   const id = `${page.id}.${page.plans}`;
   const told = { kind: KINDS[answer.type], batch, triggeredBy, replaced, updates, reason: { cause, path } };
-  page.plan = { id, ...told, staged: new Map(), cause: null, isFirst: false };
+  const progress = { met: new Set(), ahead: [...page.roots].reverse(), walked: null };
+  page.plan = { id, ...told, ...progress, staged: new Map(), cause: null, isFirst: false };
 }
 
 /** The module of this name as the plan makes the page, where it is kept or was fetched. */
@@ -48,9 +47,25 @@ export function walk(page, follows = () => true) {
   return { met: [...met], left };
 }
 
-/** The module that the plan has to fetch next. */
+/** The module that the plan has to fetch next: the first that the walk meets without having it. It goes on
+ *  from where it was. */
 export function unfetched(page) {
-  return walk(page).met.find((name) => entryOf(page, name) === undefined);
+  const { met, ahead } = page.plan;
+  while (ahead.length > 0) {
+    const name = ahead[ahead.length - 1];
+    const entry = entryOf(page, name);
+    if (entry === undefined) return name;
+    ahead.pop();
+    if (!met.has(name)) ahead.push(...[...entry.targets].reverse());
+    met.add(name);
+  }
+  return undefined;
+}
+
+/** The modules of a plan of which all is fetched, in the order in which the walk leaves them. */
+function reached(page) {
+  page.plan.walked ??= walk(page).left;
+  return page.plan.walked;
 }
 
 /** The modules that import another one, as the plan makes the page. */
@@ -63,13 +78,13 @@ export function importersOf(page, name) {
 export function newModules(page) {
   const { plan: { kind, staged }, live } = page;
   const isKept = ({ name, version }) => kind === 'load' && live.get(name)?.module.version === version;
-  return walk(page).left.filter((module) => staged.get(module.name) === module && !isKept(module));
+  return reached(page).filter((module) => staged.get(module.name) === module && !isKept(module));
 }
 
 /** The names and versions that the page has once the plan is carried out, as `applied` tells them. */
 export function tableAfter(page) {
   const after = new Map();
   if (page.plan.kind === 'update') page.live.forEach(({ module }, name) => after.set(name, module.version));
-  walk(page).left.forEach(({ name, version }) => after.set(name, version));
-  return [...after].sort(([one], [other]) => byBytes(one, other));
+  reached(page).forEach(({ name, version }) => after.set(name, version));
+  return [...after.keys()].sort().map((name) => [name, after.get(name)]);
 }

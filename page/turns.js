@@ -78,7 +78,7 @@ export async function take(page, request, answer) {
     await learn(page, importersOf(page, path));
   }
   if (type === 'text') page.plan.staged.set(path, moduleOf(page, answer));
-  page.show();
+  else page.show();
 }
 
 // A module that the page has at this version is known already.

@@ -56,10 +56,6 @@ function absolute(url) {
   return new URL(url, `${origin}/`).href;
 }
 
-function byBytes(one, other) {
-  return one < other ? -1 : Number(one > other);
-}
-
 const STYLE = `
   :host { all: initial }
   #badge { position: fixed; right: 12px; bottom: 12px; z-index: 2147483646; font: 12px system-ui; padding: 4px 10px;
@@ -404,7 +400,8 @@ function beginPlan(page, answer) {
   page.plans += 1;
   const id = `${page.id}.${page.plans}`;
   const told = { kind: KINDS[answer.type], batch, triggeredBy, replaced, updates, reason: { cause, path } };
-  page.plan = { id, ...told, staged: new Map(), cause: null, isFirst: false };
+  const progress = { met: new Set(), ahead: [...page.roots].reverse(), walked: null };
+  page.plan = { id, ...told, ...progress, staged: new Map(), cause: null, isFirst: false };
 }
 
 function entryOf(page, name) {
@@ -434,7 +431,21 @@ function walk(page, follows = () => true) {
 }
 
 function unfetched(page) {
-  return walk(page).met.find((name) => entryOf(page, name) === undefined);
+  const { met, ahead } = page.plan;
+  while (ahead.length > 0) {
+    const name = ahead[ahead.length - 1];
+    const entry = entryOf(page, name);
+    if (entry === undefined) return name;
+    ahead.pop();
+    if (!met.has(name)) ahead.push(...[...entry.targets].reverse());
+    met.add(name);
+  }
+  return undefined;
+}
+
+function reached(page) {
+  page.plan.walked ??= walk(page).left;
+  return page.plan.walked;
 }
 
 function importersOf(page, name) {
@@ -444,14 +455,14 @@ function importersOf(page, name) {
 function newModules(page) {
   const { plan: { kind, staged }, live } = page;
   const isKept = ({ name, version }) => kind === 'load' && live.get(name)?.module.version === version;
-  return walk(page).left.filter((module) => staged.get(module.name) === module && !isKept(module));
+  return reached(page).filter((module) => staged.get(module.name) === module && !isKept(module));
 }
 
 function tableAfter(page) {
   const after = new Map();
   if (page.plan.kind === 'update') page.live.forEach(({ module }, name) => after.set(name, module.version));
-  walk(page).left.forEach(({ name, version }) => after.set(name, version));
-  return [...after].sort(([one], [other]) => byBytes(one, other));
+  reached(page).forEach(({ name, version }) => after.set(name, version));
+  return [...after.keys()].sort().map((name) => [name, after.get(name)]);
 }
 
 const WORDS = {
@@ -539,8 +550,9 @@ function eagerOf(page, plan, begun) {
       const instance = left.pop();
       if (instance === undefined || reached.has(instance)) continue;
       reached.add(instance);
-      const lazy = lazyTargets(instance.module);
-      instance.links.forEach((to, name) => lazy.has(name) || left.push(to));
+      instance.module.lazy ??= lazyTargets(instance.module);
+      const { links, module: { lazy } } = instance;
+      links.forEach((to, name) => lazy.has(name) || left.push(to));
     }
   };
   for (const name of [page.root, ...page.extras.keys()]) reach(page.live.get(name));
@@ -927,7 +939,7 @@ async function take(page, request, answer) {
     await learn(page, importersOf(page, path));
   }
   if (type === 'text') page.plan.staged.set(path, moduleOf(page, answer));
-  page.show();
+  else page.show();
 }
 
 function moduleOf(page, { path, version, text }) {
