@@ -55,8 +55,7 @@ module.exports = [
       ];
       for (const [text, words] of wrong) {
         await after(tab, () => v.write('dep.js', text));
-        await tab.until(`document.querySelector("hmr-page")?.shadowRoot.getElementById("overlay").innerText.includes("^")`);
-        assert.match(await overlay(tab), words);
+        await tab.until(`${words}.test(document.querySelector("hmr-page")?.shadowRoot.getElementById("overlay").innerText)`);
         await tab.press('Escape');
         assert.equal(await overlay(tab), '');
         assert.deepEqual(await seen(tab), []);
