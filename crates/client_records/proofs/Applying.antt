@@ -5,22 +5,25 @@ use Rattle.std.specs.Cmp.Lexicographic.{slice_cmp}
 use Rattle.std.specs.List.Sorted.{IsStrictlySortedBy}
 use Rattle.std.specs.Ordering.{nat_cmp}
 use Rattle.std.proofs.lemmas.List.Kept.{IsStrictlySortedBy-filter}
+use Rattle.std.proofs.lemmas.Bool.{false≢true}
 use Rattle.std.proofs.Math.Path.{subst}
 use Rattle.hmr_types.specs.declared.words.PlanKind.{PlanKind}
 use Rattle.hmr_types.specs.declared.words.PlanKind.TheVariants.{Load, Reload, Update}
 use Rattle.core_model.specs.Names.{Name, same_name, has, at, collect, names_of, sorted, with_entry}
-use Rattle.core_model.specs.Page.{Plan, kept_or_staged, met_of, new_entry, new_view, unmet_entry}
+use Rattle.core_model.specs.Page.{Plan, kept_or_staged, met_of, new_entry, new_view, unfetched_of, unmet_entry}
 use Rattle.core_model.specs.Sources.{Sources}
 use Rattle.core_model.specs.Spread.{AreIn}
-use Rattle.core_model.specs.View.{View, Entry, differs, dropped_of, is_in}
+use Rattle.core_model.specs.View.{View, Entry, differs, dropped_of, is_in, table_of}
 use Rattle.core_model.specs.Client.{Client}
-use Rattle.core_model.specs.Requests.{AppliedRow, after_applied, applied_as, applied_in, applied_reply, applied_row, done, heard, mismatch, unfetched}
+use Rattle.core_model.specs.Requests.{AppliedRow, after_applied, applied_as, applied_in, applied_reply, applied_row, differing, done, heard, mismatch, row_differing, row_unfetched, unfetched}
 use Rattle.core_model.proofs.Listing.{none_in}
 use Rattle.module_graph.proofs.Sorting.{sorted_rising}
 use Rattle.page_plan.specs.Applied.{IsApplied, IsDone}
 use Rattle.page_plan.specs.declared.apply.Applied.{Applied}
 use Rattle.page_plan.specs.declared.apply.Applied.TheVariants as answer
 use Rattle.page_plan.specs.Plans.{IsSamePlan}
+use Rattle.page_plan.specs.Renewals.{IsClosed}
+use Rattle.page_plan.proofs.Renewals.{made_closed}
 use Rattle.page_plan.proofs.Same.{row_same, view_same}
 use Rattle.client_queue.specs.Queue.{Queue, is_marked, knows}
 use Rattle.client_records.specs.Inside.{AreCounted, AreFetched, IsCounted}
@@ -74,6 +77,22 @@ entry_counted Update false replaced kept staged k s = k
 pub made_counted : (roots : List Name) (p : Plan) (view made : View) → made ≡ new_view roots p view → AreCounted view → AreFetched p.staged → AreCounted made
 made_counted roots p view made e h s = subst AreCounted (sym e) (collected_counted (λ n. new_entry (has (met_of roots p view) n) p view n)
     (λ n. entry_counted p.kind (has (met_of roots p view) n) (has p.replaced n) (at view n) (at p.staged n) (counted_at view h n) (s n)) (sorted (met_of roots p view ++ names_of view)))
+
+-- where all fits nothing is left to be fetched
+
+abbrev is_done : AppliedRow → Bool
+is_done (unfetched n) = false
+is_done (mismatch n told kept) = false
+is_done done = true
+
+all_fetched : (ns : List Name) (row : AppliedRow) → row_unfetched ns row ≡ done → ns ≡ []
+all_fetched [] row h = refl
+all_fetched (n ∷ ns) row h = absurd (false≢true (ap is_done h))
+
+-- so nothing is missing from the page
+pub closed_made : (roots : List Name) (p : Plan) (view : View) (told : List (Name × ℕ)) (made : View) → IsDone roots p view told made → IsClosed roots made
+closed_made roots p view told made d = subst (IsClosed roots) (sym d.whole)
+    (made_closed roots p view (all_fetched (unfetched_of roots p view) (row_differing (differing told (table_of (new_view roots p view))) told (table_of (new_view roots p view))) d.row))
 
 -- What is kept.
 

@@ -10,3 +10,4 @@ pub mod Pruning
 pub mod Tabling
 pub mod Renewing
 pub mod Applying
+pub mod InPlace

@@ -19,6 +19,7 @@ use Rattle.core_model.proofs.Naming.{filtered_from, has_is, has_more, no_names, 
 use Rattle.core_model.proofs.Reaching.{reaches_on, reaches_start, reaches_within}
 use Rattle.core_model.proofs.Tables.{both_ways, filtered_row, named, without_step}
 use Rattle.core_model.proofs.Views.{dropped_are, reached_is}
+use Rattle.page_plan.specs.Renewals.{IsClosed}
 use Rattle.client_queue.specs.Queue.{Queue, is_marked, knows, mark_in}
 use Rattle.client_records.specs.Forgotten.{Forgotten}
 use Rattle.client_records.specs.Inside.{AreCounted}
@@ -65,6 +66,13 @@ reached_undropped view roots n r = by_test (has (dropped_of view roots) n) (λ h
 kept_import : (names : List Name) (view : View) (n m : Name) → has names n ≡ false → imports view n m ≡ true → imports (without_all names view) n m ≡ true
 kept_import names view n m e h = ap (λ o. has (imports_of o) m) (at_without_all names view n) ∙ ap (λ b. has (imports_of (if b then None else at view n)) m) e ∙ h
 
+left_step : (b : Bool) (o : Option Entry) (m : Name) → has (imports_of (if b then None else o)) m ≡ true → has (imports_of o) m ≡ true
+left_step true o m h = absurd (false≢true h)
+left_step false o m h = h
+
+left_import : (names : List Name) (view : View) (n m : Name) → imports (without_all names view) n m ≡ true → imports view n m ≡ true
+left_import names view n m h = left_step (has names n) (at view n) m (ap (λ o. has (imports_of o) m) (sym (at_without_all names view n)) ∙ h)
+
 -- what is reached stays reached
 stays_reached : (view : View) (roots : List Name) (n : Name) → Reaches (imports view) roots n → Reaches (imports (without_all (dropped_of view roots) view)) roots n
 stays_reached view roots n r = (reaches_within (imports view) roots (λ m. Reaches (imports view) roots m × Reaches (imports (without_all (dropped_of view roots) view)) roots m)
@@ -89,6 +97,13 @@ none_dropped view roots = no_names (dropped_of (without_all (dropped_of view roo
             by_test : (b : Bool) → has (reached_in view roots) n ≡ b → ⊥
             by_test true e = d.unreached (stays_reached view roots n ((reached_is view roots n).0 e))
             by_test false e = false≢true (sym p.0 ∙ (has_is (dropped_of view roots) n).0 ((dropped_are view roots n).1 (record { listed = (has_is (names_of view) n).1 (sym (named view n) ∙ p.1); unreached = λ r. false≢true (sym e ∙ (reached_is view roots n).1 r) })))
+
+-- and nothing is missing that wasn't
+pub left_closed : (view : View) (roots : List Name) → IsClosed roots view → IsClosed roots (without_all (dropped_of view roots) view)
+left_closed view roots closed n r =
+    let reached : Reaches (imports view) roots n = reaches_within (imports (without_all (dropped_of view roots) view)) roots (Reaches (imports view) roots) (reaches_start (imports view) roots)
+    (λ k m s e. reaches_on (imports view) roots k m s (left_import (dropped_of view roots) view k m e)) n r in
+    ap is_some (at_without_all (dropped_of view roots) view n) ∙ ap (λ b. is_some (if b then None else at view n)) (reached_undropped view roots n reached) ∙ closed n reached
 
 mark_step : (b : Bool) (o : Option Bool) (e : Option Entry) (s : Sources) (m : Name) → mark_in o ≡ differs e (at s.served m) → mark_in (if b then None else o) ≡ differs (if b then None else e) (at s.served m)
 mark_step true o e s m h = refl

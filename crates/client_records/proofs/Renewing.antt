@@ -91,7 +91,7 @@ module _ (page : View) (s : Sources) where
   pub renewed_more : (names : List Name) (i : ℕ) (n : Name) (old now new : Queue) → i < length names → n ≡ get_or names i n → AreRenewed (take i names) page s old now → MarkIs n (mark_on page s n (at now.known n)) now new → new ≡ record now { known = new.known } → AreRenewed (take (i + 1) names) page s old new
   renewed_more names i n old now new h e f g k = subst (λ l. AreRenewed l page s old new) (ap (λ x. take i names ++ x ∷ []) e ∙ sym (take_more names i n h)) (renewed_last (take i names) n old now new f g k)
 
-on_step : (o : Option Bool) (e : Option Entry) (served : Option Serving) → is_some o ≡ true → mark_in (if is_some e then mark_where_known (differs e served) o else None) ≡ differs e served
+pub on_step : (o : Option Bool) (e : Option Entry) (served : Option Serving) → is_some o ≡ true → mark_in (if is_some e then mark_where_known (differs e served) o else None) ≡ differs e served
 on_step (Some b) (Some e) served h = refl
 on_step (Some b) None served h = refl
 on_step None e served h = absurd (false≢true h)
@@ -100,7 +100,7 @@ off_step : (e : Option Entry) (served : Option Serving) → is_some e ≡ false 
 off_step None served h = refl
 off_step (Some e) served h = absurd (false≢true (sym h))
 
-known_step : (o : Option Bool) (on mark : Bool) → is_some o ≡ true → on ≡ true → is_some (if on then mark_where_known mark o else None) ≡ true
+pub known_step : (o : Option Bool) (on mark : Bool) → is_some o ≡ true → on ≡ true → is_some (if on then mark_where_known mark o else None) ≡ true
 known_step (Some b) true mark h i = refl
 known_step (Some b) false mark h i = i
 known_step None on mark h i = absurd (false≢true h)

@@ -6,8 +6,9 @@ use Rattle.std.specs.Ordering.{nat_cmp}
 use Rattle.hmr_types.specs.declared.limits.TheConstants.{LARGEST_NUMBER}
 use Rattle.core_model.specs.Names.{Name, at, names_of}
 use Rattle.core_model.specs.Page.{Plan}
-use Rattle.core_model.specs.View.{View, Entry, is_in}
+use Rattle.core_model.specs.View.{View, Entry, dropped_of, is_in}
 use Rattle.core_model.specs.Spread.{AreIn}
+use Rattle.page_plan.specs.Renewals.{IsClosed}
 use Rattle.client_queue.specs.Queue.{knows, is_marked}
 use Rattle.client_records.specs.Record.{Kept}
 use Rattle.client_records.specs.declared.client_record.ClientRecord.TheInside.{Inside}
@@ -44,7 +45,8 @@ abbrev pub IsStaged : Option Plan → Type 0
 IsStaged plan = IfSome plan (λ p. AreFetched p.staged)
 
 -- The modules rise by name, each version is that of a counted edit, so many batches can be told, what is
--- forced or marked is on the page, and what is on the page can be marked without memory.
+-- forced or marked is on the page, and what is on the page can be marked without memory. From a loaded page
+-- nothing is missing that its imports lead to.
 pub record IsSound (a : Inside) : Type 0 where
   pub rising : IsStrictlySortedBy (slice_cmp nat_cmp) (names_of a.view)
   pub counted : AreCounted a.view
@@ -53,3 +55,5 @@ pub record IsSound (a : Inside) : Type 0 where
   pub forced : AreIn a.queue.forced a.view
   pub known : (n : Name) → is_in a.view n ≡ true → knows a.queue n ≡ true
   pub marked : (n : Name) → is_marked a.queue n ≡ true → is_in a.view n ≡ true
+  pub closed : a.loaded ≡ true → IsClosed a.roots a.view
+  pub dropped : a.dropped ≡ dropped_of a.view a.roots

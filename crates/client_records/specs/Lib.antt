@@ -5,3 +5,4 @@ pub mod Steps
 pub mod Asked
 pub mod Forgotten
 pub mod Made
+pub mod InPlace

@@ -12,8 +12,7 @@ use update_msgs::ServerMsg;
 use version_map::VersionMap;
 
 impl ClientRecord {
-    /// The plan under way is given up, and the client is held until something is served or removed. It
-    /// takes no memory.
+    /// The plan under way is given up, and the client is held until something is served or removed.
     pub fn aborted(&mut self, _sources: &VersionMap) -> Answer
         ensures stands { (i : ℕ) (c : Client) → IsRecord _sources.now c self.old
             → IsRecord _sources.now (heard i _sources.now c aborted).0 self.new }

@@ -9,6 +9,7 @@ ghost use Rattle.core_model.specs.Client.{Client};
 ghost use Rattle.core_model.specs.Names.{names_of};
 ghost use Rattle.core_model.specs.Requests.{applied_as, heard};
 ghost use Rattle.core_model.specs.Sources.{Sources};
+ghost use Rattle.page_plan.specs.Renewals.{IsClosed};
 ghost use Rattle.client_records.specs.Answers.{IsWritten, reply_of};
 ghost use Rattle.client_records.specs.Inside.{AreCounted};
 ghost use Rattle.client_records.specs.Made.{HasMade};
@@ -27,9 +28,36 @@ use update_msgs::ServerMsg;
 use version_map::VersionMap;
 
 impl ClientRecord {
-    /// The plan under way is applied, where the table told is what it makes of the page. A want of
-    /// memory changes nothing. It walks the plan's modules and those of the page.
+    /// The plan under way is applied, where the table told is what it makes of the page. Where memory
+    /// runs out nothing changes. Where each module that an update replaces lists what it listed before,
+    /// it takes one walk of the table beside the page, and else time in proportion to what is replaced;
+    /// else it walks the plan's modules and those of the page.
     pub fn applied(
+        &mut self,
+        alloc: Global,
+        sources: &VersionMap,
+        table: &Table,
+    ) -> Result<Answer, AllocError>
+        ensures stands { (i : ℕ) (c : Client) → IsRecord sources.now c self.old
+            → OnOk result (IsRecord sources.now (heard i sources.now c (applied_as table.now)).0 self.new) }
+        ensures reply { (i : ℕ) (c : Client) → IsRecord sources.now c self.old
+            → IfOk result (λ answer. reply_of answer ≡ (heard i sources.now c (applied_as table.now)).1) }
+        ensures written { IfOk result IsWritten }
+        ensures unchanged { (s : Sources) (c : Client) → IsRecord s c self.old
+            → OnErr result (IsRecord s c self.new) }
+    {
+        let found = self.renewal(alloc, table)?;
+        match found {
+            Some(renewal) => {
+                self.renew(sources, renewal);
+                Ok(Answer::To(ServerMsg::Done))
+            }
+            None => self.applied_anew(alloc, sources, table),
+        }
+    }
+
+    // The same, with a view that is put together anew.
+    fn applied_anew(
         &mut self,
         alloc: Global,
         sources: &VersionMap,
@@ -62,6 +90,7 @@ impl ClientRecord {
     fn take(&mut self, alloc: Global, sources: &VersionMap, made: View) -> Result<(), AllocError>
         requires rising { IsStrictlySortedBy (slice_cmp nat_cmp) (names_of made) }
         requires counted { AreCounted made }
+        requires closed { IsClosed self.old.roots made }
         ensures made { OnOk result (HasMade sources.now made self.old self.new) }
         ensures unchanged { (s : Sources) (c : Client) → IsRecord s c self.old
             → OnErr result (IsRecord s c self.new) }

@@ -23,8 +23,8 @@ use update_msgs::ServerMsg;
 use version_map::VersionMap;
 
 impl ClientRecord {
-    /// What there is to do for the client, which is connected under this number. A want of memory
-    /// changes nothing. It takes the time of the spread of what changed.
+    /// What there is to do for the client, which is connected under this number. Where memory runs
+    /// out nothing changes. It takes the time of the spread of what changed.
     pub fn ask(
         &mut self,
         alloc: Global,

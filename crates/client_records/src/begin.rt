@@ -27,7 +27,7 @@ use update_msgs::{JsUpdate, ServerMsg};
 use version_map::VersionMap;
 
 impl ClientRecord {
-    /// The page is to be loaded. A want of memory changes nothing.
+    /// The page is to be loaded. Where memory runs out nothing changes.
     pub(crate) fn load(
         &mut self,
         alloc: Global,
@@ -50,7 +50,7 @@ impl ClientRecord {
         }))
     }
 
-    /// The page is to be loaded again, for this reason. It takes no memory.
+    /// The page is to be loaded again, for this reason.
     pub(crate) fn reload(
         &mut self,
         alloc: Global,
@@ -76,8 +76,8 @@ impl ClientRecord {
         })
     }
 
-    /// These modules are to be replaced, and each boundary to be told. A want of memory changes
-    /// nothing.
+    /// These modules are to be replaced, and each boundary to be told. Where memory runs out
+    /// nothing changes.
     pub(crate) fn update(
         &mut self,
         alloc: Global,

@@ -41,7 +41,7 @@ impl Model for ClientRecord {
 
 impl ClientRecord {
     /// A client that has just been connected, with these roots of its page, where something was served
-    /// or removed `served_no` times so far. Its page is to be loaded. It takes no memory.
+    /// or removed `served_no` times so far. Its page is to be loaded.
     pub fn new(alloc: Global, roots: Sequence<ModName>, served_no: u64) -> ClientRecord
         ensures { (s : Sources) → IsRecord s (new_client roots served_no) result }
     {
@@ -57,7 +57,7 @@ impl ClientRecord {
         }
     }
 
-    /// The roots of the client's page. It takes no memory.
+    /// The roots of the client's page.
     pub fn roots(&self) -> &[ModName]
         ensures { result.now ≡ self.now.roots }
     {
@@ -75,7 +75,7 @@ impl ClientRecord {
     }
 
     /// Whether there is nothing to be done for the client: its page is loaded, no plan is under way,
-    /// and nothing is changed, dropped, forced or waiting as a notice. It takes no memory.
+    /// and nothing is changed, dropped, forced or waiting as a notice.
     pub fn at_rest(&self) -> bool
         ensures { (s : Sources) (c : Client) → IsRecord s c self.now → result ≡ is_at_rest s c }
     {

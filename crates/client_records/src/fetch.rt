@@ -24,8 +24,8 @@ use update_msgs::ServerMsg;
 use version_map::VersionMap;
 
 impl ClientRecord {
-    /// The served text of the module, which is staged for the plan under way; or why there is none. A
-    /// want of memory changes nothing.
+    /// The served text of the module, which is staged for the plan under way; or why there is none.
+    /// Where memory runs out nothing changes.
     pub fn fetch(
         &mut self,
         alloc: Global,

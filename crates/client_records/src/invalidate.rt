@@ -16,8 +16,8 @@ use std::alloc::AllocError;
 use update_msgs::ServerMsg;
 
 impl ClientRecord {
-    /// The module is forced, where it is on the page at this version and accepts itself. A want of
-    /// memory changes nothing.
+    /// The module is forced, where it is on the page at this version and accepts itself. Where
+    /// memory runs out nothing changes.
     pub fn invalidate(&mut self, name: ModName, version: Ver) -> Result<Answer, AllocError>
         ensures stands { (i : ℕ) (s : Sources) (c : Client) → IsRecord s c self.old
             → OnOk result (IsRecord s (heard i s c (invalidate name version)).0 self.new) }

@@ -3,8 +3,9 @@
 //!
 //! Stands on the modules of a page, on plans, on how far a change spreads, on what a client has in store,
 //! and on the sources. Keeps: a [`ClientRecord`] is what the definitions of the core have of its client,
-//! before and after each call; where memory is wanting it stays as it was. Knows nothing of other
-//! clients, of numbers given to clients or of bytes on a wire.
+//! before and after each call; where memory runs out it stays as it was. Only a call that can return
+//! `AllocError` takes memory. Knows nothing of other clients, of numbers given to clients or of bytes on
+//! a wire.
 #![tactic(auto)]
 
 mod abort;
@@ -18,6 +19,7 @@ mod invalidate;
 mod marks;
 mod notices;
 mod prune;
+mod renew;
 mod row;
 mod versions;
 

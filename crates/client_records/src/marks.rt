@@ -11,8 +11,7 @@ use module_graph::{View, copy_name};
 use std::alloc::AllocError;
 use version_map::VersionMap;
 
-/// Whether the module is on the page at another version than the served one, or isn't served. It takes
-/// no memory.
+/// Whether the module is on the page at another version than the served one, or isn't served.
 pub(crate) fn differs(view: &View, sources: &VersionMap, name: &ModName) -> bool
     ensures { result ≡ differs (at view.now name.now) (at sources.now.served name.now) }
 {
@@ -23,7 +22,7 @@ pub(crate) fn differs(view: &View, sources: &VersionMap, name: &ModName) -> bool
     }
 }
 
-/// Marks the name or not, where it is known. It takes no memory.
+/// Marks the name or not, where it is known.
 pub(crate) fn set_mark(queue: &mut ClientQueue, name: &ModName, mark: bool)
     ensures mark { MarkIs name.now
         (mark_where_known mark (at queue.old.known name.now)) queue.old queue.new }
@@ -36,7 +35,7 @@ pub(crate) fn set_mark(queue: &mut ClientQueue, name: &ModName, mark: bool)
     }
 }
 
-/// Each of the names is known from now on. A want of memory leaves some of them known, which is no
+/// Each of the names is known from now on. Where memory runs out some of them are known, which is no
 /// change to the marks.
 pub(crate) fn enter_all(queue: &mut ClientQueue, names: &[ModName]) -> Result<(), AllocError>
     ensures grown { IsGrown queue.old queue.new }
@@ -58,7 +57,7 @@ fn enter(queue: &mut ClientQueue, name: &ModName) -> Result<(), AllocError>
 }
 
 /// Each of the names is marked as its version on the page wants it; what isn't on the page is known no
-/// more. It takes no memory.
+/// more.
 pub(crate) fn renew_all(
     queue: &mut ClientQueue,
     names: &[ModName],

@@ -13,8 +13,7 @@ use version_map::VersionMap;
 
 impl ClientRecord {
     /// The module has just been served anew or removed; `sources` is as it is after that. The module is
-    /// marked where its version on the page isn't the served one, and its notice is taken away. It takes
-    /// no memory.
+    /// marked where its version on the page isn't the served one, and its notice is taken away.
     pub fn source_changed(&mut self, sources: &VersionMap, name: &ModName)
         ensures { (s : Sources) (c : Client) → IsRecord s c self.old → SameBut name.now s sources.now
             → IsRecord sources.now (without_notice name.now c) self.new }
@@ -35,7 +34,7 @@ impl ClientRecord {
         self.queue.room()
     }
 
-    /// This fault of the module waits to be told, in place of an earlier one. It takes no memory.
+    /// This fault of the module waits to be told, in place of an earlier one.
     pub fn notice(&mut self, name: ModName, fault: TextFault)
         requires { 1 ≤ self.old.queue.spare }
         ensures { (s : Sources) (c : Client) → IsRecord s c self.old

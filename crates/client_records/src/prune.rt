@@ -19,7 +19,7 @@ use std::mem;
 use update_msgs::ServerMsg;
 
 impl ClientRecord {
-    /// The dropped modules leave the page, and are forced no more. It takes no memory.
+    /// The dropped modules leave the page, and are forced no more.
     pub(crate) fn prune(&mut self, alloc: Global) -> Answer
         ensures stands { (s : Sources) (c : Client) → IsRecord s c self.old
             → IsRecord s (asked (asking.prune self.old.dropped) s c) self.new }

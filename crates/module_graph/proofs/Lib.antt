@@ -5,3 +5,4 @@ pub mod Distinct
 pub mod Searches
 pub mod Turning
 pub mod Marking
+pub mod Renewing

@@ -1,9 +1,9 @@
 -- The entries of a view as its map holds them, each with whether it is about to leave.
-use Rattle.std.specs.Prelude.{◌≡◌, Bool, true, not, List, map, ◌||◌}
+use Rattle.std.specs.Prelude.{◌≡◌, Bool, true, not, List, map, ◌||◌, if◌then◌else◌}
 use Rattle.std.specs.List.{list_all}
 use Rattle.core_model.specs.Names.{Name, has, names_of, same_name}
 use Rattle.core_model.specs.Roots.{are_distinct}
-use Rattle.core_model.specs.View.{View, accepted_of, imports_of}
+use Rattle.core_model.specs.View.{View, Entry, accepted_of, imports_of}
 use Rattle.module_graph.specs.declared.view_rows.Row.{Row}
 use Rattle.module_graph.specs.ReverseIndex.{Sets, IsTurned}
 
@@ -29,6 +29,14 @@ mark_name n rows = map (λ row. (row.0, mark (same_name n row.0) row.1)) rows
 -- the rows of these names are about to leave
 abbrev pub mark_names : List Name → Rows → Rows
 mark_names names rows = map (λ row. (row.0, mark (has names row.0) row.1)) rows
+
+-- the row has this entry, if the test says so
+abbrev pub renew : Bool → Entry → Row → Row
+renew b e row = record { entry = if b then e else row.entry; leaving = row.leaving }
+
+-- the row of this name has this entry
+abbrev pub renew_name : Name → Entry → Rows → Rows
+renew_name n e rows = map (λ row. (row.0, renew (same_name n row.0) e row.1)) rows
 
 -- no two rows have one name, none is about to leave, and the indexes are the imports and what is accepted
 -- by name, turned round

@@ -1,6 +1,6 @@
 // What the modules of a view list, turned round: who imports a name, and who accepts it. A module's lists
 // change in both together: it first comes under all new names, which may be refused and is then
-// undone, and then leaves the others, which takes no memory.
+// undone, and then leaves the others, which can't fail.
 ghost use Rattle.std.specs.Prelude.{◌≡◌, [], false, OnOk, OnErr, IfOk};
 ghost use Rattle.core_model.specs.Names.{Name, has};
 ghost use Rattle.module_graph.specs.ReverseIndex.{Leaves, Places, is_under};
@@ -24,7 +24,7 @@ pub(crate) struct Indexes {
 }
 
 impl Indexes {
-    /// No module lists a name. It takes no memory.
+    /// No module lists a name.
     pub(crate) fn new(alloc: Global) -> Indexes
         ensures importers { (n m : Name) → is_under result.importers.sets.entries n m ≡ false }
         ensures acceptors { (n m : Name) → is_under result.acceptors.sets.entries n m ≡ false }
@@ -84,7 +84,7 @@ impl Indexes {
         }
     }
 
-    /// Takes the module, whose lists these are, out of both. It takes no memory.
+    /// Takes the module, whose lists these are, out of both.
     pub(crate) fn remove(&mut self, name: &ModName, lists: Lists)
         ensures imports { let leaves = Leaves name.now lists.entry.imports.now [] in
             leaves self.old.importers.sets.entries self.new.importers.sets.entries }

@@ -31,7 +31,7 @@ impl Model for Known {
 }
 
 impl Known {
-    /// No names. It takes no memory.
+    /// No names.
     pub fn new(alloc: Global) -> Known
         ensures { result ≡ [] }
     {
@@ -41,7 +41,7 @@ impl Known {
         }
     }
 
-    /// The names, in the order in which they came. It takes no memory.
+    /// The names, in the order in which they came.
     pub fn names(&self) -> &[ModName]
         ensures names { result.now ≡ self.now }
         ensures distinct { are_distinct self.now ≡ true }
@@ -49,7 +49,7 @@ impl Known {
         &self.names
     }
 
-    /// The names, in the order in which they came. It takes no memory.
+    /// The names, in the order in which they came.
     pub fn into_names(self) -> Vec<ModName>
         ensures names { result.items ≡ self }
         ensures distinct { are_distinct self ≡ true }
@@ -57,7 +57,7 @@ impl Known {
         self.names
     }
 
-    /// Whether a name is known. It takes no memory.
+    /// Whether a name is known.
     pub fn has(&self, name: &ModName) -> bool
         ensures { result ≡ has self.now name.now }
     {

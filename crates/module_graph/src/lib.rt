@@ -2,8 +2,8 @@
 //!
 //! Stands on the vocabulary and on the definitions of the core. Keeps: a [`View`] has one entry for a name,
 //! in order of entering, and contracts see it as the list of its entries; beside them are the importers and
-//! the acceptors of each name, which are what modules import and accept, turned round. Knows nothing of
-//! changes, of roots or of clients.
+//! the acceptors of each name, which are what modules import and accept, turned round. Only a call that can
+//! return `AllocError` takes memory. Knows nothing of changes, of roots or of clients.
 #![tactic(auto)]
 
 mod indexes;

@@ -3,6 +3,7 @@ ghost use Rattle.std.specs.Prelude.{◌≡◌, ◌<◌, ◌+◌, ◌^◌, ◌||�
 ghost use Rattle.std.specs.Prelude.{IfOk, OnErr, OnOk};
 ghost use Rattle.core_model.specs.Names.{Name, has, same_name};
 
+use crate::reverse_index::names_in;
 use hmr_types::ModName;
 use std::alloc::{AllocError, Global};
 use std::collections::BTreeSet;
@@ -24,7 +25,7 @@ impl Model for NameSet {
 }
 
 impl NameSet {
-    /// The empty set. It takes no memory.
+    /// The empty set.
     pub fn new(alloc: Global) -> NameSet
         ensures { result ≡ [] }
     {
@@ -44,11 +45,19 @@ impl NameSet {
         Ok(set)
     }
 
-    /// Whether the set has the name. It takes no memory.
+    /// Whether the set has the name.
     pub fn has(&self, name: &ModName) -> bool
         ensures { result ≡ has self.now name.now }
     {
         self.names.contains(name)
+    }
+
+    /// The names of the set, rising by bytes. It takes time in proportion to their number.
+    pub fn names(&self, alloc: Global) -> Result<Vec<ModName>, AllocError>
+        ensures { IfOk result (λ names. names.items ≡ self.now) }
+    {
+        let names = names_in(alloc, &self.names)?;
+        Ok(names)
     }
 
     /// Adds a name, and tells whether it is new. A refusal changes nothing.

@@ -5,7 +5,7 @@ ghost use Rattle.core_model.specs.Names.{has, sorted};
 use hmr_types::ModName;
 use std::alloc::{AllocError, Global};
 
-/// Whether the name is in the list. It takes no memory, and time in proportion to the list.
+/// Whether the name is in the list. It takes time in proportion to the list.
 pub fn has_name(names: &[ModName], name: &ModName) -> bool
     ensures { result ≡ has names.now name.now }
 {

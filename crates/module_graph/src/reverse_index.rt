@@ -21,7 +21,7 @@ pub(crate) struct ReverseIndex {
 }
 
 impl ReverseIndex {
-    /// No module lists a name. It takes no memory.
+    /// No module lists a name.
     pub(crate) fn new(alloc: Global) -> ReverseIndex
         ensures { (n m : Name) → is_under result.sets.entries n m ≡ false }
     {
@@ -41,8 +41,7 @@ impl ReverseIndex {
         }
     }
 
-    /// Whether the module lists the name: a look-up by hash, and one in the order of names. It takes no
-    /// memory.
+    /// Whether the module lists the name: a look-up by hash, and one in the order of names.
     pub(crate) fn has(&self, name: &ModName, lister: &ModName) -> bool
         ensures { result ≡ is_under self.now.sets.entries name.now lister.now }
     {
@@ -97,7 +96,7 @@ impl ReverseIndex {
         Ok(())
     }
 
-    /// Takes the lister away from under these names, but from under the kept ones. It takes no memory.
+    /// Takes the lister away from under these names, but from under the kept ones.
     pub(crate) fn leave(&mut self, lister: &ModName, names: &[ModName], kept: &[ModName])
         ensures { Leaves lister.now names.now kept.now self.old.sets.entries self.new.sets.entries }
     {
@@ -109,7 +108,8 @@ impl ReverseIndex {
     }
 }
 
-fn names_in(alloc: Global, set: &BTreeSet<ModName>) -> Result<Vec<ModName>, AllocError>
+/// The names of a set, rising by bytes.
+pub(crate) fn names_in(alloc: Global, set: &BTreeSet<ModName>) -> Result<Vec<ModName>, AllocError>
     ensures these { IfOk result (λ names. names.items ≡ set.now.keys) }
     ensures rising { IfOk result (λ names. IsStrictlySortedBy (slice_cmp nat_cmp) names.items) }
 {

@@ -1,19 +1,22 @@
 // The modules of a page: a map by name whose entries stay in order of entering, and beside it who imports
 // and who accepts each name. What changes an entry changes these indexes with it: putting an entry
 // takes the memory for all first, so that a refusal leaves all as they were.
-ghost use Rattle.std.specs.Prelude.{◌≡◌, ◌↔◌, [], true, IfOk, OnOk, OnErr, Contains, option_map, slice_get};
+ghost use Rattle.std.specs.Prelude.{◌≡◌, ◌↔◌, [], true, IfOk, OnOk, OnErr, Contains};
+ghost use Rattle.std.specs.Prelude.{option_map, position, slice_get};
 ghost use Rattle.std.specs.Cmp.Lexicographic.{slice_cmp};
 ghost use Rattle.std.specs.List.Sorted.{IsStrictlySortedBy};
 ghost use Rattle.std.specs.Ordering.{nat_cmp};
-ghost use Rattle.core_model.specs.Names.{Name, at, names_of, without_all};
+ghost use Rattle.core_model.specs.Names.{Name, at, names_of, same_name, without_all};
 ghost use Rattle.core_model.specs.Roots.{are_distinct};
 ghost use Rattle.core_model.specs.View.{imports, accepts, self_accepts, declines};
-ghost use Rattle.module_graph.specs.Entries.{put_entry};
+ghost use Rattle.module_graph.specs.Entries.{lists_alike, put_entry};
 ghost use Rattle.module_graph.specs.ReverseIndex.{IsWithout};
 ghost use Rattle.module_graph.specs.Rows.{AreIndexed, view_of};
 
 use crate::indexes::Indexes;
-use crate::view_rows::{Entry, Row, copy_of, drop_rows, find, lists_of, names_in};
+use crate::view_rows::{
+    Entry, Row, copy_of, drop_rows, find, lists_alike, lists_of, names_in, place_of, renew,
+};
 use hmr_types::{Analysis, ModName, Ver};
 use indexmap::IndexMap;
 use std::alloc::{AllocError, Global};
@@ -40,7 +43,7 @@ impl Model for View {
 }
 
 impl View {
-    /// The view without modules. It takes no memory.
+    /// The view without modules.
     pub fn new(alloc: Global) -> View
         ensures { result ≡ [] }
     {
@@ -50,7 +53,7 @@ impl View {
         }
     }
 
-    /// The version and the analysis of a module: one look-up by hash. It takes no memory.
+    /// The version and the analysis of a module: one look-up by hash.
     pub fn get(&self, name: &ModName) -> Option<(Ver, &Analysis)>
         ensures { option_map (λ found. record { version = found.0; analysis = found.1.now }) result
             ≡ at self.now name.now }
@@ -59,14 +62,21 @@ impl View {
         Some((entry.version, &entry.analysis))
     }
 
-    /// The module at this place, from 0, in order of entering: None exactly past the end. It takes no
-    /// memory.
+    /// The module at this place, from 0, in order of entering: None exactly past the end.
     pub fn at(&self, place: usize) -> Option<(&ModName, Ver, &Analysis)>
         ensures { option_map (λ found. (found.0.now, record { version = found.1; analysis = found.2.now }))
             result ≡ slice_get self.now place }
     {
         let (name, row) = self.rows.get_index(place)?;
         Some((name, row.entry.version, &row.entry.analysis))
+    }
+
+    /// The place of the module of this name, from 0, in order of entering; None exactly where there is none.
+    /// It is one look-up by hash.
+    pub fn place(&self, name: &ModName) -> Option<usize>
+        ensures { result ≡ position (same_name name.now) (names_of self.now) }
+    {
+        place_of(&self.rows, name)
     }
 
     /// The names of the modules, in order of entering.
@@ -78,21 +88,21 @@ impl View {
         Ok(names)
     }
 
-    /// Whether the module of this name imports the other. It takes no memory.
+    /// Whether the module of this name imports the other.
     pub fn imports(&self, name: &ModName, import: &ModName) -> bool
         ensures { result ≡ imports self.now name.now import.now }
     {
         self.indexes.importers.has(import, name)
     }
 
-    /// Whether the module of this name accepts the other by name. It takes no memory.
+    /// Whether the module of this name accepts the other by name.
     pub fn accepts(&self, name: &ModName, dependency: &ModName) -> bool
         ensures { result ≡ accepts self.now name.now dependency.now }
     {
         self.indexes.acceptors.has(dependency, name)
     }
 
-    /// Whether the module of this name accepts itself. It takes no memory.
+    /// Whether the module of this name accepts itself.
     pub fn self_accepts(&self, name: &ModName) -> bool
         ensures { result ≡ self_accepts self.now name.now }
     {
@@ -102,7 +112,7 @@ impl View {
         }
     }
 
-    /// Whether the module of this name declines. It takes no memory.
+    /// Whether the module of this name declines.
     pub fn declines(&self, name: &ModName) -> bool
         ensures { result ≡ declines self.now name.now }
     {
@@ -149,8 +159,30 @@ impl View {
         put_row(&mut self.rows, &mut self.indexes, name, entry)
     }
 
-    /// Takes away the modules of these names. The others keep their order. It takes no memory, and the time
-    /// of one walk of the view and of look-ups of the names and of what their modules import and accept.
+    /// Whether the view has a module of this name, which imports and accepts by name what the analysis says,
+    /// in the same order: one look-up by hash, and a comparison of the lists.
+    pub fn lists_alike(&self, name: &ModName, analysis: &Analysis) -> bool
+        ensures { result ≡ lists_alike (at self.now name.now) analysis.now }
+    {
+        lists_alike(&self.rows, name, analysis)
+    }
+
+    /// Puts a module in place of the one of its name, which lists the same modules. It takes the time of one
+    /// look-up by hash.
+    pub fn renew(&mut self, name: &ModName, ver: Ver, analysis: Analysis)
+        requires { lists_alike (at self.old name.now) analysis ≡ true }
+        ensures { self.new
+            ≡ put_entry name.now (record { version = ver; analysis = analysis }) self.old }
+    {
+        let entry = Entry {
+            version: ver,
+            analysis,
+        };
+        renew(&mut self.rows, name, entry);
+    }
+
+    /// Takes away the modules of these names. The others keep their order. It takes the time of one walk of
+    /// the view and of look-ups of the names and of what their modules import and accept.
     pub fn drop_names(&mut self, names: &[ModName])
         ensures { self.new ≡ without_all names.now self.old }
     {

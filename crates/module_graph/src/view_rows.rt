@@ -1,9 +1,11 @@
 // The entries of a view in a map by name, in order of entering. Entries leave in one walk: first each
 // that goes is looked up and marked, then the walk keeps those without a mark.
-ghost use Rattle.std.specs.Prelude.{◌≡◌, not, true, IfOk, filter, option_map};
-ghost use Rattle.core_model.specs.Names.{at, names_of, without_all};
+ghost use Rattle.std.specs.Prelude.{◌≡◌, ◌&&◌, not, true, IfOk, filter, option_map, position};
+ghost use Rattle.std.specs.Cmp.Lexicographic.{pointwise};
+ghost use Rattle.core_model.specs.Names.{at, names_of, same_name, without_all};
 ghost use Rattle.core_model.specs.View.{accepted_of, imports_of};
-ghost use Rattle.module_graph.specs.Rows.{are_staying, mark_name, mark_names, view_of};
+ghost use Rattle.module_graph.specs.Entries.{lists_alike};
+ghost use Rattle.module_graph.specs.Rows.{are_staying, mark_name, mark_names, renew_name, view_of};
 
 use crate::indexes::Lists;
 use hmr_types::{Analysis, ModName, Ver};
@@ -77,6 +79,13 @@ pub(crate) fn find<'a>(rows: &'a IndexMap<ModName, Row>, name: &ModName) -> Opti
     }
 }
 
+/// The place of the entry of a name.
+pub(crate) fn place_of(rows: &IndexMap<ModName, Row>, name: &ModName) -> Option<usize>
+    ensures { result ≡ position (same_name name.now) (names_of (view_of rows.now.entries)) }
+{
+    rows.get_index_of(name)
+}
+
 /// What the module of a name lists; nothing where there is none.
 pub(crate) fn lists_of<'a>(rows: &'a IndexMap<ModName, Row>, name: &ModName) -> Lists<'a>
     ensures imports { result.imports.now ≡ imports_of (at (view_of rows.now.entries) name.now) }
@@ -88,6 +97,36 @@ pub(crate) fn lists_of<'a>(rows: &'a IndexMap<ModName, Row>, name: &ModName) -> 
             imports: &[],
             accepted: &[],
         },
+    }
+}
+
+/// Whether the module of a name is there, and lists what the analysis says.
+pub(crate) fn lists_alike(
+    rows: &IndexMap<ModName, Row>,
+    name: &ModName,
+    analysis: &Analysis,
+) -> bool
+    ensures { result ≡ lists_alike (at (view_of rows.now.entries) name.now) analysis.now }
+{
+    match find(rows, name) {
+        None => false,
+        Some(entry) => are_listed(&entry.analysis, analysis),
+    }
+}
+
+fn are_listed(kept: &Analysis, analysis: &Analysis) -> bool
+    ensures { result ≡ (pointwise same_name kept.now.imports analysis.now.imports
+        && pointwise same_name kept.now.accepted analysis.now.accepted) }
+{
+    kept.imports == analysis.imports && kept.accepted == analysis.accepted
+}
+
+/// Gives the row of a name this entry, where there is one.
+pub(crate) fn renew(rows: &mut IndexMap<ModName, Row>, name: &ModName, entry: Entry)
+    ensures { rows.new.entries ≡ renew_name name.now entry rows.old.entries }
+{
+    if let Some(row) = rows.get_mut(name) {
+        row.entry = entry;
     }
 }
 
@@ -113,8 +152,7 @@ pub(crate) fn copy_of(rows: &IndexMap<ModName, Row>) -> Result<IndexMap<ModName,
     Ok(copy)
 }
 
-/// Takes out the entries of these names. The others keep their order. It takes no memory, and the time
-/// of one walk.
+/// Takes out the entries of these names. The others keep their order. It takes the time of one walk.
 pub(crate) fn drop_rows(rows: &mut IndexMap<ModName, Row>, names: &[ModName])
     requires { are_staying rows.old.entries ≡ true }
     ensures view { view_of rows.new.entries ≡ without_all names.now (view_of rows.old.entries) }

@@ -115,13 +115,13 @@ compared_applied roots p view made names told (is.Done whole) e h m c = record {
 
 -- the rows of a table, one after another
 
-drop_found : (view : View) (k : ℕ) (row : Name × Entry) → Some row ≡ slice_get view k → drop k view ≡ row ∷ drop (suc k) view
+pub drop_found : (view : View) (k : ℕ) (row : Name × Entry) → Some row ≡ slice_get view k → drop k view ≡ row ∷ drop (suc k) view
 drop_found [] zero row e = absurd (false≢true (sym (ap is_some e)))
 drop_found [] (suc k) row e = absurd (false≢true (sym (ap is_some e)))
 drop_found (x ∷ xs) zero row e = ap (λ y. y ∷ xs) (sym (same_Some row x e))
 drop_found (x ∷ xs) (suc k) row e = drop_found xs k row e
 
-drop_none : (view : View) (k : ℕ) → None ≡ slice_get view k → drop k view ≡ []
+pub drop_none : (view : View) (k : ℕ) → None ≡ slice_get view k → drop k view ≡ []
 drop_none [] zero e = refl
 drop_none [] (suc k) e = refl
 drop_none (x ∷ xs) zero e = absurd (false≢true (ap is_some e))

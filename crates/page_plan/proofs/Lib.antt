@@ -4,3 +4,4 @@ pub mod Walks
 pub mod Moments
 pub mod Same
 pub mod Numbering
+pub mod Renewals

@@ -4,3 +4,4 @@ pub mod Views
 pub mod Walking
 pub mod Turns
 pub mod Numbers
+pub mod Renewals

@@ -75,8 +75,8 @@ impl Numbers {
         Ok(Numbers { numbers })
     }
 
-    /// The number of the new instance of this name, None where it gets none. It takes no memory, and time
-    /// in proportion to the logarithm of the number of names.
+    /// The number of the new instance of this name, None where it gets none. It takes time in proportion
+    /// to the logarithm of the number of names.
     pub fn get(&self, name: &ModName) -> Option<u32>
         ensures { result ≡ new_number self.now name.now }
     {

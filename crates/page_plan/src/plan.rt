@@ -30,8 +30,7 @@ impl Model for Plan {
 }
 
 impl Plan {
-    /// A plan of this kind, which replaces no names and for which nothing was fetched yet. It takes no
-    /// memory.
+    /// A plan of this kind, which replaces no names and for which nothing was fetched yet.
     pub fn new(alloc: Global, kind: PlanKind) -> Plan
         ensures { result ≡ new_plan kind [] }
     {
@@ -54,18 +53,34 @@ impl Plan {
         })
     }
 
-    /// The kind of the plan. It takes no memory.
+    /// The kind of the plan.
     pub fn kind(&self) -> PlanKind
         ensures { result ≡ self.now.kind }
     {
         self.kind
     }
 
-    /// Whether the module of this name is replaced. It takes no memory.
+    /// Whether the module of this name is replaced.
     pub fn replaces(&self, name: &ModName) -> bool
         ensures { result ≡ has self.now.replaced name.now }
     {
         self.replaced.has(name)
+    }
+
+    /// The names of the modules that an update replaces. It takes time in proportion to their number.
+    pub fn replaced(&self, alloc: Global) -> Result<Vec<ModName>, AllocError>
+        ensures { IfOk result (λ names. names.items ≡ self.now.replaced) }
+    {
+        let names = self.replaced.names(alloc)?;
+        Ok(names)
+    }
+
+    // What was fetched of a module.
+    pub(crate) fn staged(&self, name: &ModName) -> Option<(Ver, &Analysis)>
+        ensures { option_map (λ found. record { version = found.0; analysis = found.1.now }) result
+            ≡ at self.now.staged name.now }
+    {
+        self.staged.get(name)
     }
 
     /// A module was fetched, in place of an earlier fetch of its name. A refusal changes nothing.
@@ -94,8 +109,7 @@ impl Plan {
         Ok(())
     }
 
-    /// The entry that a module has in the plan, over the page's modules: kept or fetched. It takes no
-    /// memory.
+    /// The entry that a module has in the plan, over the page's modules: kept or fetched.
     pub fn entry<'a>(&'a self, view: &'a View, name: &ModName) -> Option<(Ver, &'a Analysis)>
         ensures { option_map (λ found. record { version = found.0; analysis = found.1.now }) result
             ≡ entry_at self.now view.now name.now }

@@ -36,8 +36,8 @@ impl Told {
         Ok(Told { versions })
     }
 
-    /// The version that is told of a name, 0 for none. It takes no memory, and time in proportion to the
-    /// logarithm of the number of names.
+    /// The version that is told of a name, 0 for none. It takes time in proportion to the logarithm of
+    /// the number of names.
     pub fn version(&self, name: &ModName) -> Ver
         ensures { result ≡ version_at self.now name.now }
     {

@@ -1,21 +1,29 @@
 // The table that a client tells, against the versions of a view.
-ghost use Rattle.std.specs.Prelude.{◌≡◌, ◌==◌, ◌++◌, filter, not, option_map, IfOk};
+ghost use Rattle.std.specs.Prelude.{◌≡◌, ◌==◌, ◌++◌, filter, not, option_map, IfOk, IsTrue};
+ghost use Rattle.std.specs.Cmp.Lexicographic.{slice_cmp};
+ghost use Rattle.std.specs.List.Sorted.{IsStrictlySortedBy};
+ghost use Rattle.std.specs.Ordering.{nat_cmp};
 ghost use Rattle.core_model.specs.Names.{first_of, names_of, sorted};
 ghost use Rattle.core_model.specs.Requests.{version_at};
 ghost use Rattle.core_model.specs.View.{table_of};
 ghost use Rattle.page_plan.specs.Applied.{IsCompared};
 
 use crate::apply::Applied;
+use crate::plan::Plan;
 use crate::told::Told;
-use hmr_types::{ModName, Table, Ver};
+use hmr_types::{ModName, PlanKind, Table, Ver};
 use module_graph::{View, copy_name, rising};
 use std::alloc::{AllocError, Global};
 
 /// The view, where each of its modules is told at its version and no other is told; else the least name
 /// with two versions.
 pub(crate) fn compared(alloc: Global, told: &Table, made: View) -> Result<Applied, AllocError>
+    requires { IsStrictlySortedBy (slice_cmp nat_cmp) (names_of made) }
     ensures { IfOk result (IsCompared told.now made) }
 {
+    if is_table_of(alloc, told, &made) {
+        return Ok(Applied::Done(made));
+    }
     let names = told_and_kept(alloc, told.as_slice(), &made)?;
     let told = Told::of(alloc, told.as_slice())?;
     match first_differing(&told, &made, &names) {
@@ -26,6 +34,15 @@ pub(crate) fn compared(alloc: Global, told: &Table, made: View) -> Result<Applie
         }),
         None => Ok(Applied::Done(made)),
     }
+}
+
+// Whether the table is that of the view, as an update that replaces nothing leaves it: one walk of both.
+fn is_table_of(alloc: Global, told: &Table, view: &View) -> bool
+    requires { IsStrictlySortedBy (slice_cmp nat_cmp) (names_of view.now) }
+    ensures { IsTrue result → told.now ≡ table_of view.now }
+{
+    let update = Plan::new(alloc, PlanKind::Update);
+    update.is_told(view, told, &[])
 }
 
 // The names that are told or kept, rising by bytes.

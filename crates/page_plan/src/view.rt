@@ -11,7 +11,7 @@ use hmr_types::{Analysis, ModName, PlanKind, Ver};
 use module_graph::{NameSet, View, copy_of, rising};
 use std::alloc::{AllocError, Global};
 
-/// The first of these names that has no entry in the plan. It takes no memory.
+/// The first of these names that has no entry in the plan.
 pub(crate) fn unfetched<'a>(plan: &Plan, view: &View, names: &'a [ModName]) -> Option<&'a ModName>
     ensures { option_map (λ n. n.now) result
         ≡ first_of (filter (λ n. not (is_some (entry_at plan.now view.now n))) names.now) }

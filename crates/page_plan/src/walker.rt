@@ -71,14 +71,14 @@ impl Walker {
         }
     }
 
-    /// The names left so far, in order. It takes no memory.
+    /// The names left so far, in order.
     pub fn left(&self) -> &[ModName]
         ensures { result.now ≡ self.now.left }
     {
         &self.left
     }
 
-    /// The names left so far, in order. It takes no memory.
+    /// The names left so far, in order.
     pub fn into_left(self) -> Vec<ModName>
         ensures { result.items ≡ self.left }
     {

@@ -1,8 +1,13 @@
-use Rattle.std.proofs.Common.{◌∙◌, ◌++◌, ap}
+use Rattle.std.proofs.Common.{◌∙◌, ◌++◌, ap, refl}
 use Rattle.core_model.specs.Names.{at, names_of, sorted}
 use Rattle.core_model.specs.View.{table_of}
 use Rattle.page_plan.proofs.Comparing.{one_found}
+use Rattle.page_plan.proofs.Renewals.{told_as_it_is}
 use Rattle.page_plan.proofs.versions.compared.Goals as goal
+
+-- the table is that of the view
+pub returns-then-is_table_of : goal.returns-then-is_table_of
+returns-then-is_table_of c = (told_as_it_is c.args.made c.args.told.now (c.is_table_of.ensures c.if-is_table_of.true), refl)
 
 pub returns-in_ok-copy_name-in-Some : goal.returns-in_ok-copy_name-in-Some
 returns-in_ok-copy_name-in-Some c = one_found c.args.told.now c.in_ok-told.told (table_of c.args.made) c.deref.result.now c.in-Some.name.now c.in_ok-copy_name-in-Some.field-0 c.version.result c.version_kept.result

@@ -22,4 +22,6 @@ invariant_of-self-2 c =
           (subst (λ (q : Queue). (n : Name) → is_in c.self.inside.view n ≡ true → knows q n ≡ true) (sym c.in_ok-force.ensures.ok) c.self.invariant.known);
       marked = subst (λ (q : Queue). (n : Name) → is_marked q n ≡ true → is_in c.self.inside.view n ≡ true) (sym c.release.ensures)
           (subst (λ (q : Queue). (n : Name) → is_marked q n ≡ true → is_in c.self.inside.view n ≡ true) (sym c.in_ok-force.ensures.ok) c.self.invariant.marked);
+      closed = c.self.invariant.closed;
+      dropped = c.self.invariant.dropped;
     }

@@ -1,8 +1,9 @@
-use Rattle.std.proofs.Common.{◌≡◌, List, true, ap, ◌∙◌}
+use Rattle.std.proofs.Common.{◌≡◌, List, true, ap, sym, ◌∙◌}
 use Rattle.std.specs.Prelude.{None}
 use Rattle.std.proofs.Math.Path.{subst}
 use Rattle.core_model.specs.Names.{Name, has}
 use Rattle.core_model.specs.View.{dropped_of}
+use Rattle.page_plan.specs.Renewals.{IsClosed}
 use Rattle.client_queue.specs.Queue.{knows}
 use Rattle.client_records.specs.Inside.{kept_of}
 use Rattle.client_records.specs.Made.{AreRenewed, HasMade}
@@ -39,4 +40,6 @@ invariant_of-self-2 c =
       forced = none_forced c.args.sources.now c.args.made k _ taken.page;
       known = taken.known;
       marked = marked_made c.args.made c.args.sources.now c.release.new.self taken.page.marks;
+      closed = λ loaded. subst (λ (x : Kept). IsClosed x.roots c.args.made) (sym c.self.view_is) c.requires.closed;
+      dropped = c.from_vec.ensures ∙ c.in_ok-dropped.ensures.computed ∙ ap (dropped_of c.args.made) c.as_slice.ensures;
     }
