@@ -16,6 +16,7 @@ use Rattle.client_model.specs.Requesting.{abort_message, apply_or_abort, ask_or_
 use Rattle.client_model.specs.Runtime as model
 use Rattle.client_model.specs.Runtime.{Invalidation, Runtime}
 use Rattle.module_language.specs.ModuleLanguage.{module_language}
+use Rattle.plan_under_way.specs.UnderWay.{untold}
 use Rattle.hot_runtime.specs.Standing.{IsSound, Keeps}
 use Rattle.hot_runtime.specs.declared.runtime.HotRuntime.{HotRuntime}
 
@@ -82,6 +83,15 @@ ungreeting : (unsent : List Invalidation) → greeting (ask_or_invalidate unsent
 ungreeting [] = refl
 ungreeting (i ∷ more) = refl
 
+untold_greeting : (asked : ClientMsg) → greeting asked ≡ greeting (untold asked)
+untold_greeting (asks.Hello format roots) = refl
+untold_greeting asks.Ask = refl
+untold_greeting (asks.Fetch n) = refl
+untold_greeting (asks.Applied table) = refl
+untold_greeting (asks.Aborted cause n from x) = refl
+untold_greeting (asks.Invalidate n v message) = refl
+untold_greeting asks.Bye = refl
+
 -- a client that greets has none
 greeting_unnumbered : (r : Runtime) → greeting (request module_language r) ≡ true → r.client ≡ 0
 greeting_unnumbered r e = by (r.client == 0) refl r.page.plan e
@@ -92,9 +102,9 @@ greeting_unnumbered r e = by (r.client == 0) refl r.page.plan e
     by false t (Some p) e = absurd (false≢true (sym (carried greeting (λ n. refl) (λ table. refl) (λ cause n from x. refl) r.cause p r) ∙ e))
 
 -- a client is connected only where its page isn't loaded
-pub connect_asked : {F : Type 0} (r : Runtime) (h : HotRuntime F) (asked : ClientMsg) (client : ℕ) (roots : List Name) → Keeps r h → IsSound h → request module_language r ≡ asked
+pub connect_asked : {F : Type 0} (r : Runtime) (h : HotRuntime F) (asked : ClientMsg) (client : ℕ) (roots : List Name) → Keeps r h → IsSound h → untold (request module_language r) ≡ asked
     → is_answer h.loaded asked (msg.Connected client roots) ≡ true → h.loaded ≡ false
-connect_asked r h (asks.Hello format named) client roots k s e t = s.unnumbered (sym k.page.client ∙ greeting_unnumbered r (ap greeting e))
+connect_asked r h (asks.Hello format named) client roots k s e t = s.unnumbered (sym k.page.client ∙ greeting_unnumbered r (untold_greeting (request module_language r) ∙ ap greeting e))
 connect_asked r h asks.Ask client roots k s e t = not_true h.loaded t
 connect_asked r h (asks.Fetch n) client roots k s e t = absurd (false≢true t)
 connect_asked r h (asks.Applied table) client roots k s e t = absurd (false≢true t)

@@ -1,28 +1,21 @@
 -- What a plan's beginning makes of a runtime, and its lines.
-use Rattle.std.proofs.Common.{◌≡◌, ℕ, Bool, true, false, List, [], ◌∷◌, ◌++◌, refl, ap, sym, ◌∙◌}
-use Rattle.std.specs.Prelude.{◌==◌, if◌then◌else◌, is_some, Some, None}
+use Rattle.std.proofs.Common.{◌≡◌, ℕ, Bool, true, false, List, [], ◌∷◌, ◌++◌, refl, ap, ◌∙◌}
+use Rattle.std.specs.Prelude.{◌==◌, if◌then◌else◌, Option, Some, None}
 use Rattle.std.proofs.lemmas.List.{append-nil}
-use Rattle.std.proofs.lemmas.Option.{none-some}
-use Rattle.hmr_types.specs.declared.words.PlanKind.TheVariants.{Load, Update}
+use Rattle.hmr_types.specs.declared.words.PlanKind.TheVariants.{Update}
 use Rattle.output_lines.specs.declared.out_line.OutLine.TheVariants as line
 use Rattle.core_model.specs.Names.{Name, in_order}
 use Rattle.client_model.specs.Answering.{accept_line, begin, start_update, write_batch}
 use Rattle.client_model.specs.Journal.{lines_of_all}
 use Rattle.client_model.specs.Runtime.{Runtime, Did, and_then, for_each, nothing, write}
-use Rattle.module_tree.specs.Tree.{module_of}
-use Rattle.std.specs.Option.{option_map}
 use Rattle.hmr_types.specs.declared.words.PlanKind.{PlanKind}
-use Rattle.core_model.specs.Names.{at}
 use Rattle.core_model.specs.Page.{new_plan}
 use Rattle.page_deeds.proofs.Following.{lines_then}
-use Rattle.page_plan.specs.Plans.{IsSamePlan}
-use Rattle.page_plan.specs.Walking.{IsAt}
-use Rattle.plan_under_way.specs.UnderWay.{IsNext, cause_of}
 use Rattle.plan_under_way.specs.declared.under_way.UnderWay.{UnderWay}
 use Rattle.plan_under_way.specs.Telling.{accept_lines, batch_lines}
-use Rattle.hot_runtime.specs.Standing.{IsSound, Keeps}
+use Rattle.hot_runtime.specs.Standing.{IsPlan, Keeps}
 use Rattle.hot_runtime.specs.declared.runtime.HotRuntime.{HotRuntime}
-use Rattle.hot_runtime.proofs.Keeping.{plan_kept, plan_sound, with_under_way}
+use Rattle.hot_runtime.proofs.Keeping.{plan_kept, with_under_way}
 
 batch_step : (b : Bool) (batch : ℕ) (triggered : List Name) (r : Runtime) → (if b then nothing r else write (line.Batch r.client batch (in_order triggered)) r).0 ≡ r
 batch_step true batch triggered r = refl
@@ -63,23 +56,6 @@ update_told replaced pairs r client =
     (lines_then client (for_each accept_act pairs r).1 [] ∙ append-nil (lines_of_all client (for_each accept_act pairs r).1) ∙ accepts_told client pairs r)
 
 -- a plan that has just begun is kept as such
-pub begun : {F : Type 0} (r : Runtime) (h : HotRuntime F) (kind : PlanKind) (replaced : List Name) (u : UnderWay) → Keeps r h
-    → IsSamePlan (new_plan kind replaced) u.plan → IsAt r.roots (new_plan kind replaced) r.page.view u.walker → IsNext (begin kind replaced u.pairs.items r) (new_plan kind replaced) u.next → u.trees.entries ≡ [] → u.cause ≡ None
-    → Keeps (begin kind replaced u.pairs.items r) (with_under_way h (Some u))
-begun r h kind replaced u k same walk next trees cause = plan_kept r h (Some (new_plan kind replaced)) [] u.pairs.items None (Some u) k (record {
-  plan = same;
-  walk = walk;
-  next = next;
-  texts = λ n. ap (λ rows. option_map module_of (at rows n)) (sym trees);
-  pairs = refl;
-  cause = ap (option_map cause_of) (sym cause);
-})
-
--- and it is planned well
-pub begun_sound : {F : Type 0} (h : HotRuntime F) (kind : PlanKind) (replaced : List Name) (u : UnderWay) → IsSamePlan (new_plan kind replaced) u.plan → (kind ≡ Load → h.loaded ≡ false) → u.trees.entries ≡ []
-    → IsSound h → IsSound (with_under_way h (Some u))
-begun_sound h kind replaced u same loads trees s = plan_sound h (Some u) (record {
-  staged = λ n e found. absurd (none-some e (sym (same.staged n) ∙ found));
-  trees = λ n. ap (λ rows. is_some (at rows n)) trees ∙ ap is_some (sym (same.staged n));
-  loads = λ e. loads (sym same.kind ∙ e);
-}) s
+pub begun : {F : Type 0} (r : Runtime) (h : HotRuntime F) (kind : PlanKind) (replaced : List Name) (pairs : List (Name × Name)) (left : Option UnderWay) → Keeps r h → IsPlan (begin kind replaced pairs r) (Some (new_plan kind replaced)) left
+    → Keeps (begin kind replaced pairs r) (with_under_way h left)
+begun r h kind replaced pairs left k is = plan_kept r h (Some (new_plan kind replaced)) [] pairs None left k is

@@ -17,6 +17,7 @@ use Rattle.plan_under_way.specs.Planned.{IsPlanned}
 use Rattle.plan_under_way.specs.Telling.{cause_lines}
 use Rattle.plan_under_way.specs.UnderWay.{IsUnderWay, cause_of, is_aborted, with_cause_of}
 use Rattle.plan_under_way.specs.declared.cause.Cause.{Cause}
+use Rattle.plan_under_way.proofs.Caused.{caused}
 use Rattle.plan_under_way.specs.declared.under_way.UnderWay.{UnderWay}
 use Rattle.hot_runtime.specs.Becoming.{Becomes}
 use Rattle.hot_runtime.specs.Standing.{IsPlan, IsPlannedWell, IsSound, Keeps}
@@ -89,3 +90,23 @@ none_given_up {F} r h u tells k s is gone silent = subst (λ left. Becomes (abor
         e' : None ≡ r.page.plan
         e' = sym e
     by (Some p) e i = absurd i
+
+-- whether there is a plan under way or not
+pub cause_given : {F : Type 0} (cause : Cause) (r : Runtime) (h : HotRuntime F) (left : Option UnderWay) (tells : List OutLine) → Keeps r h → IsSound h → (h.plan ≡ None → left ≡ None) → ((u : UnderWay) → h.plan ≡ Some u → left ≡ Some (record u { cause = Some cause }))
+    → tells ≡ [] → Becomes (with_cause (cause_of cause) r) (with_under_way h left) tells
+cause_given {F} cause r h left tells k s none some silent = by h.plan refl
+  where
+    by : (o : Option UnderWay) → h.plan ≡ o → Becomes (with_cause (cause_of cause) r) (with_under_way h left) tells
+    by None e = uncaused_becomes (cause_of cause) r h left tells k s e (none e) silent
+    by (Some u) e = subst (λ o. Becomes (with_cause (cause_of cause) r) (with_under_way h o) tells) (sym (some u e))
+        (caused_becomes (cause_of cause) r h u (record u { cause = Some cause }) tells k s e (λ p i. caused r p cause u i) (λ planned. record { staged = planned.staged; trees = planned.trees; loads = planned.loads }) silent)
+
+-- and it is given up
+pub all_given_up : {F : Type 0} (r : Runtime) (h : HotRuntime F) (left : Option UnderWay) (found : Option Cause) (tells : List OutLine) → Keeps r h → IsSound h → left ≡ None → is_aborted (request module_language r) ≡ true
+    → (h.plan ≡ None → found ≡ None) → ((u : UnderWay) → h.plan ≡ Some u → (p : Plan) → IsUnderWay r p u → is_aborted (carry_on r.cause module_language p r) ≡ true → option_map cause_of found ≡ cause_by r.cause module_language p r)
+    → tells ≡ cause_lines h.page.client (option_map cause_of found) → Becomes (abort_in r.page.plan module_language r) (with_under_way h left) tells
+all_given_up {F} r h left found tells k s gone t none some told = by h.plan refl
+  where
+    by : (o : Option UnderWay) → h.plan ≡ o → Becomes (abort_in r.page.plan module_language r) (with_under_way h left) tells
+    by None e = none_given_up r h left tells k s e gone (told ∙ ap (λ o. cause_lines h.page.client (option_map cause_of o)) (none e))
+    by (Some u) e = given_up_becomes r h u left found tells k s e gone t (some u e) told

@@ -1,13 +1,14 @@
 -- A deed done to the page of a runtime.
-use Rattle.std.proofs.Common.{◌≡◌, true, List, [], reverse, ap, sym, ◌∙◌}
+use Rattle.std.proofs.Common.{◌≡◌, true, false, List, [], reverse, ap, sym, ◌∙◌}
 use Rattle.std.specs.Prelude.{not, filter, Option, Some, None}
 use Rattle.std.specs.Global.{Vec}
 use Rattle.std.proofs.Math.Path.{subst}
+use Rattle.std.proofs.lemmas.Bool.{false≢true}
 use Rattle.std.proofs.lemmas.List.{append-nil}
 use Rattle.std.proofs.lemmas.Option.{none-some}
 use Rattle.hmr_types.specs.declared.value.Value.{Value}
 use Rattle.output_lines.specs.declared.out_line.OutLine.{OutLine}
-use Rattle.core_model.specs.Names.{Name, at, has, without_all}
+use Rattle.core_model.specs.Names.{Name, at, has, names_of, rising, without_all}
 use Rattle.core_model.specs.Page.{Plan}
 use Rattle.core_model.specs.View.{View}
 use Rattle.client_model.specs.Applying.{live_of, prune, prune_instance}
@@ -30,6 +31,7 @@ use Rattle.hot_runtime.specs.declared.runtime.HotRuntime.{HotRuntime}
 use Rattle.hot_runtime.proofs.Keeping.{still}
 use Rattle.hot_runtime.proofs.Leaving.{heard_live, not_left, prune_loses, was_there}
 use Rattle.hot_runtime.proofs.Moving.{plan_moved}
+use Rattle.hot_runtime.proofs.Rising.{kept_rises}
 
 -- the runtime with another page
 abbrev pub with_page : {F : Type 0} → HotRuntime F → Page F → HotRuntime F
@@ -65,6 +67,8 @@ deed_done deed r h page tells k s f counts stays =
         on_page = λ n e. stays n (s.on_page n e);
         unloaded = λ e n. stays n (s.unloaded e n);
         unnumbered = λ e. s.unnumbered (sym f.client ∙ e);
+        rises = s.rises;
+        whole = s.whole;
       };
       keeps = page_kept r after h page k (f.elsewhere r k.page) stands;
       lines = f.lines r k.page ∙ ap (λ c. lines_of_all c (deed r).1) (sym k.page.client ∙ sym (ap (λ x. x.client) (f.elsewhere r k.page)));
@@ -88,7 +92,7 @@ still_none a b (Some p) u e i = absurd (none-some p (sym e))
 -- modules left the page, and their instances were pruned
 pub all_pruned : {F : Type 0} (names : List Name) (r : Runtime) (h : HotRuntime F) (page : Page F) (view : View) (forced : Vec Name) (tells : List OutLine) → Keeps r h → IsSound h → r.page.plan ≡ None
     → Follows (λ r. for_each (prune_instance module_language) (live_of (has names) r) r) h.page page [] tells → view ≡ without_all names h.view → forced.items ≡ filter (λ n. not (has names n)) h.forced.items
-    → Becomes (prune module_language names r) (record h { page = page; view = view; forced = forced }) tells
+    → Becomes (prune module_language names r) (record h { page = page; view = view; whole = false; forced = forced }) tells
 all_pruned names r h page view forced tells k s none f viewed dropped =
     let orderly : Orderly r.instances = k.page.instances.orderly in
     let stays = λ (n : Name) (e : number_of h.page.live n ≡ None). none_stays (prune_instance module_language) (has names) h.page page [] tells f (λ i t q. prune_loses i q) r k.page n e in
@@ -111,6 +115,8 @@ all_pruned names r h page view forced tells k s none f viewed dropped =
             (λ none. stays n (s.on_page n none));
         unloaded = did.sound.unloaded;
         unnumbered = did.sound.unnumbered;
+        rises = ap (λ (v : View). rising (names_of v)) viewed ∙ kept_rises (λ row. not (has names row.0)) h.view s.rises;
+        whole = λ e. absurd (false≢true e);
       };
       keeps = record {
         format = did.keeps.format;

@@ -55,6 +55,8 @@ plan_sound h u planned s = record {
   on_page = s.on_page;
   unloaded = s.unloaded;
   unnumbered = s.unnumbered;
+  rises = s.rises;
+  whole = s.whole;
 }
 
 -- what becomes of a runtime, where the definitions' client becomes this

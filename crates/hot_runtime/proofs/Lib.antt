@@ -18,3 +18,4 @@ pub mod Sent
 pub mod Fetched
 pub mod Finishing
 pub mod Notes
+pub mod Untold

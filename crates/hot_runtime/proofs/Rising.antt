@@ -41,7 +41,7 @@ module _ {X : Type 0} where
       by false f g = g
 
   -- what is left of entries that rise by name rises
-  kept_rises : (keep : Name × X → Bool) (rows : List (Name × X)) → rising (names_of rows) ≡ true → rising (names_of (filter keep rows)) ≡ true
+  pub kept_rises : (keep : Name × X → Bool) (rows : List (Name × X)) → rising (names_of rows) ≡ true → rising (names_of (filter keep rows)) ≡ true
   kept_rises keep [] r = refl
   kept_rises keep (row ∷ rows) r = by (keep row) (kept_rises keep rows (tail_rises row.0 (names_of rows) r))
     where
@@ -54,7 +54,7 @@ abbrev IsRising : Runtime → Type 0
 IsRising r = rising (names_of r.page.view) ≡ true
 
 module _ (language : Language) where
-  new_rises : (roots : List Name) (p : Plan) (view : View) → rising (names_of (new_view roots p view)) ≡ true
+  pub new_rises : (roots : List Name) (p : Plan) (view : View) → rising (names_of (new_view roots p view)) ≡ true
   new_rises roots p view = collect_rises (λ n. new_entry (has (met_of roots p view) n) p view n) (sorted (met_of roots p view ++ names_of view)) (sorted_rises (met_of roots p view ++ names_of view))
 
   batch_rises : (batch : ℕ) (triggered : List Name) (r : Runtime) → IsRising r → IsRising (write_batch batch triggered r).0

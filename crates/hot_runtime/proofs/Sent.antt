@@ -36,7 +36,7 @@ module _ {F : Type 0} (name : Name) (r : Runtime) (h : HotRuntime F) (unsent : V
   pub invalidated_becomes : (message : Text) (forced : Vec Name) (tells : List OutLine) → forced.items ≡ put_name name h.forced.items → tells ≡ line.Invalidated h.page.client name message ∷ []
       → Becomes (invalidated name message r) (record h { forced = forced; page = record h.page { unsent = unsent } }) tells
   invalidated_becomes message forced tells put told = record {
-    sound = record { format = s.format; versions = s.versions; unsent = counted; view = s.view; plan = s.plan; on_page = s.on_page; unloaded = s.unloaded; unnumbered = s.unnumbered };
+    sound = record { format = s.format; versions = s.versions; unsent = counted; view = s.view; plan = s.plan; on_page = s.on_page; unloaded = s.unloaded; unnumbered = s.unnumbered; rises = s.rises; whole = s.whole };
     keeps = record {
       format = k.format;
       named = k.named;
@@ -53,7 +53,7 @@ module _ {F : Type 0} (name : Name) (r : Runtime) (h : HotRuntime F) (unsent : V
 
   pub ignored_becomes : (tells : List OutLine) → tells ≡ line.Ignored h.page.client name ∷ [] → Becomes (ignored name r) (record h { page = record h.page { unsent = unsent } }) tells
   ignored_becomes tells told = record {
-    sound = record { format = s.format; versions = s.versions; unsent = counted; view = s.view; plan = s.plan; on_page = s.on_page; unloaded = s.unloaded; unnumbered = s.unnumbered };
+    sound = record { format = s.format; versions = s.versions; unsent = counted; view = s.view; plan = s.plan; on_page = s.on_page; unloaded = s.unloaded; unnumbered = s.unnumbered; rises = s.rises; whole = s.whole };
     keeps = record {
       format = k.format;
       named = k.named;

@@ -17,7 +17,9 @@ use Rattle.module_language.specs.ModuleLanguage.{module_language}
 use Rattle.hot_runtime.specs.Answers.{UnlessNoMemory}
 use Rattle.hot_runtime.specs.Becoming.{Becomes, IsTaking}
 use Rattle.hot_runtime.specs.Standing.{IsSound, Keeps, StandsFor}
+use Rattle.plan_under_way.specs.UnderWay.{untold}
 use Rattle.hot_runtime.proofs.Moving.{plan_moved}
+use Rattle.hot_runtime.proofs.Untold.{untold_answer, untold_answered, untold_many, untold_place}
 use Rattle.hot_runtime.specs.declared.fault.RuntimeFault.{RuntimeFault}
 use Rattle.hot_runtime.specs.declared.fault.RuntimeFault.TheVariants.{Unexpected, InstancesFull, Stopped, NoMemory}
 use Rattle.hot_runtime.specs.declared.runtime.HotRuntime.{HotRuntime}
@@ -67,32 +69,32 @@ module _ {F : Type 0} (r : Runtime) (msg : ServerMsg) (h : HotRuntime F) (k : Ke
   going = k.stopped ∙ running
 
   -- it is no answer
-  pub unexpected_taken : (asked : ClientMsg) (wanted got : ℕ) → request module_language r ≡ asked → is_answer h.loaded asked msg ≡ false → wanted ≡ request_place asked → got ≡ answer_place msg
+  pub unexpected_taken : (asked : ClientMsg) (wanted got : ℕ) → untold (request module_language r) ≡ asked → is_answer h.loaded asked msg ≡ false → wanted ≡ request_place asked → got ≡ answer_place msg
       → IsTaking (take module_language r msg) h (Err (Unexpected wanted got))
   unexpected_taken asked wanted got e unfit w g =
       subst (λ t. IsTaking t h (Err (Unexpected wanted got)))
-      (sym (pick r.stopped (is_answer r.page.loaded (request module_language r) msg) (is_too_many (request module_language r) msg r) (unchanged_by is_stopped r) (unchanged_by (unexpected (request_place (request module_language r)) (answer_place msg)) r) (stop r) (did_take (answered module_language (request module_language r) msg r)) going (ap (λ l. is_answer l (request module_language r) msg) k.loaded ∙ ap (λ a. is_answer h.loaded a msg) e ∙ unfit)))
-      (record { stands = record { sound = s; keeps = k }; answer = ap (λ a. unexpected (request_place a) (answer_place msg)) e ∙ ap (λ n. unexpected n (answer_place msg)) (sym w) ∙ ap (λ n. unexpected wanted n) (sym g) })
+      (sym (pick r.stopped (is_answer r.page.loaded (request module_language r) msg) (is_too_many (request module_language r) msg r) (unchanged_by is_stopped r) (unchanged_by (unexpected (request_place (request module_language r)) (answer_place msg)) r) (stop r) (did_take (answered module_language (request module_language r) msg r)) going (ap (λ l. is_answer l (request module_language r) msg) k.loaded ∙ untold_answer (request module_language r) h.loaded msg ∙ ap (λ a. is_answer h.loaded a msg) e ∙ unfit)))
+      (record { stands = record { sound = s; keeps = k }; answer = ap (λ n. unexpected n (answer_place msg)) (untold_place (request module_language r)) ∙ ap (λ a. unexpected (request_place a) (answer_place msg)) e ∙ ap (λ n. unexpected n (answer_place msg)) (sym w) ∙ ap (λ n. unexpected wanted n) (sym g) })
 
   -- it would make too many instances
-  pub full_taken : (asked : ClientMsg) → request module_language r ≡ asked → is_answer h.loaded asked msg ≡ true → is_too_many asked msg r ≡ true
+  pub full_taken : (asked : ClientMsg) → untold (request module_language r) ≡ asked → is_answer h.loaded asked msg ≡ true → is_too_many asked msg r ≡ true
       → IsTaking (take module_language r msg) (record h { stopped = true }) (Err InstancesFull)
   full_taken asked e fits full =
       subst (λ t. IsTaking t (record h { stopped = true }) (Err InstancesFull))
-      (sym (pick_full r.stopped (is_answer r.page.loaded (request module_language r) msg) (is_too_many (request module_language r) msg r) (unchanged_by is_stopped r) (unchanged_by (unexpected (request_place (request module_language r)) (answer_place msg)) r) (stop r) (did_take (answered module_language (request module_language r) msg r)) going (ap (λ l. is_answer l (request module_language r) msg) k.loaded ∙ ap (λ a. is_answer h.loaded a msg) e ∙ fits) (ap (λ a. is_too_many a msg r) e ∙ full)))
+      (sym (pick_full r.stopped (is_answer r.page.loaded (request module_language r) msg) (is_too_many (request module_language r) msg r) (unchanged_by is_stopped r) (unchanged_by (unexpected (request_place (request module_language r)) (answer_place msg)) r) (stop r) (did_take (answered module_language (request module_language r) msg r)) going (ap (λ l. is_answer l (request module_language r) msg) k.loaded ∙ untold_answer (request module_language r) h.loaded msg ∙ ap (λ a. is_answer h.loaded a msg) e ∙ fits) (untold_many (request module_language r) msg r ∙ ap (λ a. is_too_many a msg r) e ∙ full)))
       (record {
         stands = record {
-          sound = record { format = s.format; versions = s.versions; unsent = s.unsent; view = s.view; plan = s.plan; on_page = s.on_page; unloaded = s.unloaded; unnumbered = s.unnumbered };
+          sound = record { format = s.format; versions = s.versions; unsent = s.unsent; view = s.view; plan = s.plan; on_page = s.on_page; unloaded = s.unloaded; unnumbered = s.unnumbered; rises = s.rises; whole = s.whole };
           keeps = record { format = k.format; named = k.named; roots = k.roots; loaded = k.loaded; view = k.view; forced = k.forced; plan = plan_moved r r.page.loaded r.page.forced r.page.plan r.instances r.bags r.unsent r.shelf true r.page.plan h.plan k.plan; page = record { client = k.page.client; instances = k.page.instances; bags = k.page.bags; unsent = k.page.unsent; shelf = k.page.shelf }; stopped = refl };
         };
         answer = refl;
       })
 
   -- it does what the answer does
-  pub did_taken : (asked : ClientMsg) (after : HotRuntime F) (lines : Vec OutLine) → request module_language r ≡ asked → is_answer h.loaded asked msg ≡ true → is_too_many asked msg r ≡ false
+  pub did_taken : (asked : ClientMsg) (after : HotRuntime F) (lines : Vec OutLine) → untold (request module_language r) ≡ asked → is_answer h.loaded asked msg ≡ true → is_too_many asked msg r ≡ false
       → Becomes (answered module_language asked msg r) after lines.items → IsTaking (take module_language r msg) after (Ok lines)
   did_taken asked after lines e fits few b =
-      let c : Becomes (answered module_language (request module_language r) msg r) after lines.items = subst (λ a. Becomes (answered module_language a msg r) after lines.items) (sym e) b in
+      let c : Becomes (answered module_language (request module_language r) msg r) after lines.items = subst (λ did. Becomes did after lines.items) (sym (untold_answered (request module_language r) msg r ∙ ap (λ a. answered module_language a msg r) e)) b in
       subst (λ t. IsTaking t after (Ok lines))
-      (sym (pick_did r.stopped (is_answer r.page.loaded (request module_language r) msg) (is_too_many (request module_language r) msg r) (unchanged_by is_stopped r) (unchanged_by (unexpected (request_place (request module_language r)) (answer_place msg)) r) (stop r) (did_take (answered module_language (request module_language r) msg r)) going (ap (λ l. is_answer l (request module_language r) msg) k.loaded ∙ ap (λ a. is_answer h.loaded a msg) e ∙ fits) (ap (λ a. is_too_many a msg r) e ∙ few)))
+      (sym (pick_did r.stopped (is_answer r.page.loaded (request module_language r) msg) (is_too_many (request module_language r) msg r) (unchanged_by is_stopped r) (unchanged_by (unexpected (request_place (request module_language r)) (answer_place msg)) r) (stop r) (did_take (answered module_language (request module_language r) msg r)) going (ap (λ l. is_answer l (request module_language r) msg) k.loaded ∙ untold_answer (request module_language r) h.loaded msg ∙ ap (λ a. is_answer h.loaded a msg) e ∙ fits) (untold_many (request module_language r) msg r ∙ ap (λ a. is_too_many a msg r) e ∙ few)))
       (record { stands = record { sound = c.sound; keeps = c.keeps }; answer = ap took (sym c.lines) })

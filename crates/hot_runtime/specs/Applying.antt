@@ -1,30 +1,31 @@
 -- What the code has of a plan that is applied, against the plan of the definitions.
-use Rattle.std.specs.Prelude.{◌≡◌, ◌++◌, false, List, [], ◌∷◌, None}
-use Prim.{⊥}
+use Rattle.std.specs.Prelude.{◌≡◌, ◌++◌, true, List, [], ◌∷◌, Option}
 use Rattle.hmr_types.specs.declared.words.PlanKind.{PlanKind}
-use Rattle.hmr_types.specs.declared.words.PlanKind.TheVariants as plan_kind
-use Rattle.module_tree.specs.declared.tree.Module.{Module}
 use Rattle.output_lines.specs.declared.out_line.OutLine.{OutLine}
 use Rattle.output_lines.specs.declared.out_line.OutLine.TheVariants as line
-use Rattle.core_model.specs.Names.{Name}
-use Rattle.core_model.specs.Page.{Plan}
+use Rattle.core_model.specs.Names.{Name, names_of, rising}
+use Rattle.core_model.specs.Page.{Plan, new_view}
+use Rattle.core_model.specs.View.{View}
 use Rattle.client_model.specs.Runtime.{Runtime}
 use Rattle.page_plan.specs.Plans.{IsSamePlan}
 use Rattle.page_deeds.specs.declared.page.Page.{Page}
-use Rattle.plan_under_way.specs.Changing.{AreMade, HasChanged, IsChange, page_done}
-use Rattle.plan_under_way.specs.Planned.{AreCounted}
-use Rattle.plan_under_way.specs.UnderWay.{HasTrees, IsReady}
+use Rattle.plan_under_way.specs.Changing.{HasChanged, page_done}
+use Rattle.plan_under_way.specs.Finding.{IsFoundIn, IsPageOf, IsToApply}
+use Rattle.plan_under_way.specs.UnderWay.{IsReady}
+use Rattle.plan_under_way.specs.declared.finding.Found.{Found}
+use Rattle.plan_under_way.specs.declared.under_way.Next.TheVariants.{Finish}
 use Rattle.plan_under_way.specs.declared.under_way.Ready.{Ready}
-use Rattle.hot_runtime.specs.declared.applying.Found.{Found}
+use Rattle.plan_under_way.specs.declared.under_way.UnderWay.{UnderWay}
 
--- the client with no plan under way
-abbrev pub planless : Runtime → Runtime
-planless r = record r { page = record r.page { plan = None } }
-
--- what is found before a page changes is the plan's
-pub record IsFound {F : Type 0} (r : Runtime) (p : Plan) (page : Page F) (found : Found) : Type 0 where
-  pub changes : IsChange r p found.change
-  pub made : AreMade r p page found.births.items
+-- what is found for the plan that the code has is found for that of the definitions, and the page's modules
+-- are then those that it makes
+pub record IsTurned {F : Type 0} (u : UnderWay) (page : Page F) (before after : View) (forced : List Name)
+    (left : Option Found) : Type 0 where
+  pub found : (r : Runtime) (p : Plan) (ready : Ready) → IsPageOf r page before forced → u.next ≡ Finish ready
+      → IsToApply r p u.plan ready u.trees.entries u.pairs.items → IsFoundIn r p page u.plan.kind ready left
+  pub view : (r : Runtime) (p : Plan) (ready : Ready) → r.page.view ≡ before
+      → rising (names_of before) ≡ true → u.next ≡ Finish ready → IsReady r p ready → IsSamePlan p u.plan
+      → after ≡ new_view r.roots p r.page.view
 
 -- the page is what the plan makes of it, and the lines tell that, and then that a plan of this kind is
 -- applied
@@ -33,15 +34,3 @@ pub record IsApplied {F : Type 0} (r : Runtime) (p : Plan) (kind : PlanKind) (be
   pub began : List OutLine
   pub page : HasChanged (page_done p.kind p r) r p before after [] began
   pub lines : tells ≡ began ++ line.Applied after.client kind ∷ []
-
--- what is known where a plan is applied: the plan and the client of the definitions, with what the code took
--- out of its plan
-pub record IsToApply (r : Runtime) (p kept : Plan) (ready : Ready) (trees : List (Name × Module))
-    (boundaries : List (Name × Name)) : Type 0 where
-  pub plan : IsSamePlan p kept
-  pub ends : IsReady r p ready
-  pub texts : HasTrees r trees
-  pub pairs : r.pairs ≡ boundaries
-  pub staged : AreCounted kept.staged
-  pub loads : kept.kind ≡ plan_kind.Load → r.page.loaded ≡ false
-  pub numbered : r.client ≡ 0 → ⊥

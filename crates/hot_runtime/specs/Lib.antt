@@ -3,3 +3,4 @@ pub mod Answers
 pub mod Showing
 pub mod Becoming
 pub mod Applying
+pub mod Fetching

@@ -1,10 +1,10 @@
 -- What a runtime stands for: the definitions' runtime after the messages and events that it took.
-use Rattle.std.specs.Prelude.{◌≡◌, ◌+◌, ℕ, Bool, false, ⊤, length, nat_lt, Option, Some, None}
+use Rattle.std.specs.Prelude.{◌≡◌, ◌+◌, ℕ, Bool, true, false, ⊤, length, nat_lt, Option, Some, None}
 use Rattle.std.specs.List.{All}
 use Prim.{⊥}
 use Rattle.update_msgs.specs.Writable.{IsFormat, IsVersion}
 use Rattle.hmr_types.specs.declared.limits.TheConstants.{INSTANCES}
-use Rattle.core_model.specs.Names.{Name, at}
+use Rattle.core_model.specs.Names.{Name, at, names_of, rising}
 use Rattle.core_model.specs.Page.{Plan}
 use Rattle.client_model.specs.Past.{Past, runtime_after}
 use Rattle.client_model.specs.Runtime.{Runtime, Opening}
@@ -15,6 +15,7 @@ use Rattle.page_deeds.specs.Standing as deeds
 use Rattle.page_deeds.specs.Standing.{KeepWords}
 use Rattle.plan_under_way.specs.Planned.{AreCounted, IsPlanned, count_in}
 use Rattle.plan_under_way.specs.UnderWay.{IsUnderWay}
+use Rattle.plan_under_way.specs.Whole.{IsWhole}
 use Rattle.plan_under_way.specs.declared.under_way.UnderWay.{UnderWay}
 use Rattle.hot_runtime.specs.declared.runtime.HotRuntime.{HotRuntime}
 
@@ -44,7 +45,8 @@ IsPlannedWell loaded (Some u) = IsPlanned loaded u
 
 -- what holds of all that is kept, whatever came: each instance, each invalidation and each module of the
 -- page has the version of a counted edit; what is live is on the page; before the page is loaded nothing is
--- live, and it isn't loaded before the client has its number
+-- live, and it isn't loaded before the client has its number; its modules rise by name, and where it is told
+-- so they are exactly those that the roots reach
 pub record IsSound {F : Type 0} (h : HotRuntime F) : Type 0 where
   pub format : IsFormat h.format
   pub versions : All (λ c. IsVersion c.version) h.page.instances.items
@@ -54,6 +56,8 @@ pub record IsSound {F : Type 0} (h : HotRuntime F) : Type 0 where
   pub on_page : (n : Name) → at h.view n ≡ None → number_of h.page.live n ≡ None
   pub unloaded : h.loaded ≡ false → (n : Name) → number_of h.page.live n ≡ None
   pub unnumbered : h.page.client ≡ 0 → h.loaded ≡ false
+  pub rises : rising (names_of h.view) ≡ true
+  pub whole : h.whole ≡ true → IsWhole h.roots h.view
 
 -- how many instances the plan under way makes, once all is fetched; where there is no plan, none
 abbrev pub count_of : Option UnderWay → ℕ

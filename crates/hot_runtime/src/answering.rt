@@ -1,17 +1,19 @@
 // What the runtime does at each answer to its request.
 ghost use Rattle.std.specs.Option.{option_map};
-ghost use Rattle.std.specs.Prelude.{◌≡◌, true, false, drop, IfOk, OnOk};
+ghost use Rattle.std.specs.Prelude.{◌≡◌, true, false, drop, Some, None, IfOk, OnOk};
 ghost use Rattle.update_msgs.specs.Writable.{IsWritable};
 ghost use Rattle.update_msgs.specs.declared.message.ClientMsg.{ClientMsg};
+ghost use Rattle.core_model.specs.Page.{Plan};
 ghost use Rattle.client_model.specs.Answering.{abort_in, answered, done, ignored, invalidated};
 ghost use Rattle.client_model.specs.Answering.{outcome_of, took_refusal, with_cause};
 ghost use Rattle.client_model.specs.Expecting.{answers_told, is_answer};
-ghost use Rattle.client_model.specs.Requesting.{request};
+ghost use Rattle.client_model.specs.Requesting.{carry_on, cause_by, request};
 ghost use Rattle.client_model.specs.Runtime.{Runtime, nothing, write};
 ghost use Rattle.client_model.specs.Taking.{is_applied};
 ghost use Rattle.module_language.specs.ModuleLanguage.{module_language};
 ghost use Rattle.plan_under_way.specs.Telling.{cause_lines};
-ghost use Rattle.plan_under_way.specs.UnderWay.{cause_of, is_aborted, is_applied_told};
+ghost use Rattle.plan_under_way.specs.UnderWay.{IsUnderWay, cause_of, is_aborted, is_applied_told, untold};
+ghost use Rattle.plan_under_way.specs.declared.under_way.UnderWay.{UnderWay};
 ghost use Rattle.hot_runtime.specs.Becoming.{Becomes};
 ghost use Rattle.hot_runtime.specs.Standing.{HasRoom, IsSound, Keeps, KeepsWords};
 
@@ -23,13 +25,13 @@ use hmr_types::{ModName, Text, Ver};
 use module_graph::copy_name;
 use output_lines::{AbortWord, OutLine};
 use page_deeds::Invalidation;
-use plan_under_way::{Cause, one_line};
+use plan_under_way::{Cause, UnderWay, one_line, put};
 use retained_data::Bag;
 use std::alloc::AllocError;
 use update_msgs::{ClientMsg, ServerMsg};
 
 impl<F: FnOnce(Bag) -> Result<Ran, AllocError> + Drop> HotRuntime<F> {
-    /// Does what the answer to this request does, and gives the lines.
+    /// Does what the answer to this request does, which tells no modules, and gives the lines.
     pub(crate) fn answer(
         &mut self,
         asked: ClientMsg,
@@ -42,7 +44,7 @@ impl<F: FnOnce(Bag) -> Result<Ran, AllocError> + Drop> HotRuntime<F> {
         requires callable { (f : F) → F.IsAlwaysCallable f }
         requires words { KeepsWords F.post self.old }
         ensures becomes { (r : Runtime) → Keeps r self.old → IsSound self.old
-            → request module_language r ≡ asked
+            → untold (request module_language r) ≡ asked
             → IfOk result (λ lines. Becomes (answered module_language asked msg r) self.new lines.items) }
         ensures words { OnOk result (KeepsWords F.post self.new) }
         ensures format { self.new.format ≡ self.old.format }
@@ -64,7 +66,7 @@ impl<F: FnOnce(Bag) -> Result<Ran, AllocError> + Drop> HotRuntime<F> {
         requires callable { (f : F) → F.IsAlwaysCallable f }
         requires words { KeepsWords F.post self.old }
         ensures becomes { (r : Runtime) (asked : ClientMsg) → Keeps r self.old → IsSound self.old
-            → request module_language r ≡ asked → is_answer self.old.loaded asked msg ≡ true
+            → untold (request module_language r) ≡ asked → is_answer self.old.loaded asked msg ≡ true
             → answers_told (λ code. true) msg ≡ false
             → IfOk result (λ lines. Becomes (answered module_language asked msg r) self.new lines.items) }
         ensures words { OnOk result (KeepsWords F.post self.new) }
@@ -135,14 +137,8 @@ impl<F: FnOnce(Bag) -> Result<Ran, AllocError> + Drop> HotRuntime<F> {
             → IfOk result (λ lines. Becomes (with_cause (cause_of cause) r) self.new lines.items) }
         ensures rest { self.new ≡ record self.old { plan = self.new.plan } }
     {
-        let alloc = self.allocator();
-        match &mut self.plan {
-            Some(plan) => {
-                plan.cause = Some(cause);
-                Ok(Vec::new(alloc))
-            }
-            None => Ok(Vec::new(alloc)),
-        }
+        give_cause_to(&mut self.plan, cause);
+        Ok(Vec::new(self.allocator()))
     }
 
     // What was told is taken note of.
@@ -152,7 +148,7 @@ impl<F: FnOnce(Bag) -> Result<Ran, AllocError> + Drop> HotRuntime<F> {
         requires callable { (f : F) → F.IsAlwaysCallable f }
         requires words { KeepsWords F.post self.old }
         ensures becomes { (r : Runtime) → Keeps r self.old → IsSound self.old
-            → request module_language r ≡ asked
+            → untold (request module_language r) ≡ asked
             → IfOk result (λ lines. Becomes (done asked module_language r) self.new lines.items) }
         ensures words { OnOk result (KeepsWords F.post self.new) }
         ensures format { self.new.format ≡ self.old.format }
@@ -194,10 +190,8 @@ impl<F: FnOnce(Bag) -> Result<Ran, AllocError> + Drop> HotRuntime<F> {
             → IfOk result (λ lines. Becomes (abort_in r.page.plan module_language r) self.new lines.items) }
         ensures rest { self.new ≡ record self.old { plan = self.new.plan } }
     {
-        match self.plan.take() {
-            Some(plan) => self.cause_lines(plan.into_cause()),
-            None => Ok(Vec::new(self.allocator())),
-        }
+        let cause = given_up(&mut self.plan);
+        self.cause_lines(cause)
     }
 
     // The line of a plan that was given up, where there is a cause.
@@ -257,6 +251,42 @@ impl<F: FnOnce(Bag) -> Result<Ran, AllocError> + Drop> HotRuntime<F> {
         )?;
         drop_first(&mut self.page.unsent);
         Ok(lines)
+    }
+}
+
+// The plan under way, where there is one, can't be carried out for this cause.
+fn give_cause_to(plan: &mut Option<UnderWay>, cause: Cause)
+    ensures none { plan.old ≡ None → plan.new ≡ None }
+    ensures some { (u : UnderWay) → plan.old ≡ Some u → plan.new ≡ Some (record u { cause = Some cause }) }
+{
+    if let Some(plan) = plan {
+        plan.give_cause(cause);
+    }
+}
+
+// The plan under way is given up: gives the cause of it, where there is one.
+fn given_up(plan: &mut Option<UnderWay>) -> Option<Cause>
+    ensures gone { plan.new ≡ None }
+    ensures none { plan.old ≡ None → result ≡ None }
+    ensures some { (u : UnderWay) → plan.old ≡ Some u → (r : Runtime) (p : Plan) → IsUnderWay r p u
+        → is_aborted (carry_on r.cause module_language p r) ≡ true
+        → option_map cause_of result ≡ cause_by r.cause module_language p r }
+{
+    let cause = take_cause_of(plan);
+    put(plan, None);
+    cause
+}
+
+// Takes out why the plan under way is given up, where there is a plan and that is known.
+fn take_cause_of(plan: &mut Option<UnderWay>) -> Option<Cause>
+    ensures none { plan.old ≡ None → result ≡ None }
+    ensures some { (u : UnderWay) → plan.old ≡ Some u → (r : Runtime) (p : Plan) → IsUnderWay r p u
+        → is_aborted (carry_on r.cause module_language p r) ≡ true
+        → option_map cause_of result ≡ cause_by r.cause module_language p r }
+{
+    match plan {
+        Some(plan) => plan.take_cause(),
+        None => None,
     }
 }
 

@@ -1,27 +1,27 @@
 // A plan begins: a load, a reload or an update.
-ghost use Rattle.std.specs.Prelude.{◌≡◌, ◌∷◌, ◌++◌, false, List, map, IfOk, OnOk};
-ghost use Rattle.hmr_types.specs.declared.words.PlanKind.{PlanKind};
-ghost use Rattle.hmr_types.specs.declared.words.PlanKind.TheVariants.{Load};
+ghost use Rattle.std.specs.Prelude.{◌≡◌, ◌∷◌, ◌++◌, [], true, false, Bool, Some, map, IfOk, OnOk};
+ghost use Rattle.hmr_types.specs.declared.words.PlanKind.TheVariants.{Update};
 ghost use Rattle.output_lines.specs.declared.out_line.OutLine.TheVariants as line;
-ghost use Rattle.core_model.specs.Names.{Name, in_order};
+ghost use Rattle.core_model.specs.Names.{in_order};
 ghost use Rattle.core_model.specs.Page.{new_plan};
 ghost use Rattle.client_model.specs.Answering.{begin, connect, pair_of, start_reload};
 ghost use Rattle.client_model.specs.Answering.{start_update, write_batch};
 ghost use Rattle.client_model.specs.Runtime.{Runtime, and_then};
-ghost use Rattle.page_plan.specs.Plans.{IsSamePlan};
 ghost use Rattle.plan_under_way.specs.Telling.{accept_lines, batch_lines};
+ghost use Rattle.plan_under_way.specs.declared.under_way.UnderWay.{UnderWay};
+ghost use Rattle.plan_under_way.specs.Whole.{IsWhole};
 ghost use Rattle.hot_runtime.specs.Becoming.{Becomes};
-ghost use Rattle.hot_runtime.specs.Standing.{IsSound, Keeps, KeepsWords};
+ghost use Rattle.hot_runtime.specs.Standing.{IsPlan, IsPlannedWell, IsSound, Keeps, KeepsWords};
 
 use crate::runtime::HotRuntime;
 use const_eval::Ran;
 use hmr_types::{ClientId, ModName, PlanKind, ReloadCause, Sequence};
+use module_graph::View;
 use output_lines::OutLine;
-use page_plan::{Plan, Walker};
-use plan_under_way::{UnderWay, batch_lines, in_order, next_of, pairs_of, tell_accepts};
+use page_plan::Plan;
+use plan_under_way::{UnderWay, batch_lines, begun, in_order, put, tell_accepts, update_begun};
 use retained_data::Bag;
 use std::alloc::{AllocError, Global};
-use std::collections::BTreeMap;
 use update_msgs::JsUpdate;
 
 impl<F: FnOnce(Bag) -> Result<Ran, AllocError> + Drop> HotRuntime<F> {
@@ -38,10 +38,12 @@ impl<F: FnOnce(Bag) -> Result<Ran, AllocError> + Drop> HotRuntime<F> {
         ensures stopped { self.new.stopped ≡ self.old.stopped }
     {
         let alloc = self.allocator();
-        self.plan = None;
+        let load = Plan::new(alloc, PlanKind::Load);
+        let plan = begun(alloc, roots.as_slice(), &self.view, load)?;
+        put(&mut self.plan, Some(plan));
+        put(&mut self.roots, roots);
         self.page.client = client;
-        self.roots = roots;
-        self.begin(Plan::new(alloc, PlanKind::Load), Vec::new(alloc))?;
+        self.whole = false;
         Ok(Vec::new(alloc))
     }
 
@@ -62,13 +64,10 @@ impl<F: FnOnce(Bag) -> Result<Ran, AllocError> + Drop> HotRuntime<F> {
     {
         let alloc = self.allocator();
         let client = self.page.client;
-        let mut lines = batch_lines(alloc, client, batch, triggered)?;
-        lines.push(OutLine::Reload {
-            client,
-            cause,
-            path,
-        })?;
-        self.begin(Plan::new(alloc, PlanKind::Reload), Vec::new(alloc))?;
+        let reload = Plan::new(alloc, PlanKind::Reload);
+        let plan = begun(alloc, self.roots.as_slice(), &self.view, reload)?;
+        put(&mut self.plan, Some(plan));
+        let lines = reload_lines(alloc, client, cause, path, batch, triggered)?;
         Ok(lines)
     }
 
@@ -89,36 +88,87 @@ impl<F: FnOnce(Bag) -> Result<Ran, AllocError> + Drop> HotRuntime<F> {
     {
         let alloc = self.allocator();
         let client = self.page.client;
-        let pairs = pairs_of(alloc, updates.as_slice())?;
-        let plan = Plan::update(alloc, replaced.as_slice())?;
-        let lines = update_lines(alloc, client, batch, triggered, replaced, &pairs)?;
-        self.begin(plan, pairs)?;
+        let roots = self.roots.as_slice();
+        let whole = self.whole;
+        let lines = update_started(
+            &mut self.plan,
+            alloc,
+            client,
+            roots,
+            &self.view,
+            whole,
+            replaced,
+            updates,
+            batch,
+            triggered,
+        )?;
         Ok(lines)
     }
+}
 
-    // A plan begins: nothing is fetched, and no cause is found.
-    fn begin(&mut self, plan: Plan, pairs: Vec<(ModName, ModName)>) -> Result<(), AllocError>
-        ensures begins { (r : Runtime) (kind : PlanKind) (replaced : List Name) → Keeps r self.old
-            → IsSamePlan (new_plan kind replaced) plan
-            → OnOk result (Keeps (begin kind replaced pairs.items r) self.new) }
-        ensures sound { (kind : PlanKind) (replaced : List Name) → IsSamePlan (new_plan kind replaced) plan
-            → (kind ≡ Load → self.old.loaded ≡ false) → IsSound self.old → OnOk result (IsSound self.new) }
-        ensures rest { self.new ≡ record self.old { plan = self.new.plan } }
-    {
-        let alloc = self.allocator();
-        let trees = BTreeMap::new(alloc);
-        let mut walker = Walker::new(alloc, self.roots.as_slice())?;
-        let next = next_of(alloc, &self.view, &plan, &trees, &mut walker)?;
-        self.plan = Some(UnderWay {
-            plan,
-            walker,
-            next,
-            trees,
-            pairs,
-            cause: None,
-        });
-        Ok(())
+// An update of a page of these roots and modules begins, and is put in place of the plan that is there; it
+// may be known that the modules are exactly those that the roots reach. Tells its lines.
+fn update_started(
+    plan: &mut Option<UnderWay>,
+    alloc: Global,
+    client: ClientId,
+    roots: &[ModName],
+    view: &View,
+    whole: bool,
+    replaced: Sequence<ModName>,
+    updates: Sequence<JsUpdate>,
+    batch: u64,
+    triggered: Sequence<ModName>,
+) -> Result<Vec<OutLine>, AllocError>
+    ensures under_way { (r : Runtime) → r.roots ≡ roots.now → r.page.view ≡ view.now
+        → (whole ≡ true → IsWhole roots.now view.now)
+        → OnOk result (IsPlan (begin Update replaced (map pair_of updates) r)
+        (Some (new_plan Update replaced)) plan.new) }
+    ensures planned { (loaded : Bool) → OnOk result (IsPlannedWell loaded plan.new) }
+    ensures lines { IfOk result (λ lines. lines.items ≡ batch_lines client batch triggered
+        ++ line.Update client (in_order replaced) ∷ accept_lines client (map pair_of updates)) }
+{
+    let begun = update_begun(
+        alloc,
+        roots,
+        view,
+        whole,
+        replaced.as_slice(),
+        updates.as_slice(),
+    )?;
+    put(plan, Some(begun));
+    update_lines(alloc, client, batch, triggered, replaced, pairs_in(plan))
+}
+
+// The boundaries of the plan under way; where there is no plan, none.
+fn pairs_in(plan: &Option<UnderWay>) -> &[(ModName, ModName)]
+    ensures { (u : UnderWay) → plan.now ≡ Some u → result.now ≡ u.pairs.items }
+{
+    match plan {
+        Some(plan) => plan.pairs.as_slice(),
+        None => &[],
     }
+}
+
+// The lines of a reload: that of its batch, where it has one, and its own.
+fn reload_lines(
+    alloc: Global,
+    client: ClientId,
+    cause: ReloadCause,
+    path: Sequence<ModName>,
+    batch: u64,
+    triggered: Sequence<ModName>,
+) -> Result<Vec<OutLine>, AllocError>
+    ensures { IfOk result (λ lines. lines.items ≡ batch_lines client batch triggered
+        ++ line.Reload client cause path ∷ []) }
+{
+    let mut lines = batch_lines(alloc, client, batch, triggered)?;
+    lines.push(OutLine::Reload {
+        client,
+        cause,
+        path,
+    })?;
+    Ok(lines)
 }
 
 // The lines of an update: that of its batch, where it has one, its own, and that of each boundary.

@@ -6,7 +6,7 @@ ghost use Rattle.client_model.specs.Expecting.{answer_place, is_answer, request_
 use hmr_types::ModName;
 use update_msgs::{ClientMsg, ServerMsg};
 
-/// Whether the message answers the request, of a page that is loaded or not. It takes no memory.
+/// Whether the message answers the request, of a page that is loaded or not.
 pub(crate) fn is_answer(loaded: bool, asked: &ClientMsg, msg: &ServerMsg) -> bool
     ensures { result ≡ is_answer loaded asked.now msg.now }
 {
@@ -55,14 +55,14 @@ fn answers_fetch(asked: &ModName, msg: &ServerMsg) -> bool
     }
 }
 
-/// Whether what was told is taken note of. It takes no memory.
+/// Whether what was told is taken note of.
 pub(crate) fn is_done(msg: &ServerMsg) -> bool
     ensures { result ≡ answers_told (λ code. false) msg.now }
 {
     matches!(msg, ServerMsg::Done)
 }
 
-/// Whether what was told is taken note of, or refused. It takes no memory.
+/// Whether what was told is taken note of, or refused.
 pub(crate) fn is_note(msg: &ServerMsg) -> bool
     ensures { result ≡ answers_told (λ code. true) msg.now }
 {
@@ -83,7 +83,7 @@ fn answers_invalidate(msg: &ServerMsg) -> bool
     }
 }
 
-/// The place of a request in the table of requests, from 1. It takes no memory.
+/// The place of a request in the table of requests, from 1.
 pub(crate) fn request_place(asked: &ClientMsg) -> u8
     ensures { result ≡ request_place asked.now }
 {
@@ -98,7 +98,7 @@ pub(crate) fn request_place(asked: &ClientMsg) -> u8
     }
 }
 
-/// The place of an answer in the table of answers, from 1. It takes no memory.
+/// The place of an answer in the table of answers, from 1.
 pub(crate) fn answer_place(msg: &ServerMsg) -> u8
     ensures { result ≡ answer_place msg.now }
 {

@@ -8,8 +8,8 @@ pub enum RuntimeFault {
     Unexpected { wanted: u8, got: u8 },
     /// The plan would make more than 20,000 instances. Nothing was run, and the runtime is stopped.
     InstancesFull,
-    /// The runtime was stopped, by `InstancesFull` or by want of memory. Nothing has changed.
+    /// The runtime was stopped, by `InstancesFull` or since memory ran out. Nothing has changed.
     Stopped,
-    /// There is no memory. The runtime is stopped, and of no more use.
+    /// Memory ran out. The runtime is stopped, and can't be used any more.
     NoMemory,
 }

@@ -1,6 +1,6 @@
 // A text came for the plan under way: it is staged, and the plan goes on from where it stood; or it can't be
 // read, and the plan can't be carried out.
-ghost use Rattle.std.specs.Prelude.{◌≡◌, ◌≤◌, true, length, IfOk};
+ghost use Rattle.std.specs.Prelude.{◌≡◌, ◌≤◌, true, length, Some, None, IfOk, OnOk};
 ghost use Rattle.update_msgs.specs.Writable.{IsVersion};
 ghost use Rattle.update_msgs.specs.declared.message.ServerMsg.TheVariants as msg;
 ghost use Rattle.client_model.specs.Answering.{stage_in};
@@ -8,15 +8,19 @@ ghost use Rattle.client_model.specs.Expecting.{is_answer};
 ghost use Rattle.client_model.specs.Requesting.{request};
 ghost use Rattle.client_model.specs.Runtime.{Runtime};
 ghost use Rattle.module_language.specs.ModuleLanguage.{module_language};
+ghost use Rattle.plan_under_way.specs.declared.under_way.UnderWay.{UnderWay};
 ghost use Rattle.hot_runtime.specs.Becoming.{Becomes};
+ghost use Rattle.hot_runtime.specs.Fetching.{IsStagedIn};
 ghost use Rattle.hot_runtime.specs.Standing.{IsSound, Keeps};
 
 use crate::runtime::HotRuntime;
 use const_eval::Ran;
 use hmr_types::{ModName, Text, Ver};
+use module_graph::View;
 use output_lines::OutLine;
+use plan_under_way::UnderWay;
 use retained_data::Bag;
-use std::alloc::AllocError;
+use std::alloc::{AllocError, Global};
 
 impl<F: FnOnce(Bag) -> Result<Ran, AllocError> + Drop> HotRuntime<F> {
     /// The text of the module that was asked for came. It takes time linear in the text, and that of what
@@ -36,13 +40,38 @@ impl<F: FnOnce(Bag) -> Result<Ran, AllocError> + Drop> HotRuntime<F> {
         ensures rest { self.new ≡ record self.old { plan = self.new.plan } }
     {
         let alloc = self.allocator();
-        match self.plan.take() {
-            Some(plan) => {
-                let plan = plan.fetched(alloc, &self.view, name, version, text)?;
-                self.plan = Some(plan);
-                Ok(Vec::new(alloc))
-            }
-            None => Ok(Vec::new(alloc)),
-        }
+        let roots = self.roots.as_slice();
+        stage_for(
+            &mut self.plan,
+            alloc,
+            roots,
+            &self.view,
+            &name,
+            version,
+            &text,
+        )?;
+        Ok(Vec::new(alloc))
+    }
+}
+
+// The text of the module that the plan under way asked for, over a page of these roots and modules. With no
+// plan under way it is of no account.
+fn stage_for(
+    plan: &mut Option<UnderWay>,
+    alloc: Global,
+    roots: &[ModName],
+    view: &View,
+    name: &ModName,
+    version: Ver,
+    text: &Text,
+) -> Result<(), AllocError>
+    requires short { length text.now ≤ 4294967294 }
+    ensures none { plan.old ≡ None → OnOk result (plan.new ≡ None) }
+    ensures staged { (u : UnderWay) → plan.old ≡ Some u
+        → OnOk result (IsStagedIn u roots.now view.now name.now version text.now plan.new) }
+{
+    match plan {
+        Some(plan) => plan.fetched(alloc, roots, view, name, version, text),
+        None => Ok(()),
     }
 }

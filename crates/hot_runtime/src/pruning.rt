@@ -35,6 +35,7 @@ impl<F: FnOnce(Bag) -> Result<Ran, AllocError> + Drop> HotRuntime<F> {
         let mut lines = Vec::new(alloc);
         self.page.prune_all(alloc, names, &mut lines)?;
         self.view.drop_names(names);
+        self.whole = false;
         drop_forced(&mut self.forced, names);
         Ok(lines)
     }

@@ -5,10 +5,11 @@ ghost use Rattle.update_msgs.specs.Writable.{IsFormat, IsSayable, IsVersion};
 ghost use Rattle.update_msgs.specs.declared.message.ClientMsg.TheVariants.{Hello};
 ghost use Rattle.client_model.specs.Past.{Past, runtime_after};
 ghost use Rattle.client_model.specs.Requesting.{ask_or_invalidate, request};
-ghost use Rattle.client_model.specs.Runtime.{Opening};
+ghost use Rattle.client_model.specs.Runtime.{Opening, Runtime};
 ghost use Rattle.module_language.specs.ModuleLanguage.{module_language};
 ghost use Rattle.page_deeds.specs.Standing.{invalidation_as};
-ghost use Rattle.hot_runtime.specs.Standing.{StandsFor};
+ghost use Rattle.plan_under_way.specs.UnderWay.{untold};
+ghost use Rattle.hot_runtime.specs.Standing.{Keeps, StandsFor};
 
 use crate::runtime::HotRuntime;
 use hmr_types::{Sequence, Text};
@@ -30,7 +31,21 @@ impl<F> HotRuntime<F> {
             return self.hello();
         }
         match &self.plan {
-            Some(plan) => plan.request(self.allocator()),
+            Some(plan) => plan.request(self.allocator(), &self.view),
+            None => ask_or_invalidate(&self.page.unsent),
+        }
+    }
+
+    /// The request that stands, but that where a plan is applied no modules are told.
+    pub(crate) fn asked(&self) -> Result<ClientMsg, AllocError>
+        ensures { (r : Runtime) → Keeps r self.now
+            → IfOk result (λ asked. asked ≡ untold (request module_language r)) }
+    {
+        if self.page.client == 0 {
+            return self.hello();
+        }
+        match &self.plan {
+            Some(plan) => plan.asked(self.allocator()),
             None => ask_or_invalidate(&self.page.unsent),
         }
     }

@@ -29,6 +29,8 @@ pub struct HotRuntime<F> {
     pub(crate) roots: Sequence<ModName>,
     pub(crate) loaded: bool,
     pub(crate) view: View,
+    // that the view's modules are exactly those that the roots reach; it may be false where they are
+    pub(crate) whole: bool,
     pub(crate) forced: Vec<ModName>,
     pub(crate) plan: Option<UnderWay>,
     pub(crate) page: Page<F>,
@@ -37,7 +39,7 @@ pub struct HotRuntime<F> {
 
 impl<F: FnOnce(Bag) -> Result<Ran, AllocError> + Drop> HotRuntime<F> {
     /// A runtime that took no message yet: with these closures of the embedding program, these roots of
-    /// its page, where with none the page has the server's, and a format, 1 or 2. It takes no memory.
+    /// its page, where with none the page has the server's, and a format, 1 or 2.
     pub fn new(alloc: Global, shelf: Shelf<F>, roots: Vec<ModName>, format: u8) -> HotRuntime<F>
         requires format { IsFormat format }
         requires hosts { All (IsHost F.post) shelf }
@@ -54,6 +56,7 @@ impl<F: FnOnce(Bag) -> Result<Ran, AllocError> + Drop> HotRuntime<F> {
             roots: Sequence::new(alloc),
             loaded: false,
             view: View::new(alloc),
+            whole: false,
             forced: Vec::new(alloc),
             plan: None,
             page: Page::new(alloc, shelf),
@@ -63,12 +66,12 @@ impl<F: FnOnce(Bag) -> Result<Ran, AllocError> + Drop> HotRuntime<F> {
 }
 
 impl<F> HotRuntime<F> {
-    /// The allocator. It takes no memory.
+    /// The allocator.
     pub(crate) fn allocator(&self) -> Global {
         self.alloc
     }
 
-    /// The number that the last `connected` gave, 0 before any. It takes no memory.
+    /// The number that the last `connected` gave, 0 before any.
     pub fn client(&self) -> ClientId
         ensures { (opening : Opening) (past : Past) → StandsFor opening past self.now
             → result ≡ (runtime_after module_language opening past).client }
@@ -76,14 +79,14 @@ impl<F> HotRuntime<F> {
         self.page.client
     }
 
-    /// The format that the runtime speaks, 1 or 2. It takes no memory.
+    /// The format that the runtime speaks, 1 or 2.
     pub fn format(&self) -> u8
         ensures { result ≡ self.now.format }
     {
         self.format
     }
 
-    /// Whether the runtime has nothing under way and nothing to tell. It takes no memory.
+    /// Whether the runtime has nothing under way and nothing to tell.
     pub fn at_rest(&self) -> bool
         ensures { (opening : Opening) (past : Past) → StandsFor opening past self.now
             → result ≡ is_at_rest (runtime_after module_language opening past) }
@@ -93,7 +96,7 @@ impl<F> HotRuntime<F> {
 }
 
 impl<F: Drop> HotRuntime<F> {
-    /// Gives the runtime up, and discards the handlers and closures that are left. It takes no memory.
+    /// Gives the runtime up, and discards the handlers and closures that are left.
     pub fn end(self) {
         drop(self);
     }
@@ -108,6 +111,7 @@ impl<F: Drop> Drop for HotRuntime<F> {
             roots: _,
             loaded: _,
             view: _,
+            whole: _,
             forced: _,
             plan: _,
             page,

@@ -20,7 +20,7 @@ use std::alloc::AllocError;
 impl<F> HotRuntime<F> {
     /// The modules of the page with their versions, rising by name. It takes time in proportion to the
     /// modules. A view that is no table, which no message that can be written brings about, is answered as
-    /// want of memory is.
+    /// out of memory is.
     pub fn table(&self) -> Result<Table, AllocError>
         ensures { (opening : Opening) (past : Past) → StandsFor opening past self.now
             → IfOk result (λ shown. shown ≡ table (runtime_after module_language opening past)) }

@@ -7,7 +7,7 @@ ghost use Rattle.client_model.specs.Requesting.{request};
 ghost use Rattle.client_model.specs.Runtime.{Opening, Runtime};
 ghost use Rattle.client_model.specs.Taking.{is_applied, is_too_many, made_by_plan, take};
 ghost use Rattle.module_language.specs.ModuleLanguage.{module_language};
-ghost use Rattle.plan_under_way.specs.UnderWay.{is_applied_told};
+ghost use Rattle.plan_under_way.specs.UnderWay.{is_applied_told, untold};
 ghost use Rattle.hot_runtime.specs.declared.fault.RuntimeFault.TheVariants.{Stopped};
 ghost use Rattle.hot_runtime.specs.Answers.{IsTaken, OnRefusal, OnStop, UnlessNoMemory};
 ghost use Rattle.hot_runtime.specs.Becoming.{IsTaking};
@@ -47,7 +47,7 @@ impl<F: FnOnce(Bag) -> Result<Ran, AllocError> + Drop> HotRuntime<F> {
         if self.stopped {
             return Err(RuntimeFault::Stopped);
         }
-        match self.request() {
+        match self.asked() {
             Ok(asked) => self.take_answer(asked, msg),
             Err(_) => {
                 self.stopped = true;
@@ -56,7 +56,7 @@ impl<F: FnOnce(Bag) -> Result<Ran, AllocError> + Drop> HotRuntime<F> {
         }
     }
 
-    // Takes the answer to this request.
+    // Takes the answer to this request, which tells no modules.
     fn take_answer(
         &mut self,
         asked: ClientMsg,
@@ -67,7 +67,7 @@ impl<F: FnOnce(Bag) -> Result<Ran, AllocError> + Drop> HotRuntime<F> {
         requires callable { (f : F) → F.IsAlwaysCallable f }
         requires words { KeepsWords F.post self.old }
         ensures takes { (r : Runtime) → Keeps r self.old → IsSound self.old
-            → request module_language r ≡ asked → IsTaking (take module_language r msg) self.new result }
+            → untold (request module_language r) ≡ asked → IsTaking (take module_language r msg) self.new result }
         ensures running { IfErr result (λ fault. fault ≢ Stopped) }
         ensures stops { OnStop (self.new.stopped ≡ true) result }
         ensures unchanged { OnRefusal (self.new ≡ self.old) result }
@@ -96,7 +96,7 @@ impl<F: FnOnce(Bag) -> Result<Ran, AllocError> + Drop> HotRuntime<F> {
     // Whether the answer is one at which a plan is applied, and that would make more instances than a client
     // may have.
     fn overfills(&self, asked: &ClientMsg, msg: &ServerMsg) -> bool
-        ensures many { (r : Runtime) → Keeps r self.now → request module_language r ≡ asked.now
+        ensures many { (r : Runtime) → Keeps r self.now → untold (request module_language r) ≡ asked.now
             → result ≡ is_too_many asked.now msg.now r }
         ensures room { result ≡ false → is_applied asked.now msg.now ≡ true → HasRoom self.now }
     {

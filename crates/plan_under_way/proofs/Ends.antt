@@ -1,5 +1,5 @@
 -- What carries a plan on, against what its client tells.
-use Rattle.std.proofs.Common.{◌≡◌, true, false, refl, ap, sym, ◌∙◌, length}
+use Rattle.std.proofs.Common.{◌≡◌, Bool, true, false, refl, ap, sym, ◌∙◌, length}
 use Rattle.std.specs.Prelude.{Option, Some, None}
 use Rattle.std.specs.Option.{option_map}
 use Rattle.std.proofs.Math.Path.{subst}
@@ -11,7 +11,7 @@ use Rattle.client_model.specs.Requesting.{abort_message, carry_on, cause_by, fet
 use Rattle.client_model.specs.Runtime as model
 use Rattle.client_model.specs.Runtime.{Runtime}
 use Rattle.module_language.specs.ModuleLanguage.{module_language}
-use Rattle.plan_under_way.specs.UnderWay.{IsNext, IsReady, IsUnderWay, cause_of, is_aborted, is_applied_told}
+use Rattle.plan_under_way.specs.UnderWay.{IsNext, IsReady, IsUnderWay, cause_of, is_aborted, is_applied_told, untold}
 use Rattle.plan_under_way.specs.declared.cause.Cause.{Cause}
 use Rattle.plan_under_way.specs.declared.under_way.Next.{Next}
 use Rattle.plan_under_way.specs.declared.under_way.Next.TheVariants.{Fetch, Finish}
@@ -51,3 +51,24 @@ pub cause_left : (u : UnderWay) (found : Option Cause) → u.cause ≡ None → 
 cause_left u found is r p i ends t =
     let none : r.cause ≡ None = i.cause ∙ ap (option_map cause_of) is in
     ends i.next (sym (ap (λ o. is_aborted (carry_on o module_language p r)) none) ∙ t) ∙ ap (λ o. cause_by o module_language p r) (sym none)
+
+-- what ends a plan is one thing
+abbrev finish_of : Next → Ready → Ready
+finish_of (Fetch n) other = other
+finish_of (Finish ready) other = ready
+
+pub same_finish : (a b : Ready) → Finish a ≡ Finish b → a ≡ b
+same_finish a b e = ap (λ next. finish_of next a) e
+
+abbrev is_fetch : Next → Bool
+is_fetch (Fetch n) = true
+is_fetch (Finish ready) = false
+
+pub fetch_not_finish : (n : Name) (ready : Ready) → Fetch n ≡ Finish ready → {X : Type 0} → X
+fetch_not_finish n ready e = absurd (false≢true (sym (ap is_fetch e)))
+
+-- a message that a plan was given up tells no modules
+pub untold_abort : (cause : model.Cause) → abort_message cause ≡ untold (abort_message cause)
+untold_abort (model.missing n) = refl
+untold_abort (model.broken n) = refl
+untold_abort (model.unlinked n m x) = refl

@@ -12,5 +12,9 @@ pub mod Gathering
 pub mod Orders
 pub mod Making
 pub mod Paging
+pub mod Renewal
+pub mod Reached
+pub mod Alone
+pub mod Foreseen
 pub mod Applied
 pub mod Altering

@@ -21,7 +21,7 @@ use Rattle.plan_under_way.specs.Changing.{AreCountedIn}
 use Rattle.plan_under_way.specs.Planned.{AreCounted}
 
 -- the walk leaves what is met
-met_left : (roots : List Name) (p : Plan) (view : View) (n : Name) → has (met_of roots p view) n ≡ has (evaluation_order roots p view) n
+pub met_left : (roots : List Name) (p : Plan) (view : View) (n : Name) → has (met_of roots p view) n ≡ has (evaluation_order roots p view) n
 met_left roots p view n = sym (sorted_has (met_of roots p view) n) ∙ ap (λ ns. has ns n) (sym (left_met roots p view)) ∙ sorted_has (evaluation_order roots p view) n
 
 some_of : (o : Option Entry) → (is_none o ≡ true → false ≡ true) → is_some o ≡ true
@@ -29,7 +29,7 @@ some_of None f = f refl
 some_of (Some e) f = refl
 
 -- where nothing is needed each module of the walk has an entry
-left_there : (p : Plan) (r : Runtime) → next_needed p r ≡ None → (n : Name) → has (evaluation_order r.roots p r.page.view) n ≡ true → is_some (entry_at p r.page.view n) ≡ true
+pub left_there : (p : Plan) (r : Runtime) → next_needed p r ≡ None → (n : Name) → has (evaluation_order r.roots p r.page.view) n ≡ true → is_some (entry_at p r.page.view n) ≡ true
 left_there p r none n h = some_of (entry_at p r.page.view n)
     (λ e. ap (λ ns. has ns n) (sym (none_first (filter (λ m. is_none (entry_at p r.page.view m)) (fetch_order r.roots p r.page.view)) none))
     ∙ filtered_in (λ m. is_none (entry_at p r.page.view m)) (fetch_order r.roots p r.page.view) n e (orders_agree r.roots p r.page.view n ∙ h))

@@ -19,8 +19,9 @@ use std::alloc::{AllocError, Global};
 use std::collections::BTreeMap;
 
 /// The numbers that new instances of these names get, one after another behind those of the page. It takes
-/// time in proportion to the names, each with the logarithm of their number. Only want of memory refuses.
-pub fn numbers_of<F>(
+/// time in proportion to the names, each with the logarithm of their number. It fails only where memory
+/// runs out.
+pub(crate) fn numbers_of<F>(
     alloc: Global,
     page: &Page<F>,
     names: &[ModName],
@@ -35,25 +36,24 @@ pub fn numbers_of<F>(
 }
 
 /// What the new instances of these names are made from, in order: their entries in the plan, the trees of
-/// their texts, and their links. Want of memory refuses; a name without an entry or a tree, of which there
-/// is none once all is fetched, is answered as that is. It takes time in proportion to the names and their
-/// imports, each with the logarithm of the number of modules.
-pub fn births_of(
+/// their texts, which are taken out of these trees, and their links. It fails where memory runs out; a name
+/// without an entry or a tree, of which there is none once all is fetched, is answered as that is. It takes
+/// time in proportion to the names and their imports, each with the logarithm of the number of modules.
+pub(crate) fn births_of(
     alloc: Global,
     plan: &Plan,
     view: &View,
     numbers: &Numbers,
     live: &LiveNumbers,
-    trees: BTreeMap<ModName, Module>,
+    trees: &mut BTreeMap<ModName, Module>,
     names: &[ModName],
 ) -> Result<Vec<Birth>, AllocError>
     ensures { IfOk result (λ births. AllZip
-        (IsMadeOf plan.now view.now numbers.now live.now trees.entries) names.now births.items) }
+        (IsMadeOf plan.now view.now numbers.now live.now trees.old.entries) names.now births.items) }
 {
-    let mut trees = trees;
     let mut births = Vec::new(alloc);
     for name in names {
-        let birth = birth_of(alloc, plan, view, numbers, live, &mut trees, name)?;
+        let birth = birth_of(alloc, plan, view, numbers, live, trees, name)?;
         births.push(birth)?;
     }
     Ok(births)

@@ -20,7 +20,8 @@ pub enum Cause {
     Unlinked(ModName, ModName, Name),
 }
 
-/// The message that a plan was given up for this cause. It can be written. Only want of memory refuses.
+/// The message that a plan was given up for this cause. It can be written. It fails only where memory
+/// runs out.
 pub(crate) fn abort_message(cause: &Cause) -> Result<ClientMsg, AllocError>
     ensures message { IfOk result (λ asked. asked ≡ abort_message (cause_of cause.now)) }
     ensures sayable { IfOk result IsSayable }

@@ -45,8 +45,9 @@ pub struct Update {
 
 /// What a plan does with the instances that are there, where these names get new instances of these numbers,
 /// an update tells these boundaries, and these names are forced. It takes time in proportion to the names
-/// and to the boundaries, each with the logarithm of the number of names. Only want of memory refuses.
-pub fn change_of<F>(
+/// and to the boundaries, each with the logarithm of the number of names. It fails only where memory runs
+/// out.
+pub(crate) fn change_of<F>(
     alloc: Global,
     page: &Page<F>,
     plan: &Plan,
@@ -122,8 +123,8 @@ fn add_replaced(set: &mut NameSet, plan: &Plan, name: &ModName) -> Result<(), Al
 
 /// The page becomes what a plan makes of it: old instances end, the new ones are made, and boundaries are
 /// told. Adds the lines. It takes time in proportion to the number of instances, to the trees of the new
-/// ones, and to what their evaluations and the handlers do. Only want of memory refuses; the page is then of
-/// no more use.
+/// ones, and to what their evaluations and the handlers do. It fails only where memory runs out; the page
+/// can't be used then.
 pub fn change_page<F: FnOnce(Bag) -> Result<Ran, AllocError> + Drop>(
     page: &mut Page<F>,
     alloc: Global,

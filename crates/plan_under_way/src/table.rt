@@ -6,9 +6,9 @@ use hmr_types::{ModName, Table, Ver};
 use module_graph::{View, copy_name};
 use std::alloc::{AllocError, Global};
 
-/// The table of a view: its modules with their versions. It takes time in proportion to the modules. Want of
-/// memory refuses; a view that is no table, which no message that can be written brings about, is answered
-/// as that is.
+/// The table of a view: its modules with their versions. It takes time in proportion to the modules. It
+/// fails where memory runs out; a view that is no table, which no message that can be written brings about,
+/// is answered as that is.
 pub fn table_of(alloc: Global, view: &View) -> Result<Table, AllocError>
     ensures { IfOk result (λ table. table ≡ table_of view.now) }
 {

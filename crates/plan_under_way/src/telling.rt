@@ -10,7 +10,7 @@ use output_lines::OutLine;
 use std::alloc::{AllocError, Global};
 use update_msgs::JsUpdate;
 
-/// A list of one line. Only want of memory refuses.
+/// A list of one line. It fails only where memory runs out.
 pub fn one_line(alloc: Global, line: OutLine) -> Result<Vec<OutLine>, AllocError>
     ensures { IfOk result (λ lines. lines.items ≡ line ∷ []) }
 {
@@ -20,7 +20,7 @@ pub fn one_line(alloc: Global, line: OutLine) -> Result<Vec<OutLine>, AllocError
 }
 
 /// The lines of a batch: one, with the names in order, and none where the batch is 0. It takes the time of a
-/// sort; only want of memory refuses.
+/// sort; it fails only where memory runs out.
 pub fn batch_lines(
     alloc: Global,
     client: ClientId,
@@ -43,7 +43,8 @@ pub fn batch_lines(
     )
 }
 
-/// The names in order; a repeated one stays. It takes the time of a sort; only want of memory refuses.
+/// The names in order; a repeated one stays. It takes the time of a sort; it fails only where memory runs
+/// out.
 pub fn in_order(names: Sequence<ModName>) -> Result<Sequence<ModName>, AllocError>
     ensures { IfOk result (λ sorted. sorted ≡ in_order names) }
 {
@@ -52,8 +53,8 @@ pub fn in_order(names: Sequence<ModName>) -> Result<Sequence<ModName>, AllocErro
     Ok(Sequence::from_vec(names))
 }
 
-/// Adds the line of each boundary, in order. It takes time in proportion to them. Only want of memory
-/// refuses; some of the lines are then added.
+/// Adds the line of each boundary, in order. It takes time in proportion to them. It fails only where memory
+/// runs out; some of the lines are then added.
 pub fn tell_accepts(
     lines: &mut Vec<OutLine>,
     client: ClientId,
@@ -72,8 +73,11 @@ pub fn tell_accepts(
 }
 
 /// The boundaries of an update, each with the module that it is told of, in order. It takes time in
-/// proportion to them. Only want of memory refuses.
-pub fn pairs_of(alloc: Global, updates: &[JsUpdate]) -> Result<Vec<(ModName, ModName)>, AllocError>
+/// proportion to them. It fails only where memory runs out.
+pub(crate) fn pairs_of(
+    alloc: Global,
+    updates: &[JsUpdate],
+) -> Result<Vec<(ModName, ModName)>, AllocError>
     ensures { IfOk result (λ pairs. pairs.items ≡ map pair_of updates.now) }
 {
     let mut pairs = Vec::new(alloc);

@@ -1,21 +1,23 @@
-use Rattle.std.proofs.Common.{IfOk, sym, ◌∙◌}
+use Rattle.std.proofs.Common.{ap, ◌∙◌}
+use Rattle.std.specs.Global.{Vec}
 use Rattle.std.proofs.Math.Path.{subst}
-use Rattle.hot_runtime.specs.Applying.{planless}
-use Rattle.hot_runtime.specs.Becoming.{Becomes}
-use Rattle.hot_runtime.specs.Standing.{IsSound, Keeps}
-use Rattle.hot_runtime.proofs.Finishing.{none_applied, room_of, some_applied}
-use Rattle.hot_runtime.proofs.Keeping.{with_under_way}
+use Rattle.core_model.specs.Names.{Name}
+use Rattle.hot_runtime.specs.Applying.{IsTurned}
+use Rattle.hot_runtime.proofs.Finishing.{found_applied, none_found, room_is}
 use Rattle.hot_runtime.proofs.runtime.HotRuntime.apply.Goals as goal
 
-pub carry_out-requires-clause-room : goal.carry_out-requires-clause-room
-carry_out-requires-clause-room g c = room_of c.args.self.now c.in-Some.plan c.requires.room (sym c.take.ensures.value ∙ c.in-Some.is)
+pub turned-requires : goal.turned-requires
+turned-requires g c = room_is c.args.self.now c.requires.room
 
-pub returns-in-Some-clause-becomes : goal.returns-in-Some-clause-becomes
-returns-in-Some-clause-becomes g c = λ r k s t.
-    some_applied (λ did. IfOk c.carry_out.result (λ lines. Becomes did c.carry_out.new.self lines.items)) r c.args.self.now c.in-Some.plan k s (sym c.take.ensures.value ∙ c.in-Some.is) t
-    (λ p kept sound i planned is. c.carry_out.ensures.becomes r p
-    (subst (λ plan. Keeps (planless r) (with_under_way c.args.self.now plan)) (sym c.take.ensures.after) kept)
-    (subst (λ plan. IsSound (with_under_way c.args.self.now plan)) (sym c.take.ensures.after) sound) i planned is t)
+pub returns-in_ok-lines-in-Some-clause-becomes : goal.returns-in_ok-lines-in-Some-clause-becomes
+returns-in_ok-lines-in-Some-clause-becomes g c = λ r k s t.
+    let h = c.args.self.now in
+    found_applied r h c.in-Some.found c.apply_to.new.page c.turned.new.view c.as_slice-forced.result.now c.put-in-Some.new.place c.put.new.place c.in_ok-lines-in-Some.lines.items k s t
+    (λ u f. subst (IsTurned u h.page h.view c.turned.new.view c.as_slice-forced.result.now) c.in-Some.is (c.in_ok-found.ensures.turned u f)) c.as_slice-forced.ensures.value
+    (λ p found. c.in_ok-lines-in-Some.ensures.applied r p k.page found) (ap (λ (names : Vec Name). names.items) c.put-in-Some.ensures ∙ c.new.ensures.items) c.put.ensures
 
 pub returns-in-None-clause-becomes : goal.returns-in-None-clause-becomes
-returns-in-None-clause-becomes g c = λ r k s t. absurd (none_applied r c.args.self.now k (sym c.take.ensures.value ∙ c.in-None.is) t)
+returns-in-None-clause-becomes g c = λ r k s t.
+    let h = c.args.self.now in
+    none_found r h c.turned.new.view c.as_slice-forced.result.now k s t
+    (λ u f. subst (IsTurned u h.page h.view c.turned.new.view c.as_slice-forced.result.now) c.in-None.is (c.in_ok-found.ensures.turned u f)) c.as_slice-forced.ensures.value

@@ -3,14 +3,13 @@ use Rattle.std.proofs.Math.Path.{subst}
 use Rattle.hmr_types.specs.declared.words.PlanKind.TheVariants.{Load}
 use Rattle.core_model.specs.Page.{new_plan}
 use Rattle.page_plan.specs.Plans.{IsSamePlan}
-use Rattle.hot_runtime.proofs.Started.{connect_becomes, numbered_keeps, numbered_run, numbered_sound}
+use Rattle.hot_runtime.proofs.Started.{connect_becomes, numbered_run}
 use Rattle.hot_runtime.proofs.runtime.HotRuntime.connect.Goals as goal
 
 pub returns-clause-becomes : goal.returns-clause-becomes
 returns-clause-becomes g c = λ r k s fresh.
-    let client = c.args.client in
-    let roots = c.args.roots in
-    let same : IsSamePlan (new_plan Load []) c.new.result = subst (IsSamePlan (new_plan Load [])) (sym c.new.ensures) (record { kind = refl; replaced = λ n. refl; staged = λ n. refl }) in
-    connect_becomes client roots _ r c.begin.new.self _ c.new-2.ensures.items c.new-3.ensures.items
-    (c.in_ok-begin.ensures.sound Load [] same (λ e. fresh) (numbered_sound client roots c.args.self.now fresh s))
-    (c.in_ok-begin.ensures.begins (numbered_run client roots r) Load [] (numbered_keeps client roots r c.args.self.now k) same)
+    let same : IsSamePlan (new_plan Load []) c.new-load.result = subst (IsSamePlan (new_plan Load [])) (sym c.new-load.ensures) (record { kind = refl; replaced = λ n. refl; staged = λ n. refl }) in
+    connect_becomes c.args.client c.args.roots _ r c.args.self.now c.in_ok-plan.plan _ _ k s fresh
+    (c.in_ok-plan.ensures.under_way (numbered_run c.args.client c.args.roots r) Load [] (sym c.as_slice.ensures) k.view same)
+    (c.in_ok-plan.ensures.planned Load [] c.args.self.now.loaded same (λ e. fresh))
+    c.put-2.ensures c.put.ensures c.new.ensures.items

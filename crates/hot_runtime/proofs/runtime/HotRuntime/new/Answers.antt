@@ -1,6 +1,8 @@
 use Rattle.std.proofs.Common.{arith, refl, sym, ap, ◌∙◌}
 use Rattle.std.proofs.lemmas.Option.{none-some}
-use Rattle.core_model.specs.Names.{at}
+use Rattle.core_model.specs.Names.{at, names_of, rising}
+use Rattle.core_model.specs.View.{View}
+use Rattle.std.proofs.lemmas.Bool.{false≢true}
 use Rattle.std.specs.List.{All}
 use Rattle.update_msgs.specs.Writable.{IsVersion}
 use Rattle.handler_table.specs.Held.{IsHost}
@@ -22,6 +24,8 @@ returns-clause-stands g c =
         on_page = λ n h. none_live c.new-4.result e.live n;
         unloaded = λ h n. none_live c.new-4.result e.live n;
         unnumbered = λ h. refl;
+        rises = ap (λ (view : View). rising (names_of view)) c.new-2.ensures;
+        whole = λ h. absurd (false≢true h);
       };
       keeps = record {
         format = refl;

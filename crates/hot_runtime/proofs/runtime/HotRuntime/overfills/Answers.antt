@@ -4,7 +4,10 @@ use Rattle.std.proofs.lemmas.Bool.{false≢true}
 use Rattle.hmr_types.specs.declared.limits.TheConstants.{INSTANCES}
 use Rattle.client_model.specs.Taking.{is_applied, made_by_plan}
 use Rattle.plan_under_way.specs.UnderWay.{is_applied_told}
+use Rattle.client_model.specs.Requesting.{request}
+use Rattle.module_language.specs.ModuleLanguage.{module_language}
 use Rattle.hot_runtime.proofs.Full.{applied_told}
+use Rattle.hot_runtime.proofs.Untold.{untold_told}
 use Rattle.hot_runtime.proofs.runtime.HotRuntime.overfills.Goals as goal
 
 pub returns-then-not-is_applied-clause-many : goal.returns-then-not-is_applied-clause-many
@@ -17,7 +20,7 @@ returns-then-not-is_applied-clause-room g c = λ few applied. absurd (false≢tr
 pub returns-clause-many : goal.returns-clause-many
 returns-clause-many g c = λ r k e.
     let applied : is_applied c.args.asked.now c.args.msg.now ≡ true = sym c.is_applied.ensures ∙ c.if-not-is_applied.false in
-    c.is_full.ensures.many r k (ap is_applied_told e ∙ applied_told c.args.asked.now c.args.msg.now applied)
+    c.is_full.ensures.many r k (untold_told (request module_language r) ∙ ap is_applied_told e ∙ applied_told c.args.asked.now c.args.msg.now applied)
     ∙ sym (ap (λ b. b && nat_lt INSTANCES (length r.instances + made_by_plan r.page.plan r)) applied)
 
 pub returns-clause-room : goal.returns-clause-room

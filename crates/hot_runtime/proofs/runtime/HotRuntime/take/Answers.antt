@@ -14,7 +14,7 @@ returns-then-self-clause-answer g c = λ opening past s.
 
 pub returns-in-Ok-clause-stands : goal.returns-in-Ok-clause-stands
 returns-in-Ok-clause-stands g c = λ opening past s. taken_stands opening past c.args.msg c.take_answer.new.self c.take_answer.result
-    (c.take_answer.ensures.takes (runtime_after module_language opening past) s.keeps s.sound (sym (c.in-Ok.ensures.request opening past s)))
+    (c.take_answer.ensures.takes (runtime_after module_language opening past) s.keeps s.sound (sym (c.in-Ok.ensures (runtime_after module_language opening past) s.keeps)))
 
 pub returns-in-Ok-clause-answer : goal.returns-in-Ok-clause-answer
-returns-in-Ok-clause-answer g c = λ opening past s. (c.take_answer.ensures.takes (runtime_after module_language opening past) s.keeps s.sound (sym (c.in-Ok.ensures.request opening past s))).answer
+returns-in-Ok-clause-answer g c = λ opening past s. (c.take_answer.ensures.takes (runtime_after module_language opening past) s.keeps s.sound (sym (c.in-Ok.ensures (runtime_after module_language opening past) s.keeps))).answer

@@ -11,7 +11,9 @@ use Rattle.client_model.specs.Runtime.{write}
 use Rattle.module_language.specs.ModuleLanguage.{module_language}
 use Rattle.hot_runtime.specs.Becoming.{Becomes}
 use Rattle.hot_runtime.proofs.Asked.{connect_asked, prune_asked}
+use Rattle.client_model.specs.Requesting.{request}
 use Rattle.hot_runtime.proofs.Rest.{on_ok, rest_format, rest_stopped, rest_words}
+use Rattle.hot_runtime.proofs.Untold.{untold_answer, untold_ask}
 use Rattle.hot_runtime.proofs.runtime.HotRuntime.take_news.Goals as goal
 
 pub returns-in-Connected-clause-becomes : goal.returns-in-Connected-clause-becomes
@@ -27,7 +29,7 @@ returns-in-Update-clause-becomes g c = λ r asked k s e fits news.
 pub returns-in-Prune-clause-becomes : goal.returns-in-Prune-clause-becomes
 returns-in-Prune-clause-becomes g c = λ r asked k s e fits news.
     subst (λ m. IfOk c.prune.result (λ lines. Becomes (answered module_language asked m r) c.prune.new.self lines.items)) (sym c.in-Prune.is)
-    (c.prune.ensures.becomes r k s (e ∙ prune_asked c.args.self.now.loaded asked c.in-Prune.paths (subst (λ m. is_answer c.args.self.now.loaded asked m ≡ true) c.in-Prune.is fits)))
+    (c.prune.ensures.becomes r k s (untold_ask (request module_language r) (e ∙ prune_asked c.args.self.now.loaded asked c.in-Prune.paths (subst (λ m. is_answer c.args.self.now.loaded asked m ≡ true) c.in-Prune.is fits))))
 
 pub returns-in-FullReload-clause-becomes : goal.returns-in-FullReload-clause-becomes
 returns-in-FullReload-clause-becomes g c = λ r asked k s e fits news.
@@ -47,7 +49,7 @@ returns-in-Idle-clause-becomes g c = λ r asked k s e fits news.
 pub returns-in-Text-clause-becomes : goal.returns-in-Text-clause-becomes
 returns-in-Text-clause-becomes g c = λ r asked k s e fits news.
     subst (λ m. IfOk c.stage.result (λ lines. Becomes (answered module_language asked m r) c.stage.new.self lines.items)) (sym c.in-Text.is)
-    (c.stage.ensures.becomes r k s (subst (IsWritable c.args.self.now.format) c.in-Text.is c.requires.writable).counted (subst (λ a. is_answer c.args.self.now.loaded a (msg.Text c.in-Text.path c.in-Text.version c.in-Text.text) ≡ true) (sym e) (subst (λ m. is_answer c.args.self.now.loaded asked m ≡ true) c.in-Text.is fits)))
+    (c.stage.ensures.becomes r k s (subst (IsWritable c.args.self.now.format) c.in-Text.is c.requires.writable).counted (untold_answer (request module_language r) c.args.self.now.loaded (msg.Text c.in-Text.path c.in-Text.version c.in-Text.text) ∙ subst (λ a. is_answer c.args.self.now.loaded a (msg.Text c.in-Text.path c.in-Text.version c.in-Text.text) ≡ true) (sym e) (subst (λ m. is_answer c.args.self.now.loaded asked m ≡ true) c.in-Text.is fits)))
 
 pub returns-in-Missing-clause-becomes : goal.returns-in-Missing-clause-becomes
 returns-in-Missing-clause-becomes g c = λ r asked k s e fits news.

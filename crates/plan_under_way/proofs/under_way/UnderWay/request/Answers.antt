@@ -8,5 +8,5 @@ use Rattle.plan_under_way.specs.UnderWay.{cause_of}
 use Rattle.plan_under_way.proofs.under_way.UnderWay.request.Goals as goal
 
 pub returns-in-None-clause-request : goal.returns-in-None-clause-request
-returns-in-None-clause-request c = λ r p i.
-    subst (λ o. IfOk c.request.result (λ asked. asked ≡ carry_on o module_language p r)) (sym (i.cause ∙ ap (option_map cause_of) c.in-None.is)) (c.request.ensures.request r p i.next)
+returns-in-None-clause-request c = λ r p i view rises.
+    subst (λ o. IfOk c.request.result (λ asked. asked ≡ carry_on o module_language p r)) (sym (i.cause ∙ ap (option_map cause_of) c.in-None.is)) (c.request.ensures.request r p i.next view rises i.plan)
