@@ -1,4 +1,4 @@
-// The events of kept entries, told again: the text of a result is transformed anew.
+// The events of kept entries, told again: the text of a result is transformed anew, and a table is unpacked.
 ghost use Rattle.std.specs.Prelude.{◌≡◌, ◌≤◌, IfOk, map};
 ghost use Rattle.core_model.specs.Transcript.{event_bytes, events_of, most_bytes, transcript_bytes};
 ghost use Rattle.server_core.specs.Said.{event_of};
@@ -37,7 +37,7 @@ fn event_in(alloc: Global, kept: &KeptEvent) -> Result<Event, AllocError>
         KeptEvent::Connect(names) => Ok(Event::Connect(copy_of(alloc, names)?)),
         KeptEvent::Ask(client) => Ok(Event::Ask(*client)),
         KeptEvent::Fetch(client, name) => Ok(Event::Fetch(*client, name.clone()?)),
-        KeptEvent::Applied(client, table) => Ok(Event::Applied(*client, table.clone()?)),
+        KeptEvent::Applied(client, packed) => Ok(Event::Applied(*client, packed.unpack(alloc)?)),
         KeptEvent::Aborted(client) => Ok(Event::Aborted(*client)),
         KeptEvent::Invalidate(client, name, version) => {
             Ok(Event::Invalidate(*client, name.clone()?, *version))

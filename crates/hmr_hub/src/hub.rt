@@ -31,7 +31,7 @@ use update_msgs::HubStop;
 
 impl Pass {
     /// The number of the pass: 0 of the one that [`Hub::new`] gives, from 1 of those split off, each given
-    /// once. It takes no memory.
+    /// once.
     pub fn number(&self) -> u64
         ensures { result ≡ number_of self.now }
     {
@@ -43,7 +43,7 @@ impl Hub {
     /// The hub of a server with these roots, before any event, and its first pass, which is alone until it
     /// is split. [`NewFault::NoRoots`] comes exactly where there are no roots, [`NewFault::TooManyRoots`]
     /// where there are more than 16, [`NewFault::DuplicateRoot`] where there are fewer and two are equal;
-    /// else only want of memory refuses.
+    /// else it fails only where memory runs out.
     pub fn new(alloc: Global, roots: Vec<ModName>) -> Result<(Hub, Pass), HubFault>
         ensures pass { IfOk result (λ made. IsPassOf made.0 made.1) }
         ensures first { IfOk result (λ made. IsFirst roots.items made.1) }
@@ -90,8 +90,8 @@ impl Hub {
     /// Splits a pass off another: it has seen as much, and has a number of its own, which nobody had before:
     /// it is above each number that the pass, or one that was joined into it, knows or gave in an earlier
     /// split, and no entry that was seen is under it. [`SplitFault::Spent`] comes exactly where all numbers
-    /// were given; the pass shows that then, and is answered so again. It takes no memory; it waits only
-    /// while other splits come between.
+    /// were given; the pass shows that then, and is answered so again. It waits only while other splits come
+    /// between.
     pub fn split<R: Wait>(&self, rt: &R, pass: &mut Pass) -> Result<Pass, SplitFault>
         requires { IsPassOf self.now pass.old }
         ensures pass { IsPassOf self.now pass.new }
@@ -109,8 +109,7 @@ impl Hub {
     /// Joins another pass of this hub into a pass. The transcript that one of them has seen begins the
     /// other's; the longer stays. The pass that remains knows the numbers of both, and past what either had
     /// seen there is no entry under a number which that one knew: so it has all their entries, each once. A
-    /// pass that is split off it later has a number above all that either knew or gave. It takes no memory
-    /// and doesn't wait.
+    /// pass that is split off it later has a number above all that either knew or gave. It doesn't wait.
     pub fn join(&self, into: &mut Pass, other: Pass)
         requires into { IsPassOf self.now into.old }
         requires other { IsPassOf self.now other }
@@ -122,7 +121,7 @@ impl Hub {
     }
 
     /// Whether the name has a source whose result hasn't come, after all that the pass has then seen. It
-    /// waits for the turn, takes no memory and records nothing.
+    /// waits for the turn and records nothing.
     pub fn outstanding<R: Wait>(&self, rt: &R, pass: &mut Pass, name: ModName) -> bool
         requires { IsPassOf self.now pass.old }
         ensures pass { IsPassOf self.now pass.new }
@@ -139,7 +138,7 @@ impl Hub {
 
     /// The report of all that the pass has then seen: how many entries there are, the fresh load of the
     /// server's roots, and by number the page of each client that came, as it is or was when it went. It
-    /// waits for the turn and records nothing. Only want of memory refuses.
+    /// waits for the turn and records nothing. It fails only where memory runs out.
     pub fn report<R: Wait>(&self, rt: &R, pass: &mut Pass) -> Result<Vec<ReportLine>, AllocError>
         requires { IsPassOf self.now pass.old }
         ensures pass { IsPassOf self.now pass.new }

@@ -1,12 +1,13 @@
 // An event as a transcript keeps it. Of a result it keeps no outcome, which is that of transforming the
-// text.
+// text, and a table it keeps packed.
 ghost use Rattle.std.specs.Prelude.{◌≡◌, IfOk};
 ghost use Rattle.std.specs.Option.{option_map};
 ghost use Rattle.server_core.specs.Said.{event_of};
 ghost use Rattle.hmr_hub.specs.KeptEvents.{kept_as};
 
-use hmr_types::{ClientId, ModName, Table, Ver};
+use hmr_types::{ClientId, ModName, Ver};
 use module_graph::copy_of;
+use packed_table::PackedTable;
 use server_core::Event;
 use std::alloc::{AllocError, Global};
 
@@ -18,7 +19,7 @@ pub(crate) enum KeptEvent {
     Connect(Vec<ModName>),
     Ask(ClientId),
     Fetch(ClientId, ModName),
-    Applied(ClientId, Table),
+    Applied(ClientId, PackedTable),
     Aborted(ClientId),
     Invalidate(ClientId, ModName, Ver),
     Disconnect(ClientId),
@@ -45,7 +46,9 @@ pub(crate) fn keep(alloc: Global, event: &Event) -> Result<KeptEvent, AllocError
         Event::Connect(names) => Ok(KeptEvent::Connect(copy_of(alloc, names)?)),
         Event::Ask(client) => Ok(KeptEvent::Ask(*client)),
         Event::Fetch(client, name) => Ok(KeptEvent::Fetch(*client, name.clone()?)),
-        Event::Applied(client, table) => Ok(KeptEvent::Applied(*client, table.clone()?)),
+        Event::Applied(client, table) => {
+            Ok(KeptEvent::Applied(*client, PackedTable::pack(alloc, table)?))
+        }
         Event::Aborted(client) => Ok(KeptEvent::Aborted(*client)),
         Event::Invalidate(client, name, version) => {
             Ok(KeptEvent::Invalidate(*client, name.clone()?, *version))

@@ -4,7 +4,8 @@
 //! entry of one transcript, under the number of its pass; an edit is made under number 0 alone. Stands on
 //! `server_core` and on `turn_lock`. Keeps: the core under the lock is the replay of the transcript beside
 //! it, and the transcript is legal; each event is answered in the state that the transcript before it makes.
-//! Knows nothing of messages, of links or of jobs, and nothing of when a thread gets the turn.
+//! A call takes memory only where its result can say that memory ran out. Knows nothing of messages, of
+//! links or of jobs, and nothing of when a thread gets the turn.
 #![tactic(auto)]
 
 mod answer;

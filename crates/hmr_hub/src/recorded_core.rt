@@ -44,7 +44,7 @@ impl Model for RecordedCore {
 }
 
 impl RecordedCore {
-    /// A core that was told nothing yet. It takes no memory.
+    /// A core that was told nothing yet.
     pub fn new(alloc: Global, core: Core) -> RecordedCore
         requires roots { AreRoots core.roots }
         requires stands { StandsFor [] core }
@@ -103,7 +103,7 @@ impl RecordedCore {
         Ok(reply)
     }
 
-    /// Whether the name has a source whose result hasn't come. It takes no memory.
+    /// Whether the name has a source whose result hasn't come.
     pub fn is_outstanding(&self, name: &ModName) -> bool
         ensures told { result ≡ is_outstanding self.now.roots self.now.entries name.now }
         ensures transcript { IsTranscript self.now.roots self.now.entries }

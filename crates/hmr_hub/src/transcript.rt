@@ -42,7 +42,7 @@ impl Model for Transcript {
 }
 
 impl Transcript {
-    /// The empty transcript. It takes no memory.
+    /// The empty transcript.
     pub fn new(alloc: Global) -> Transcript
         ensures { result.entries ≡ [] }
     {
@@ -66,7 +66,7 @@ impl Transcript {
         events_in(alloc, &self.entries)
     }
 
-    /// How many bytes are left after this event; None exactly where it has no place. It takes no memory.
+    /// How many bytes are left after this event; None exactly where it has no place.
     pub fn left_after(&self, event: &Event) -> Option<usize>
         ensures some { IfSome result
             (λ left. left + (transcript_bytes self.now.entries + entry_bytes (event_of event.now))

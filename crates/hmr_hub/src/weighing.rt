@@ -8,7 +8,6 @@ use hmr_types::{ModName, Ver};
 use server_core::Event;
 
 /// What is left of so many bytes after those of the names and texts of an event; None where they are more.
-/// It takes no memory.
 pub(crate) fn left_after(left: usize, event: &Event) -> Option<usize>
     ensures { SomeIff result (event_bytes (event_of event.now) ≤ left)
         (left - event_bytes (event_of event.now)) }
