@@ -45,36 +45,36 @@ impl Bell {
         )?)
     }
 
-    /// How often it has rung. It takes no memory.
+    /// How often it has rung.
     pub fn count(&self) -> u64 {
         self.count.load(Ordering::SeqCst)
     }
 
-    /// Something changed: whoever waits goes on. It takes no memory.
+    /// Something changed: whoever waits goes on.
     pub fn ring(&self) {
         self.count.fetch_add(1, Ordering::SeqCst);
         self.count.wake_all();
     }
 
-    /// A worker has told a result: it is counted, and rung for. It takes no memory.
+    /// A worker has told a result: it is counted, and rung for.
     pub fn note_result(&self) {
         self.results.fetch_add(1, Ordering::SeqCst);
         self.ring();
     }
 
-    /// How many results workers have told. It takes no memory.
+    /// How many results workers have told.
     pub fn results(&self) -> u64 {
         self.results.load(Ordering::SeqCst)
     }
 
-    /// A job was put for the workers: one of those that wait for it goes on. It takes no memory.
+    /// A job was put for the workers: one of those that wait for it goes on.
     pub fn note_job(&self) {
         self.jobs.fetch_add(1, Ordering::SeqCst);
         self.jobs.wake_all();
     }
 
     /// Waits until there is a job for one more worker, or no more come: each call has one job of its own, so
-    /// that who takes one after it finds it there. It takes no memory.
+    /// that who takes one after it finds it there.
     pub fn wait_for_job<R: Wait>(&self, rt: &R) {
         let claimed = self.claims.fetch_add(1, Ordering::SeqCst);
         for _ in rt.forever() {
@@ -87,13 +87,13 @@ impl Bell {
         }
     }
 
-    /// What there is at the start is there: whoever waits for that goes on. It takes no memory.
+    /// What there is at the start is there: whoever waits for that goes on.
     pub fn open(&self) {
         self.opened.store(true, Ordering::SeqCst);
         self.ring();
     }
 
-    /// Waits until what there is at the start is there, for 10 seconds at most. It takes no memory.
+    /// Waits until what there is at the start is there, for 10 seconds at most.
     pub fn wait_till_open<R: Wait>(&self, rt: &R) {
         for _ in 0..OPENING_LOOKS {
             if self.opened.load(Ordering::SeqCst) || self.is_closed() {
@@ -107,32 +107,32 @@ impl Bell {
         }
     }
 
-    /// Notes whether the hub answered that its transcript is full; it stays noted. It takes no memory.
+    /// Notes whether the hub answered that its transcript is full; it stays noted.
     pub fn note_full(&self, full: bool) {
         if full {
             self.full.store(true, Ordering::SeqCst);
         }
     }
 
-    /// Whether the hub answered so. It takes no memory.
+    /// Whether the hub answered so.
     pub fn is_full(&self) -> bool {
         self.full.load(Ordering::SeqCst)
     }
 
-    /// No more changes come: whoever waits goes on, and nobody waits from now on. It takes no memory.
+    /// No more changes come: whoever waits goes on, and nobody waits from now on.
     pub fn close(&self) {
         self.closed.store(true, Ordering::SeqCst);
         self.ring();
         self.jobs.wake_all();
     }
 
-    /// Whether no more changes come. It takes no memory.
+    /// Whether no more changes come.
     pub fn is_closed(&self) -> bool {
         self.closed.load(Ordering::SeqCst)
     }
 
     /// Waits until it has rung since it was counted so, and then was still for 10 milliseconds; for 25
-    /// seconds, and half a second more, at most. It returns at once where it is closed. It takes no memory.
+    /// seconds, and half a second more, at most. It returns at once where it is closed.
     pub fn wait<R: Wait>(&self, rt: &R, seen: u64) {
         for _ in 0..SECONDS {
             if self.count() != seen || self.is_closed() {

@@ -29,21 +29,21 @@ pub struct LiveBoard {
 }
 
 impl LiveBoard {
-    /// A board round this one. It takes no memory.
+    /// A board round this one.
     pub fn new(board: HubBoard, bell: Arc<Bell, Global>, news: Arc<NewsBoard, Global>) -> Self
         ensures board { result.board ≡ board }
     {
         LiveBoard { board, bell, news }
     }
 
-    /// Whether the hub answered that its transcript is full. It takes no memory.
+    /// Whether the hub answered that its transcript is full.
     pub fn is_full(&self) -> bool
         ensures { result ≡ self.now.board.full }
     {
         self.board.is_full()
     }
 
-    /// The hub's pass of the board. It takes no memory.
+    /// The hub's pass of the board.
     pub fn into_pass(self) -> Pass
         ensures pass { result ≡ self.board.pass }
         ensures of { IsPassOf (arc_value self.board.hub) result }

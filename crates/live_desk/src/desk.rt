@@ -1,5 +1,5 @@
 // The desk of a page: asks wait, and what is shown of the page is told.
-ghost use Rattle.std.specs.Prelude.{◌≡◌, ◌≤◌, IfOk, None, false, refl, ℕ, true};
+ghost use Rattle.std.specs.Prelude.{◌≡◌, ◌≤◌, ◌++◌, ◌∷◌, [], IfOk, Some, false, refl, ℕ, true};
 ghost use Rattle.std.proofs.Common.{◌∙◌};
 ghost use Rattle.std.specs.Arc.{arc_value};
 ghost use Rattle.hmr_types.specs.declared.limits.TheConstants.{MESSAGE_BYTES};
@@ -9,6 +9,7 @@ ghost use Rattle.hmr_hub.specs.Passes.{IsPassOf, seen_of};
 ghost use Rattle.hub_moves.specs.Fullness.{IsNearlyFull};
 
 use crate::bell::Bell;
+use crate::dealings::Dealings;
 use crate::exchange::{is_ask, is_change, is_idle};
 use crate::news_board::NewsBoard;
 use hmr_hub::{Hub, Pass};
@@ -17,11 +18,13 @@ use hub_desks::HubDesk;
 use live_lines::{Asked, ImportedName, News, PageLog, PageNews};
 use live_site::Site;
 use std::alloc::Global;
+use std::snapshot::Snapshot;
 use std::sync::{Arc, Wait};
 use update_msgs::{ClientMsg, Desk, HubStop, ServerMsg};
 
 /// The desk of one page: a desk of the hub, the bell that asks wait at, where news go, and the site that
-/// says which names a text imports. It has what is known of the page.
+/// says which names a text imports. It has what is known of the page. What it has dealt with only clauses
+/// read.
 #[derive(Drop)]
 pub struct LiveDesk<R: Drop, S: Drop> {
     rt: R,
@@ -31,10 +34,13 @@ pub struct LiveDesk<R: Drop, S: Drop> {
     news: Arc<NewsBoard, Global>,
     site: Arc<S, Global>,
     log: PageLog,
+    dealings: Snapshot<Dealings>,
 }
 
 impl<R: Copy + Drop, S: Drop> LiveDesk<R, S> {
-    /// A desk without a client. It takes no memory.
+    ghost use Rattle.live_desk.specs.Desks.{told_by};
+
+    /// A desk without a client.
     pub fn new(
         rt: R,
         alloc: Global,
@@ -49,6 +55,7 @@ impl<R: Copy + Drop, S: Drop> LiveDesk<R, S> {
         ensures pass { result.desk.pass ≡ pass }
         ensures client { result.desk.client ≡ 0 }
         ensures full { result.desk.full ≡ false }
+        ensures told { told_by result ≡ [] }
     {
         LiveDesk {
             rt,
@@ -58,19 +65,20 @@ impl<R: Copy + Drop, S: Drop> LiveDesk<R, S> {
             news,
             site,
             log: PageLog::new(alloc),
+            dealings: Snapshot::of(&Dealings::Nothing),
         }
     }
 }
 
 impl<R: Drop, S: Drop> LiveDesk<R, S> {
-    /// Whether the hub answered that its transcript is full. It takes no memory.
+    /// Whether the hub answered that its transcript is full.
     pub fn is_full(&self) -> bool
         ensures { result ≡ self.now.desk.full }
     {
         self.desk.is_full()
     }
 
-    /// The pass of the desk. It takes no memory.
+    /// The pass of the desk.
     pub fn into_pass(self) -> Pass
         ensures pass { result ≡ self.desk.pass }
         ensures of { IsPassOf (arc_value self.desk.hub) result }
@@ -84,6 +92,7 @@ impl<R: Drop, S: Drop> LiveDesk<R, S> {
             news: _,
             site: _,
             log: _,
+            dealings: _,
         } = self;
         desk.into_pass()
     }
@@ -102,6 +111,7 @@ impl<R: Wait + Drop, S: Site + Drop> LiveDesk<R, S> {
     pub fn deal(&mut self, msg: ClientMsg) -> Result<ServerMsg, HubStop>
         requires size { bytes_of msg ≤ MESSAGE_BYTES }
         ensures answered { Answered msg self.old.desk self.new.desk result }
+        ensures untold { self.new.dealings ≡ self.old.dealings }
         ensures written { IfOk result (λ m. (format : ℕ) → IsFormat format → IsWritable format m) }
     {
         let asked = Asked::of(&msg);
@@ -137,6 +147,7 @@ impl<R: Wait + Drop, S: Site + Drop> LiveDesk<R, S> {
     fn answer_to(&mut self, msg: ClientMsg) -> Result<ServerMsg, HubStop>
         requires size { bytes_of msg ≤ MESSAGE_BYTES }
         ensures answered { Answered msg self.old.desk self.new.desk result }
+        ensures untold { self.new.dealings ≡ self.old.dealings }
         ensures written { IfOk result (λ m. (format : ℕ) → IsFormat format → IsWritable format m) }
     {
         if is_ask(&msg) {
@@ -159,6 +170,7 @@ impl<R: Wait + Drop, S: Site + Drop> LiveDesk<R, S> {
     #[tactic(auto, using(crate::proofs::Waiting::asked_once, crate::proofs::Waiting::asked_again))]
     fn ask(&mut self) -> Result<ServerMsg, HubStop>
         ensures asked { IsAsked self.old.desk self.new.desk result }
+        ensures untold { self.new.dealings ≡ self.old.dealings }
         ensures written { IfOk result (λ m. (format : ℕ) → IsFormat format → IsWritable format m) }
     {
         let seen = self.bell.count();
@@ -173,6 +185,7 @@ impl<R: Wait + Drop, S: Site + Drop> LiveDesk<R, S> {
     // Tells what an exchange shows of the page. Where memory runs out, it isn't told.
     fn tell(&mut self, asked: Asked, answer: &ServerMsg)
         ensures desk { self.new.desk ≡ self.old.desk }
+        ensures untold { self.new.dealings ≡ self.old.dealings }
     {
         let names = self.names_in(answer);
         let before = self.log.client();
@@ -209,21 +222,42 @@ impl<R: Wait + Drop, S: Site + Drop> LiveDesk<R, S> {
     }
 }
 
+impl<R: Wait + Drop, S: Site + Drop> LiveDesk<R, S> {
+    ghost use Rattle.live_desk.specs.Desks.{told_by};
+
+    // Notes that a message was answered. It costs nothing.
+    fn note(&mut self, msg: Snapshot<ClientMsg>, answer: &ServerMsg)
+        ensures desk { self.new.desk ≡ self.old.desk }
+        ensures told { told_by self.new ≡ told_by self.old ++ (msg.value, answer.now) ∷ [] }
+    {
+        let before = std::mem::replace(&mut self.dealings, Snapshot::of(&Dealings::Nothing));
+        let now = Dealings::More(before, msg, Snapshot::of(answer));
+        self.dealings = Snapshot::of(&now);
+    }
+}
+
 impl<R: Wait + Drop, S: Site + Drop> Desk for LiveDesk<R, S> {
-    ghost use Rattle.live_desk.specs.Desks.{SameLive, is_full};
+    ghost use Rattle.live_desk.specs.Desks.{GoesOn, is_full, told_by};
 
     ghost full = { is_full };
 
-    ghost told = { λ desk. None };
+    ghost told = { λ desk. Some (told_by desk) };
 
-    ghost stays = { SameLive };
+    ghost stays = { GoesOn };
 
-    #[tactic(auto, using(crate::proofs::Waiting::answered_same, crate::proofs::Waiting::answered_full))]
+    #[tactic(auto, using(crate::proofs::Sessions::answered_on, crate::proofs::Sessions::unanswered_on, crate::proofs::Waiting::answered_full))]
     fn answer(&mut self, msg: ClientMsg) -> Result<ServerMsg, HubStop> {
-        self.deal(msg)
+        let asked = Snapshot::of(&msg);
+        let answer = self.deal(msg)?;
+        self.note(asked, &answer);
+        Ok(answer)
     }
 
-    ghost same = { λ desk. record { hub = refl; number = refl } };
+    ghost same = { λ desk. record { hub = refl; number = refl; dealt = λ first told so_far. so_far } };
 
-    ghost then = { λ desk next last p q. record { hub = q.hub ∙ p.hub; number = q.number ∙ p.number } };
+    ghost then = { λ desk next last p q. record {
+      hub = q.hub ∙ p.hub;
+      number = q.number ∙ p.number;
+      dealt = λ first told so_far. q.dealt first told (p.dealt first told so_far);
+    } };
 }

@@ -7,18 +7,22 @@
 //!
 //! Stands on `hub_desks` for desks and boards, on `live_lines` for what an exchange shows, and on
 //! `live_site` for the names that a text imports. Keeps: each answer is one that the hub's desk dealt, the
-//! last where an ask was dealt twice, and the first of the two was idle; the pass and the hub are those of
-//! the desk and the board within. What is told is lost for want of memory, and never an answer. Knows
-//! nothing of links, of folders or of how news are written.
+//! last where an ask was dealt twice, and the first of the two was idle; over any number of answers a desk's
+//! pass goes on by just the events of the messages that were dealt; the pass and the hub are those of the desk
+//! and the board within. Where memory runs out what is told is lost, and never an answer. A call takes
+//! memory only where its result or its comment says that memory can run out. Knows nothing of links, of
+//! folders or of how news are written.
 #![tactic(auto)]
 
 mod bell;
 mod board;
+mod dealings;
 mod desk;
 mod exchange;
 mod news_board;
 
 pub use bell::Bell;
 pub use board::LiveBoard;
+pub use dealings::Dealings;
 pub use desk::LiveDesk;
 pub use news_board::NewsBoard;

@@ -34,7 +34,7 @@ impl NewsBoard {
     }
 
     /// The first of the news, which are then gone from the list; None where it is empty. It waits for the
-    /// list, and takes no memory.
+    /// list.
     pub fn take<R: Wait>(&self, rt: &R) -> Option<News> {
         self.news.lock(rt).pop_front()
     }

@@ -1,8 +1,10 @@
 pub mod Elements
 pub mod Counts
+pub mod Held
 pub mod Attendants
 pub mod Outs
 pub mod Crews
+pub mod Doors
 pub mod Editing
 pub mod Events
 pub mod Passes

@@ -6,7 +6,7 @@ use Rattle.core_model.specs.Names.{Name}
 use Rattle.turn_lock.specs.Histories.{calls}
 use Rattle.hmr_hub.specs.declared.pass.Pass.{Pass}
 use Rattle.hmr_hub.specs.Calls.{IsFirst, Looked, SameKnower}
-use Rattle.hmr_hub.specs.Passes.{HasTranscript, number_of, seen_of}
+use Rattle.hmr_hub.specs.Passes.{HasTranscript, number_of, roots_of, seen_of}
 use Rattle.hub_moves.specs.Moves.{KnowsOwn, own_of}
 use Rattle.hub_moves.proofs.Moves.{knows_moved, moved_looked, moved_no_more}
 use Rattle.hub_editor.specs.Edits.{Made}
@@ -14,8 +14,11 @@ use Rattle.hub_editor.specs.Editing.{AreAnswered, Edited, entries_of}
 use Rattle.hub_editor.specs.Results.{HasOwnResults, result_entry}
 use Rattle.hub_editor.proofs.Steps.{answers_moved, own_moved}
 use Rattle.serve_reports.proofs.Joins.{all_calls, all_look}
+use Rattle.live_server.specs.Doors.{doors_begun}
+use Rattle.live_server.specs.Held.{HasDoors}
 use Rattle.live_server.specs.Serving.{HasJoined, Served}
 use Rattle.live_server.specs.Splits.{Divided}
+use Rattle.live_server.proofs.Held.{doors_within}
 
 -- a look at the transcript, after the passes were joined
 pub joined_look : (passes : List Pass) (p q r : Pass) → KnowsOwn p → HasJoined passes p q → SameKnower q r → Looked q r → HasTranscript r
@@ -32,8 +35,9 @@ joined_look passes p q r knows j same look transcript =
 -- all that a live server did, by the editor's passes: the first, that behind the splits, that after the edits,
 -- and the last
 pub served_end : (roots : List Name) (begun : List ℕ) (passes : List Pass) (made : List Made) (p d w q : Pass)
-    → IsFirst roots p → Divided p d → SameKnower d w → Edited d w made → HasJoined passes w q → sum begun ≤ length passes → Served roots begun q
-served_end roots begun passes made p d w q first divided same edited joined back =
+    → IsFirst roots p → Divided p d → SameKnower d w → Edited d w made → HasJoined passes w q → sum begun ≤ length passes
+    → HasDoors (roots_of p) (doors_begun begun) passes → Served roots begun q
+served_end roots begun passes made p d w q first divided same edited joined back held =
     let begins = divided.moved in
     let last = joined.own in
     let all = moved_no_more d w q _ edited.moved last in
@@ -55,4 +59,9 @@ served_end roots begun passes made p d w q first divided same edited joined back
       came_back = back;
       within = joined.within;
       each_calls = joined.each_calls;
+      doors = held.doors;
+      others = held.others;
+      parted = held.parted;
+      each_door = held.many;
+      sessions = doors_within (roots_of p) (doors_begun begun) passes q held (all.roots ∙ begins.roots) joined.within;
     }

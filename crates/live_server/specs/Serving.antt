@@ -19,6 +19,8 @@ use Rattle.record_laws.specs.Sound.{rests_behind}
 use Rattle.record_laws.specs.Written.{lines_told, record_told}
 use Rattle.record_laws.specs.declared.verdict.Verdict.TheVariants.{Yes}
 use Rattle.serve_reports.specs.Within.{HasCalls, IsWithin}
+use Rattle.live_server.specs.Held.{HasSessions, Held, pass_of}
+use Rattle.live_server.specs.Doors.{doors_begun}
 
 -- how many passes there are once all jobs are finished: each job gives one back
 abbrev pub passes_due : {J : Type 0} → Vec J → Vec Pass → ℕ
@@ -44,10 +46,11 @@ pub record HasJoined (passes : List Pass) (old q : Pass) : Type 0 where
   pub within : All (λ p. IsWithin p q) passes
   pub each_calls : All (λ p. HasCalls p q) passes
 
--- What a live server did, as the editor's pass has seen it at the end. There is one transcript, which is legal.
--- Under the editor's number it has just the editor's edits, each once and in order, and of some of their jobs
--- the result, each once; each edit was answered at its own place. As many passes at least as jobs were begun
--- came back and were joined, and of each of them the transcript has the calls.
+-- What a live server did, as the editor's pass has seen it at the end. There is one transcript, which is
+-- legal. Under the editor's number it has just the editor's edits, each once and in order, and of some of their
+-- jobs the result, each once; each edit was answered at its own place. As many passes at least as jobs were
+-- begun came back and were joined, and of each of them the transcript has the calls. As many of these at least
+-- as doors were begun are of doors, and the calls of each are just those of the sessions that its door held.
 pub record Served (roots : List Name) (begun : List ℕ) (p : Pass) : Type 0 where
   pub transcript : HasTranscript p
   pub roots_are : roots_of p ≡ roots
@@ -62,3 +65,8 @@ pub record Served (roots : List Name) (begun : List ℕ) (p : Pass) : Type 0 whe
   pub came_back : sum begun ≤ length passes
   pub within : All (λ q. IsWithin q p) passes
   pub each_calls : All (λ q. HasCalls q p) passes
+  pub doors : List Held
+  pub others : List Pass
+  pub parted : IsPermutation (map pass_of doors ++ others) passes
+  pub each_door : doors_begun begun ≤ length doors
+  pub sessions : All (HasSessions p) doors

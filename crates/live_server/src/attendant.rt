@@ -32,7 +32,7 @@ pub struct HubAttendant<R: Drop, S: Drop> {
 }
 
 impl<R: Drop, S: Drop> HubAttendant<R, S> {
-    /// An attendant that had no visits. It takes no memory.
+    /// An attendant that had no visits.
     pub fn new(rt: R, hub: Arc<Hub, Global>, pass: Pass, shared: Shared<S>) -> Self
         requires of { IsPassOf (arc_value hub) pass }
         ensures hub { result.hub ≡ hub }
@@ -50,14 +50,14 @@ impl<R: Drop, S: Drop> HubAttendant<R, S> {
         }
     }
 
-    /// Whether the hub answered that its transcript is full. It takes no memory.
+    /// Whether the hub answered that its transcript is full.
     pub fn is_full(&self) -> bool
         ensures { result ≡ self.now.full }
     {
         self.full
     }
 
-    /// The pass of its sessions. It takes no memory.
+    /// The pass of its sessions.
     pub fn into_pass(self) -> Pass
         requires there { is_some self.pass ≡ true }
         ensures pass { self.pass ≡ Some result }
@@ -82,7 +82,7 @@ impl<R: Wait + Copy + Drop, S: Site + Drop> HubAttendant<R, S> {
     ghost use Rattle.live_server.specs.Attendants.{SameAttendant, is_done};
 
     // Holds the session of a visitor who asked for one.
-    #[tactic(auto, using(crate::proofs::Attendants::held, crate::proofs::Attendants::going_has, crate::proofs::Attendants::same_self))]
+    #[tactic(auto, using(crate::proofs::Attendants::going_has, crate::proofs::Attendants::same_self))]
     fn hold_session<W: Wait, E: Visitor>(&mut self, rt: &W, alloc: Global, end: &mut E)
         requires going { is_done self.old ≡ false }
         requires fresh { E.phase end.old ≡ Phase.Fresh }
@@ -140,6 +140,7 @@ impl<R: Wait + Copy + Drop, S: Site + Drop> Attendant for HubAttendant<R, S> {
 
     ghost stays = { SameAttendant };
 
+    #[tactic(auto, using(crate::proofs::Attendants::same_counted, crate::proofs::Attendants::only_counted))]
     fn attend<W: Wait, E: Visitor>(&mut self, rt: &W, alloc: Global, end: &mut E) {
         self.visits = self.visits.saturating_add(1);
         self.shared.bell.wait_till_open(rt);
@@ -154,7 +155,11 @@ impl<R: Wait + Copy + Drop, S: Site + Drop> Attendant for HubAttendant<R, S> {
         self.full || self.pass.is_none()
     }
 
-    ghost same = { λ a. record { hub = refl; number = refl } };
+    ghost same = { λ a. record { hub = refl; number = refl; held = λ first so_far. so_far } };
 
-    ghost then = { λ a next last p q. record { hub = q.hub ∙ p.hub; number = q.number ∙ p.number } };
+    ghost then = { λ a next last p q. record {
+      hub = q.hub ∙ p.hub;
+      number = q.number ∙ p.number;
+      held = λ first so_far. q.held first (p.held first so_far);
+    } };
 }

@@ -1,13 +1,16 @@
-// The jobs of a live server, and how they are begun: workers, and doors. A job whose start is refused is given
-// up, and no more are begun.
-ghost use Rattle.std.specs.Prelude.{◌≡◌, ◌≤◌, ◌<◌, ◌+◌, All, IfOk, OnOk, false, length, sum, vec_len};
+// The jobs of a live server, and how they are begun: workers, and doors. A job whose start is refused is
+// given up, and no more are begun.
+ghost use Rattle.std.specs.Prelude.{◌≡◌, ◌≤◌, ◌<◌, ◌+◌, All, IfOk, List, OnOk, false, length, sum, vec_len};
 ghost use Rattle.std.specs.Arc.{arc_value};
+ghost use Rattle.core_model.specs.Names.{Name};
 ghost use Rattle.jobs.specs.Begun.{most_starts};
 ghost use Rattle.transform_pool.specs.Passes as queues;
 ghost use Rattle.transform_pool.specs.Passes.{role_of};
 ghost use Rattle.transform_pool.specs.Roles.{taking};
-ghost use Rattle.hmr_hub.specs.Passes.{IsPassOf, hub_mark};
+ghost use Rattle.hmr_hub.specs.Passes.{IsPassOf, hub_mark, roots_of};
 ghost use Rattle.live_server.specs.Crews.{HasPlace, HasRoom, IsCrew};
+ghost use Rattle.live_server.specs.Doors.{IsFresh, KeepsDoors};
+ghost use Rattle.live_server.specs.Held.{IsUnused};
 ghost use Rattle.live_server.specs.Outs.{JobOf};
 ghost use Rattle.live_server.specs.Serving.{passes_due};
 ghost use Rattle.live_server.specs.Splits.{Divided};
@@ -49,7 +52,7 @@ where
     <E::Door as Door>::End: Send + 'static,
     S::File: Send + 'static,
 {
-    // A crew of a hub, of which no job was begun yet. It takes no memory.
+    // A crew of a hub, of which no job was begun yet.
     pub(crate) fn new(alloc: Global, hub: Arc<Hub, Global>) -> Self
         ensures hub { result.hub ≡ hub }
         ensures crew { IsCrew ⟦<E::Door as Door>⟧ (arc_value result.hub) result.running result.passes }
@@ -86,6 +89,8 @@ where
         ensures few { sum (P.begun spawner.new) ≤ sum (P.begun spawner.old) + length takers.items }
         ensures due { sum (P.begun spawner.new) + passes_due self.old.running self.old.passes
             ≤ sum (P.begun spawner.old) + passes_due self.new.running self.new.passes }
+        ensures keeps { KeepsDoors ⟦<E::Door as Door>⟧ (roots_of pass.old)
+            (P.begun spawner.old) (P.begun spawner.new) self.old.running.items self.new.running.items }
         ensures shut { E.is_shut entrance.new ≡ E.is_shut entrance.old }
     {
         while let Some(jobs) = takers.pop() {
@@ -95,6 +100,7 @@ where
     }
 
     // Begins a worker.
+    #[tactic(auto, using(crate::proofs::Doors::doors_same))]
     fn begin_worker<P: Spawner>(
         &mut self,
         rt: &R,
@@ -118,6 +124,8 @@ where
         ensures few { sum (P.begun spawner.new) ≤ sum (P.begun spawner.old) + 1 }
         ensures due { sum (P.begun spawner.new) + passes_due self.old.running self.old.passes
             ≤ sum (P.begun spawner.old) + passes_due self.new.running self.new.passes }
+        ensures keeps { KeepsDoors ⟦<E::Door as Door>⟧ (roots_of pass.old)
+            (P.begun spawner.old) (P.begun spawner.new) self.old.running.items self.new.running.items }
         ensures shut { E.is_shut entrance.new ≡ E.is_shut entrance.old }
     {
         let queue = Arc::try_clone(queue)?;
@@ -154,6 +162,8 @@ where
         ensures divided { Divided pass.old pass.new }
         ensures due { sum (P.begun spawner.new) + passes_due self.old.running self.old.passes
             ≤ sum (P.begun spawner.old) + passes_due self.new.running self.new.passes }
+        ensures keeps { KeepsDoors ⟦<E::Door as Door>⟧ (roots_of pass.old)
+            (P.begun spawner.old) (P.begun spawner.new) self.old.running.items self.new.running.items }
     {
         for _ in 0..doors {
             self.begin_door(rt, alloc, pass, entrance, spawner, shared)?;
@@ -162,6 +172,7 @@ where
     }
 
     // Begins a door.
+    #[tactic(auto, using(crate::proofs::Doors::doors_same))]
     fn begin_door<P: Spawner>(
         &mut self,
         rt: &R,
@@ -182,6 +193,8 @@ where
         ensures few { sum (P.begun spawner.new) ≤ sum (P.begun spawner.old) + 1 }
         ensures due { sum (P.begun spawner.new) + passes_due self.old.running self.old.passes
             ≤ sum (P.begun spawner.old) + passes_due self.new.running self.new.passes }
+        ensures keeps { KeepsDoors ⟦<E::Door as Door>⟧ (roots_of pass.old)
+            (P.begun spawner.old) (P.begun spawner.new) self.old.running.items self.new.running.items }
         ensures going { E.is_shut entrance.new ≡ false }
     {
         let own = shared.again()?;
@@ -213,6 +226,7 @@ where
         ensures divided { Divided pass.old pass.new }
         ensures own { IfOk result (λ made. arc_value made.0 ≡ arc_value self.new.hub) }
         ensures half { IfOk result (λ made. IsPassOf (arc_value self.new.hub) made.1) }
+        ensures unused { IfOk result (λ made. IsUnused (roots_of pass.old) made.1) }
     {
         reserve_place(&mut self.running, &mut self.passes)?;
         let hub = Arc::try_clone(&self.hub)?;
@@ -239,6 +253,9 @@ where
         ensures few { sum (P.begun spawner.new) ≤ sum (P.begun spawner.old) + 1 }
         ensures due { sum (P.begun spawner.new) + passes_due self.old.running self.old.passes
             ≤ sum (P.begun spawner.old) + passes_due self.new.running self.new.passes }
+        ensures keeps { (roots : List Name) → IsFresh ⟦<E::Door as Door>⟧ roots job
+            → KeepsDoors ⟦<E::Door as Door>⟧ roots
+            (P.begun spawner.old) (P.begun spawner.new) self.old.running.items self.new.running.items }
         ensures shut { E.is_shut entrance.new ≡ E.is_shut entrance.old }
     {
         match start(rt, alloc, spawner, job) {

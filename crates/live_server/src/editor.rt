@@ -41,7 +41,7 @@ const LOOKS: u32 = 20_000;
 const LOOK_MICROS: u64 = 100;
 
 impl LiveEditor {
-    /// An editor that made no edit. It takes no memory.
+    /// An editor that made no edit.
     pub fn new(
         alloc: Global,
         hub: Arc<Hub, Global>,

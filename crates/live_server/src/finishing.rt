@@ -1,9 +1,13 @@
 // The end of a crew: each job is waited for, and what it leaves is taken in.
-ghost use Rattle.std.specs.Prelude.{◌≡◌, ◌≤◌, ◌<◌, ◌+◌, length, vec_capacity, vec_len};
+ghost use Rattle.std.specs.Prelude.{◌≡◌, ◌≤◌, ◌<◌, ◌+◌, List, length, vec_capacity, vec_len};
 ghost use Rattle.std.specs.List.{All};
 ghost use Rattle.std.specs.Arc.{arc_value};
+ghost use Rattle.core_model.specs.Names.{Name};
 ghost use Rattle.hmr_hub.specs.Passes.{IsPassOf};
 ghost use Rattle.live_server.specs.Crews.{HasRoom, IsCrew, RunsOn, TakenIn};
+ghost use Rattle.live_server.specs.Doors.{AreFresh, IsFresh, doors_in, job_of};
+ghost use Rattle.live_server.specs.Held.{HasDoors, TakenBack};
+ghost use Rattle.live_server.specs.Outs.{kind_of};
 ghost use Rattle.live_server.specs.Serving.{passes_due};
 
 use crate::crew::Crew;
@@ -27,7 +31,7 @@ where
     S::File: Send + 'static,
 {
     // Waits for the end of each job, and gives the passes of all, each of the hub. Each door is given back to
-    // the entrance. It takes no memory.
+    // the entrance.
     pub(crate) fn finish_all<P: Spawner>(
         self,
         rt: &R,
@@ -37,6 +41,8 @@ where
         requires crew { IsCrew ⟦<E::Door as Door>⟧ (arc_value self.hub) self.running self.passes }
         ensures of { All (IsPassOf (arc_value self.hub)) result.items }
         ensures due { length result.items ≡ passes_due self.running self.passes }
+        ensures doors { (roots : List Name) → AreFresh ⟦<E::Door as Door>⟧ roots self.running.items
+            → HasDoors roots (doors_in ⟦<E::Door as Door>⟧ self.running.items) result.items }
         ensures begun { P.begun spawner.new ≡ P.begun spawner.old }
         ensures shut { E.is_shut entrance.new ≡ E.is_shut entrance.old }
     {
@@ -51,6 +57,7 @@ where
 }
 
 // Waits for the end of each job.
+#[tactic(auto, using(crate::proofs::Doors::finishing_none))]
 fn finish_jobs<R: Threads + Wait + Copy + Drop, E: Entrance, P: Spawner, S: Site + Drop>(
     rt: &R,
     hub: &Hub,
@@ -66,6 +73,8 @@ where
     requires of { All (IsPassOf hub.now) passes.old.items }
     ensures of { All (IsPassOf hub.now) passes.new.items }
     ensures due { length passes.new.items ≡ passes_due running passes.old }
+    ensures doors { (roots : List Name) → AreFresh ⟦<E::Door as Door>⟧ roots running.items
+        → HasDoors roots (doors_in ⟦<E::Door as Door>⟧ running.items) passes.new.items }
     ensures begun { P.begun spawner.new ≡ P.begun spawner.old }
     ensures shut { E.is_shut entrance.new ≡ E.is_shut entrance.old }
 {
@@ -88,6 +97,8 @@ where
     requires runs { RunsOn ⟦<E::Door as Door>⟧ hub.now running }
     requires room { vec_len passes.old < vec_capacity passes.old }
     ensures taken { TakenIn hub.now passes.old passes.new }
+    ensures back { (roots : List Name) → IsFresh ⟦<E::Door as Door>⟧ roots (job_of running)
+        → TakenBack roots (kind_of (job_of running)) passes.old.items passes.new.items }
     ensures begun { P.begun spawner.new ≡ P.begun spawner.old }
     ensures shut { E.is_shut entrance.new ≡ E.is_shut entrance.old }
 {

@@ -46,7 +46,7 @@ pub enum LiveOut<R: Drop, D: Drop, S: Drop> {
 }
 
 impl LiveWorker {
-    /// The job of a worker with this board, which is not full and has not ended. It takes no memory.
+    /// The job of a worker with this board, which is not full and has not ended.
     pub fn new(board: LiveBoard) -> Self
         requires room { board.board.full ≡ false }
         requires going { is_ended board ≡ false }
@@ -57,7 +57,7 @@ impl LiveWorker {
 }
 
 impl<R: Drop, D: Door + Drop, S: Drop> LiveDoor<R, D, S> {
-    /// The job of an attendant at a door, both of which had equally many visits. It takes no memory.
+    /// The job of an attendant at a door, both of which had equally many visits.
     pub fn new(door: D, attendant: HubAttendant<R, S>) -> Self
         requires going { D.is_shut door ≡ false }
         requires back { D.is_out door ≡ false }

@@ -15,7 +15,7 @@ pub(crate) struct Known {
 }
 
 impl Known {
-    /// Of a hub that was told nothing. It takes no memory.
+    /// Of a hub that was told nothing.
     pub fn new(alloc: Global) -> Known {
         Known {
             texts: BTreeMap::new(alloc),
@@ -25,17 +25,17 @@ impl Known {
         }
     }
 
-    /// How many modules there are. It takes no memory.
+    /// How many modules there are.
     pub fn modules(&self) -> usize {
         self.texts.len()
     }
 
-    /// How many edits the hub counted. It takes no memory.
+    /// How many edits the hub counted.
     pub fn counted(&self) -> Ver {
         self.counted
     }
 
-    /// How many jobs came of the edits. It takes no memory.
+    /// How many jobs came of the edits.
     pub fn jobs(&self) -> u64 {
         self.jobs
     }

@@ -8,10 +8,12 @@
 //! what is answered to who asks for one, a site says.
 //!
 //! Stands on `doors` and `sessions` for what comes, on `live_site` for the site, on `live_answers` for the
-//! answers to heads, on `live_desk` for desks and boards, on `hub_editor` for edits and on `live_folder` for the folder. Keeps: each pass that is
-//! joined at the end is one of the hub; an attendant keeps its hub and the number of its pass over all its
-//! visits, and each visitor's end is shut; no door that has an end out goes back to the entrance, and the
-//! entrance is shut at the end. Knows nothing of sockets, of how news are written, nor of the command line.
+//! answers to heads, on `live_desk` for desks and boards, on `hub_editor` for edits and on `live_folder` for
+//! the folder. Keeps: each pass that is joined at the end is one of the hub; an attendant keeps its hub and
+//! the number of its pass over all its visits, and each visitor's end is shut; no door that has an end out
+//! goes back to the entrance, and the entrance is shut at the end. Only [`serve_live`], what makes a
+//! [`Shared`], and a job or an attendant at its work take memory. Knows nothing of sockets, of how news are
+//! written, nor of the command line.
 #![tactic(auto)]
 
 mod answering;

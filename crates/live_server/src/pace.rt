@@ -1,4 +1,4 @@
-// How long the folder isn't looked at, so that looks take at most a fiftieth of the time.
+// How long the folder is not looked at, so that looks of a millisecond or more take a fiftieth of the time.
 
 /// How long one rests before it listens again, in milliseconds.
 pub(crate) const STEP_MILLIS: u64 = 25;
@@ -11,8 +11,8 @@ const MOST_STEPS: u64 = 200;
 /// How many times as long as a look took is to be rested for it.
 const RESTS_OF_A_LOOK: u64 = 50;
 
-/// How many milliseconds of rest may be owed before they are made up for: a look of 40 milliseconds among many that
-/// take none puts nothing off.
+/// How many milliseconds of rest may be owed before they are made up for: a look of 40 milliseconds among
+/// many that take none puts nothing off.
 const OWED_MILLIS: u64 = 2_000;
 
 /// The rest that is owed for looks, in milliseconds.
@@ -22,7 +22,7 @@ pub(crate) struct Pace {
 }
 
 impl Pace {
-    /// No rest is owed. It takes no memory.
+    /// No rest is owed.
     pub fn new() -> Pace {
         Pace { owed: 0 }
     }

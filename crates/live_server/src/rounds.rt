@@ -99,7 +99,8 @@ fn run_round<R: Wait + Clock, W: Watched, S: Site + Drop, T: Terminal>(
     rest(rt, alloc, shared, known, terminal, steps)
 }
 
-// Looks at the folder, and makes the edits that it brings. Where memory runs out the next look shows the same.
+// Looks at the folder, and makes the edits that it brings. Where memory runs out the next look shows the
+// same.
 fn look_once<R: Wait, W: Watched, S: Site + Drop>(
     rt: &R,
     alloc: Global,

@@ -1,8 +1,11 @@
 // What a job leaves is taken in: its pass, and its door.
-ghost use Rattle.std.specs.Prelude.{◌≡◌, ◌<◌, is_some, true, vec_capacity, vec_len};
+ghost use Rattle.std.specs.Prelude.{◌≡◌, ◌<◌, ◌++◌, ◌∷◌, [], List, is_some, true, vec_capacity, vec_len};
 ghost use Rattle.std.specs.Arc.{arc_value};
+ghost use Rattle.core_model.specs.Names.{Name};
 ghost use Rattle.hmr_hub.specs.Passes.{IsPassOf, hub_mark};
 ghost use Rattle.live_server.specs.Crews.{TakenIn};
+ghost use Rattle.live_server.specs.Doors.{OutIsHeld, kind_out};
+ghost use Rattle.live_server.specs.Held.{TakenBack};
 ghost use Rattle.live_server.specs.Outs.{OutIsGood};
 
 use crate::attendant::HubAttendant;
@@ -22,6 +25,8 @@ where
     requires good { OutIsGood ⟦<E::Door as Door>⟧ (hub_mark hub.now) out }
     requires room { vec_len passes.old < vec_capacity passes.old }
     ensures taken { TakenIn hub.now passes.old passes.new }
+    ensures back { (roots : List Name) → OutIsHeld roots out
+        → TakenBack roots (kind_out out) passes.old.items passes.new.items }
     ensures shut { E.is_shut entrance.new ≡ E.is_shut entrance.old }
 {
     match out {
@@ -38,6 +43,7 @@ fn put_pass(hub: &Hub, pass: Pass, passes: &mut Vec<Pass>)
     requires of { IsPassOf hub.now pass }
     requires room { vec_len passes.old < vec_capacity passes.old }
     ensures taken { TakenIn hub.now passes.old passes.new }
+    ensures items { passes.new.items ≡ passes.old.items ++ pass ∷ [] }
 {
     let _hub = hub;
     passes.push_reserved(pass);

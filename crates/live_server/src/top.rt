@@ -8,9 +8,10 @@ ghost use Rattle.transform_pool.specs.Passes as queues;
 ghost use Rattle.transform_pool.specs.Passes.{role_of};
 ghost use Rattle.transform_pool.specs.Roles.{putting, taking};
 ghost use Rattle.hmr_hub.specs.Calls.{IsFirst};
-ghost use Rattle.hmr_hub.specs.Passes.{HasTranscript, IsPassOf};
+ghost use Rattle.hmr_hub.specs.Passes.{HasTranscript, IsPassOf, roots_of};
 ghost use Rattle.hmr_hub.specs.declared.pass.Pass.{Pass};
 ghost use Rattle.live_server.specs.Crews.{IsCrew};
+ghost use Rattle.live_server.specs.Doors.{KeepsDoors};
 ghost use Rattle.live_server.specs.Editors.{GoesOn};
 ghost use Rattle.live_server.specs.Serving.{HasRecord, Served, passes_due};
 ghost use Rattle.live_server.specs.Splits.{Divided};
@@ -45,7 +46,8 @@ const MOST_DOORS: usize = 900;
 /// caller's thread then looks at the folder again and again, and makes the edits that it brings; news go to
 /// the terminal. At the end the doors are shut, all jobs are finished, each door is given back to the
 /// entrance, and each pass of a job is joined into the editor's, which has then seen the one transcript of
-/// the hub. Its record is given where the plan asks for it. It waits.
+/// the hub, and in it the calls of each door's pass, which are those of the sessions that the door held. Its
+/// record is given where the plan asks for it. It waits.
 ///
 /// `AllocError` comes where memory ran out before any job was begun.
 pub fn serve_live<
@@ -109,7 +111,7 @@ where
     ))
 }
 
-// The hub of roots that are those of a page. Only want of memory refuses.
+// The hub of roots that are those of a page. It fails only where memory runs out.
 fn new_hub(alloc: Global, roots: Vec<ModName>) -> Result<(Hub, Pass), AllocError>
     requires roots { AreRoots roots.items }
     ensures pass { IfOk result (λ made. IsPassOf made.0 made.1) }
@@ -221,6 +223,8 @@ where
     ensures divided { Divided pass.old pass.new }
     ensures due { sum (P.begun spawner.new) + passes_due crew.old.running crew.old.passes
         ≤ sum (P.begun spawner.old) + passes_due crew.new.running crew.new.passes }
+    ensures keeps { KeepsDoors ⟦<E::Door as Door>⟧ (roots_of pass.old)
+        (P.begun spawner.old) (P.begun spawner.new) crew.old.running.items crew.new.running.items }
 {
     crew.begin_workers(rt, alloc, pass, entrance, spawner, shared, queue, takers)?;
     let doors = (plan.doors as usize)

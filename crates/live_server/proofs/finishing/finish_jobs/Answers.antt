@@ -1,7 +1,10 @@
-use Rattle.std.proofs.Common.{◌∙◌, ◌∷◌, [], ap, arith, length}
+use Rattle.std.proofs.Common.{◌≡◌, ◌∙◌, ◌∷◌, [], ap, arith, length}
+use Rattle.std.proofs.lemmas.Grind.{common_steps}
 use Rattle.std.proofs.lemmas.List.{length-append}
 use Rattle.live_server.specs.Crews.{RunsOn}
+use Rattle.live_server.specs.Doors.{doors_in}
 use Rattle.live_server.proofs.Crews.{passes_taken}
+use Rattle.live_server.proofs.Doors.{finishing_all, finishing_one}
 use Rattle.live_server.proofs.Elements.{all_front, all_last}
 use Rattle.live_server.proofs.finishing.finish_jobs.Goals as goal
 
@@ -25,6 +28,14 @@ loop-job-preserved g c =
             ap (λ xs. length xs) f.taken.items,
             length-append c.loop-job.passes.items (f.taken.pass ∷ []),
           );
+      doors = λ roots fresh.
+          finishing_one g.E.Door.Door roots (doors_in g.E.Door.Door c.args.running.items) c.pop.new.self.items c.loop-job.running.items c.in-Some.job c.loop-job.passes.items
+          c.finish_job.new.passes.items c.in-Some.ensures.items (f.back roots) (i.doors roots fresh);
       begun = f.begun ∙ i.begun;
       shut = f.shut ∙ i.shut;
     }
+
+pub returns-clause-doors : goal.returns-clause-doors
+returns-clause-doors g c = λ roots fresh.
+    let none : c.loop-job.running.items ≡ [] = grind (arith, common_steps) in
+    finishing_all g.E.Door.Door roots (doors_in g.E.Door.Door c.args.running.items) c.loop-job.running.items c.loop-job.passes.items none (c.loop-job.invariant.doors roots fresh)

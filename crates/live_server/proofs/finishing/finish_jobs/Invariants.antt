@@ -1,8 +1,10 @@
-use Rattle.std.proofs.Common.{◌≡◌}
+use Rattle.std.proofs.Common.{◌≡◌, List}
 use Rattle.std.specs.Prelude.{vec_len}
 use Rattle.std.specs.List.{All}
+use Rattle.core_model.specs.Names.{Name}
 use Rattle.hmr_hub.specs.Passes.{IsPassOf}
 use Rattle.live_server.specs.Crews.{HasRoom, RunsOn}
+use Rattle.live_server.specs.Doors.{AreFresh, Finishing, doors_in}
 use Rattle.live_server.specs.Serving.{passes_due}
 use Rattle.live_server.proofs.finishing.finish_jobs.Given as goal
 
@@ -13,6 +15,8 @@ invariant-loop-job g l = record {
   room : HasRoom l.running l.passes;
   of : All (IsPassOf l.hub) l.passes.items;
   due : passes_due l.running l.passes ≡ passes_due l.fn.running l.fn.passes;
+  doors : (roots : List Name) → AreFresh g.E.Door.Door roots l.fn.running.items
+      → Finishing g.E.Door.Door roots (doors_in g.E.Door.Door l.fn.running.items) l.running.items l.passes.items;
   begun : g.P.Spawner.begun l.spawner ≡ g.P.Spawner.begun l.fn.spawner;
   shut : g.E.Entrance.is_shut l.entrance ≡ g.E.Entrance.is_shut l.fn.entrance;
 }

@@ -1,9 +1,10 @@
-use Rattle.std.proofs.Common.{◌≡◌, rules, sym, subst}
+use Rattle.std.proofs.Common.{◌≡◌, rules, refl, sym, subst}
 use Rattle.std.specs.Arc.{arc_value}
 use Rattle.hmr_hub.specs.Passes.{hub_mark}
 use Rattle.live_server.specs.Crews.{TakenIn}
 use Rattle.live_server.specs.Outs.{OutIsGood}
 use Rattle.live_server.proofs.Crews.{crew_pushed, crew_taken}
+use Rattle.live_server.proofs.Doors.{doors_same, doors_started}
 use Rattle.live_server.proofs.Outs.{out_is_good}
 use Rattle.live_server.proofs.crew.Crew.begin.Goals as goal
 
@@ -22,3 +23,10 @@ pub returns-in-Err-clause-crew : goal.returns-in-Err-clause-crew
 returns-in-Err-clause-crew g c =
     let hub : c.deref.result.now ≡ arc_value c.args.self.now.hub = search rules in
     crew_taken g.E.Door.Door _ _ c.args.self.now.passes _ c.requires.crew c.requires.place (subst (λ h. TakenIn h c.args.self.now.passes c.take_in.new.passes) hub c.take_in.ensures.taken)
+
+pub returns-in-Ok-clause-keeps : goal.returns-in-Ok-clause-keeps
+returns-in-Ok-clause-keeps g c = λ roots fresh.
+    doors_started g.E.Door.Door roots _ _ _ _ c.in-Ok.running c.args.job c.in-Ok.ensures.begun c.push_reserved.ensures.items c.in-Ok.ensures.running fresh
+
+pub returns-in-Err-clause-keeps : goal.returns-in-Err-clause-keeps
+returns-in-Err-clause-keeps g c = λ roots fresh. doors_same g.E.Door.Door roots _ _ _ _ c.in-Err.ensures.same refl

@@ -1,7 +1,8 @@
 use Rattle.std.proofs.Common.{◌≡◌, ◌≤◌, ◌+◌, false, sum}
 use Rattle.std.specs.Arc.{arc_value}
-use Rattle.hmr_hub.specs.Passes.{IsPassOf}
+use Rattle.hmr_hub.specs.Passes.{IsPassOf, roots_of}
 use Rattle.live_server.specs.Crews.{IsCrew}
+use Rattle.live_server.specs.Doors.{KeepsDoors}
 use Rattle.live_server.specs.Serving.{passes_due}
 use Rattle.live_server.specs.Splits.{Divided}
 use Rattle.live_server.proofs.crew.Crew.begin_doors.Given as goal
@@ -17,5 +18,6 @@ invariant-loop g l =
       divided : Divided l.fn.pass l.pass;
       few : sum (count l.spawner) ≤ sum (count l.fn.spawner) + l.counter;
       due : sum (count l.spawner) + passes_due l.fn.self.running l.fn.self.passes ≤ sum (count l.fn.spawner) + passes_due l.self.running l.self.passes;
+      keeps : KeepsDoors g.E.Door.Door (roots_of l.fn.pass) (count l.fn.spawner) (count l.spawner) l.fn.self.running.items l.self.running.items;
       going : g.E.Entrance.is_shut l.entrance ≡ false;
     }

@@ -4,6 +4,7 @@ use Rattle.std.specs.Arc.{arc_value}
 use Rattle.transform_pool.specs.Passes as queues
 use Rattle.transform_pool.specs.Passes.{role_of}
 use Rattle.transform_pool.specs.Roles.{taking}
+use Rattle.live_server.proofs.Doors.{doors_then}
 use Rattle.live_server.proofs.Elements.{all_front, all_last}
 use Rattle.live_server.proofs.Passes.{divided_then}
 use Rattle.live_server.proofs.crew.Crew.begin_workers.Goals as goal
@@ -23,6 +24,7 @@ loop-jobs-preserved g c =
       all = omega (arith, i.all, ap (λ xs. length xs) c.in-Some.ensures.items, length-append c.pop.new.self.items (c.in-Some.jobs ∷ []));
       few = omega (arith, i.few, b.few);
       due = omega (arith, i.due, b.due);
+      keeps = doors_then g.E.Door.Door _ _ _ _ _ _ _ _ i.divided i.keeps b.keeps;
       shut = b.shut ∙ i.shut;
     }
 
@@ -41,3 +43,7 @@ begin_worker-requires-clause-few g c =
 
 pub returns-in_err-begin_worker-clause-divided : goal.returns-in_err-begin_worker-clause-divided
 returns-in_err-begin_worker-clause-divided g c = divided_then _ _ _ c.loop-jobs.invariant.divided c.begin_worker.ensures.divided
+
+pub returns-in_err-begin_worker-clause-keeps : goal.returns-in_err-begin_worker-clause-keeps
+returns-in_err-begin_worker-clause-keeps g c =
+    doors_then g.E.Door.Door _ _ _ _ _ _ _ _ c.loop-jobs.invariant.divided c.loop-jobs.invariant.keeps c.begin_worker.ensures.keeps

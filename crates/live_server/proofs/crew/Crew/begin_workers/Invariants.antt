@@ -4,8 +4,9 @@ use Rattle.std.specs.Arc.{arc_value}
 use Rattle.transform_pool.specs.Passes as queues
 use Rattle.transform_pool.specs.Passes.{role_of}
 use Rattle.transform_pool.specs.Roles.{taking}
-use Rattle.hmr_hub.specs.Passes.{IsPassOf}
+use Rattle.hmr_hub.specs.Passes.{IsPassOf, roots_of}
 use Rattle.live_server.specs.Crews.{IsCrew}
+use Rattle.live_server.specs.Doors.{KeepsDoors}
 use Rattle.live_server.specs.Serving.{passes_due}
 use Rattle.live_server.specs.Splits.{Divided}
 use Rattle.live_server.proofs.crew.Crew.begin_workers.Given as goal
@@ -25,6 +26,7 @@ invariant-loop-jobs g l =
       all : made + length l.takers.items ≡ length l.fn.takers.items;
       few : sum (count l.spawner) ≤ sum (count l.fn.spawner) + made;
       due : sum (count l.spawner) + passes_due l.fn.self.running l.fn.self.passes ≤ sum (count l.fn.spawner) + passes_due l.self.running l.self.passes;
+      keeps : KeepsDoors g.E.Door.Door (roots_of l.fn.pass) (count l.fn.spawner) (count l.spawner) l.fn.self.running.items l.self.running.items;
       shut : g.E.Entrance.is_shut l.entrance ≡ g.E.Entrance.is_shut l.fn.entrance;
     }
 

@@ -1,4 +1,5 @@
 use Rattle.live_server.proofs.Crews.{crew_room}
+use Rattle.live_server.proofs.Held.{unused_half}
 use Rattle.live_server.proofs.crew.Crew.split.Goals as goal
 
 pub returns-in_err-reserve_place-clause-crew : goal.returns-in_err-reserve_place-clause-crew
@@ -20,3 +21,6 @@ pub returns-clause-crew : goal.returns-clause-crew
 returns-clause-crew g c =
     let e = c.reserve_place.ensures in
     crew_room g.E.Door.Door _ _ _ c.args.self.now.passes _ c.requires.crew e.running e.left (e.room c.requires.crew.room)
+
+pub returns-clause-unused : goal.returns-clause-unused
+returns-clause-unused g c = unused_half _ _ c.in_ok-half.ensures.half
