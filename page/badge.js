@@ -3,10 +3,10 @@
 
 import { shown } from './names.js';
 import { element, part } from './shadow.js';
-import { staleEdges, staleWords, stopWords } from './stale.js';
+import { staleWords, stopWords } from './stale.js';
 
 export function showBadge(page) {
-  const stale = page.isAdopted ? staleEdges(page) : [];
+  const { stale } = page;
   const badge = part('badge');
   const unfollowed = [...page.unfollowed].map((name) => element('li', `${shown(name)} isn't followed`));
   const rows = [...stale.map(asRow), ...unfollowed];

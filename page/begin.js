@@ -10,7 +10,7 @@ import { fire } from './handlers.js';
 import { enter } from './hot.js';
 import { isOfServer, nameOf } from './names.js';
 import { Page } from './page.js';
-import { staleEdges, staleWords } from './stale.js';
+import { staleWords } from './stale.js';
 
 const { dataset } = document.currentScript;
 const sent = { id: dataset.page, root: dataset.root, run: dataset.run, count: Number(dataset.count) };
@@ -22,8 +22,8 @@ globalThis.__hmr = {
   stop: LINKED,
   enter: (meta) => enter(page, meta),
   fire: (event, value) => fire(page, event, value),
-  edges: () => staleEdges(page),
-  stale: () => staleEdges(page).map(staleWords),
+  edges: () => page.stale,
+  stale: () => page.stale.map(staleWords),
   cut: () => page.cut(),
 };
 

@@ -6,17 +6,18 @@ import { forgetMended, told } from './faults.js';
 import { dispose, fire, run } from './handlers.js';
 import { falling } from './modules.js';
 import { placeOf } from './places.js';
-import { newModules } from './plans.js';
+import { staleEdges } from './stale.js';
 
 /** Carries the plan out that was applied. */
 export async function carryOut(page) {
   const { plan } = page;
-  const modules = newModules(page);
+  const modules = plan.made;
   page.plan = null;
   if (plan.kind === 'load') load(page, plan, modules);
   else await update(page, plan, modules);
   page.forced.clear();
   page.last = { ...plan, made: modules.map(({ name }) => name) };
+  page.stale = staleEdges(page);
   forgetMended(page, plan);
 }
 
@@ -32,6 +33,7 @@ export function prune(page, names) {
     page.forced.delete(instance.name);
     page.faults.delete(instance.name);
   }
+  page.stale = staleEdges(page);
 }
 
 function end(page, instance) {
@@ -94,7 +96,7 @@ async function update(page, plan, modules) {
     end(page, instance);
   }
   const made = make(page, modules, plan.id);
-  const eager = eagerOf(page, plan, begun);
+  const eager = eagerOf(page, plan, begun, made);
   page.isEvaluating = true;
   for (const instance of made) if (eager.has(instance)) await evaluate(page, instance);
   page.isEvaluating = false;

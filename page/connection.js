@@ -2,6 +2,7 @@
 // the page waits for the server, and goes on with the same one; another one, begun since, makes the browser
 // load the page again.
 
+import { carryOut } from './carrying_out.js';
 import { pendingRequest, take } from './turns.js';
 
 const CLOSED = new Error('the connection was closed');
@@ -36,9 +37,12 @@ async function speak(page) {
     for (let isOver = false; !isOver;) {
       const request = await pendingRequest(page);
       page.isAsking = request.type === 'ask';
-      const { data } = await next(JSON.stringify(request));
+      const answered = next(JSON.stringify(request));
+      answered.catch(() => {});           // where the connection is cut, that is told below
+      // All is linked: nothing of it hangs on the answer.
+      if (request.type === 'applied') await carryOut(page);
+      const answer = JSON.parse((await answered).data);
       page.isAsking = false;
-      const answer = JSON.parse(data);
       page.browser.note(request, answer);
       await take(page, request, answer);
       if (answer.type === 'not-yet') await page.browser.pause(50);

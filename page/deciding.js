@@ -13,6 +13,7 @@ export async function decide(page) {
   plan.isFirst = plan.kind === 'load' && !page.isAdopted && !page.isSpoiled;
   if (plan.isFirst && followEarly(page)) return;
   const modules = newModules(page);
+  plan.made = modules;
   await learn(page, modules);
   plan.cause = await linkFault(page, modules);
   if (plan.cause === null && wantsReload(page, modules)) {

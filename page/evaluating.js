@@ -12,7 +12,7 @@ const STUCK = {
 
 /** The instances that are evaluated with an update: those that the page's imports reach, without dynamic
  *  ones, and those whose namespace a callback gets. The others are evaluated where they are imported. */
-export function eagerOf(page, plan, begun) {
+export function eagerOf(page, plan, begun, made) {
   const reached = new Set();
   const reach = (first) => {
     const left = [first];
@@ -25,11 +25,12 @@ export function eagerOf(page, plan, begun) {
       links.forEach((to, name) => lazy.has(name) || left.push(to));
     }
   };
-  for (const name of [page.root, ...page.extras.keys()]) reach(page.live.get(name));
   for (const { path, acceptedPath } of plan.updates) {
     const isCalled = path !== acceptedPath && hasCallback(page.live.get(path), acceptedPath);
     if (isCalled || begun.has(acceptedPath)) reach(page.live.get(acceptedPath));
   }
+  if (made.every((instance) => reached.has(instance))) return reached;
+  for (const name of [page.root, ...page.extras.keys()]) reach(page.live.get(name));
   return reached;
 }
 

@@ -25,8 +25,8 @@ export function dispose(page, instance) {
 
 /** Calls the listeners of an event, of the live instances by rising number. */
 export function fire(page, event, value) {
-  for (const instance of falling([...page.live.values()]).reverse()) {
-    const listening = instance.listeners.filter((each) => each.event === event);
-    for (const { callback } of listening) run(page, instance, callback, value);
+  const listening = [...page.live.values()].filter(({ listeners }) => listeners.length > 0);
+  for (const instance of falling(listening).reverse()) {
+    for (const each of [...instance.listeners]) if (each.event === event) run(page, instance, each.callback, value);
   }
 }

@@ -9,7 +9,7 @@ const MOST_EXTRAS = 15;                   // beside the page's own root; a clien
 /** Before the page is adopted: whether it imported a module that its imports don't reach, so that it has
  *  to say hello anew with that one as a root. */
 export function followEarly(page) {
-  const met = new Set(walk(page).met);
+  const { met } = walk(page);
   const unmet = [...page.early].filter((name) => !met.has(name));
   page.early.clear();
   unmet.slice(0, MOST_EXTRAS).forEach((name) => page.extras.set(name, {}));

@@ -25,9 +25,14 @@ function tellPlan(page, modules) {
     const held = made.has(to) ? undefined : page.live.get(to);
     if (held !== undefined) kept[to] = [held.plan, held.module.version];
   }
-  const imported = new Set(walk(page, isImported).met);
-  const linked = modules.filter(({ name }) => !isScript(name) || imported.has(name));
+  const { met } = page.plan.walk.left.some(hasClassic) ? walk(page, isImported) : page.plan.walk;
+  const linked = modules.filter(({ name }) => !isScript(name) || met.has(name));
   return page.browser.tellPlan({ plan: plan.id, plain: plan.isFirst, made: versionsOf(linked), kept });
+}
+
+// Whether a module has another one by the tag of a classic script.
+function hasClassic({ imports }) {
+  return imports.some(({ role }) => role === 'script');
 }
 
 // Whether a module imports another one otherwise than by a tag of a classic script or a stylesheet.

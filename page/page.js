@@ -29,6 +29,8 @@ export class Page {
 
     this.plan = null;
     this.plans = 0;
+    this.names = [];                      // that were told last, sorted
+    this.stale = [];                      // bindings that are old, as of the last plan
     this.last = null;                     // the plan that was carried out last
 
     this.made = 0;                        // instances so far

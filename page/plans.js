@@ -14,8 +14,8 @@ export function beginPlan(page, answer) {
   page.plans += 1;
   const id = `${page.id}.${page.plans}`;
   const told = { kind: KINDS[answer.type], batch, triggeredBy, replaced, updates, reason: { cause, path } };
-  const progress = { met: new Set(), ahead: [...page.roots].reverse(), walked: null };
-  page.plan = { id, ...told, ...progress, staged: new Map(), cause: null, isFirst: false };
+  const progress = { walk: walkOf(page), staged: new Map() };
+  page.plan = { id, ...told, ...progress, cause: null, isFirst: false };
 }
 
 /** The module of this name as the plan makes the page, where it is kept or was fetched. */
@@ -25,47 +25,40 @@ export function entryOf(page, name) {
   return (isKept ? page.live.get(name)?.module : undefined) ?? plan.staged.get(name);
 }
 
-/** The walk from the roots by imports: the names it meets, in order, and the modules in the order in
- *  which it leaves them. */
-export function walk(page, follows = () => true) {
-  const met = new Set();
-  const left = [];
-  const tasks = page.roots.map((name) => ({ name })).reverse();
-  while (tasks.length > 0) {
-    const { name, module } = tasks.pop();
-    if (module !== undefined) {
-      left.push(module);
-    } else if (!met.has(name)) {
-      met.add(name);
-      const entry = entryOf(page, name);
-      if (entry !== undefined) {
-        const next = entry.targets.filter((to) => follows(entry, to)).map((to) => ({ name: to }));
-        tasks.push({ name, module: entry }, ...next.reverse());
-      }
-    }
-  }
-  return { met: [...met], left };
+// A walk from the roots by imports: the names that it met, and the modules in the order in which it left
+// them. Ahead of it are names, and modules that it leaves once it comes back to them.
+function walkOf({ roots }) {
+  return { met: new Set(), left: [], ahead: [...roots].reverse() };
 }
 
-/** The module that the plan has to fetch next: the first that the walk meets without having it. It goes on
- *  from where it was. */
-export function unfetched(page) {
-  const { met, ahead } = page.plan;
+// Goes on with a walk. Where it meets a module that there isn't, it stays before it and gives its name.
+function goOn(page, { met, left, ahead }, follows = () => true) {
   while (ahead.length > 0) {
-    const name = ahead[ahead.length - 1];
-    const entry = entryOf(page, name);
-    if (entry === undefined) return name;
-    ahead.pop();
-    if (!met.has(name)) ahead.push(...[...entry.targets].reverse());
-    met.add(name);
+    const next = ahead.pop();
+    if (typeof next !== 'string') left.push(next);
+    else if (!met.has(next)) {
+      const entry = entryOf(page, next);
+      if (entry === undefined) {
+        ahead.push(next);
+        return next;
+      }
+      met.add(next);
+      ahead.push(entry, ...entry.targets.filter((to) => follows(entry, to)).reverse());
+    }
   }
   return undefined;
 }
 
-/** The modules of a plan of which all is fetched, in the order in which the walk leaves them. */
-function reached(page) {
-  page.plan.walked ??= walk(page).left;
-  return page.plan.walked;
+/** The walk through all modules that there are, by the imports that it follows. */
+export function walk(page, follows) {
+  const whole = walkOf(page);
+  while (goOn(page, whole, follows) !== undefined) whole.met.add(whole.ahead.pop());
+  return whole;
+}
+
+/** The module that the plan has to fetch next: the first that the walk meets without having it. */
+export function unfetched(page) {
+  return goOn(page, page.plan.walk);
 }
 
 /** The modules that import another one, as the plan makes the page. */
@@ -78,13 +71,17 @@ export function importersOf(page, name) {
 export function newModules(page) {
   const { plan: { kind, staged }, live } = page;
   const isKept = ({ name, version }) => kind === 'load' && live.get(name)?.module.version === version;
-  return reached(page).filter((module) => staged.get(module.name) === module && !isKept(module));
+  return page.plan.walk.left.filter((module) => staged.get(module.name) === module && !isKept(module));
 }
 
-/** The names and versions that the page has once the plan is carried out, as `applied` tells them. */
+/** The names and versions that the page has once the plan is carried out, as `applied` tells them. Names are
+ *  sorted where they are others than the last time. */
 export function tableAfter(page) {
+  const { plan: { kind, walk: { left } }, live } = page;
   const after = new Map();
-  if (page.plan.kind === 'update') page.live.forEach(({ module }, name) => after.set(name, module.version));
-  reached(page).forEach(({ name, version }) => after.set(name, version));
-  return [...after.keys()].sort().map((name) => [name, after.get(name)]);
+  if (kind === 'update') live.forEach(({ module }, name) => after.set(name, module.version));
+  left.forEach(({ name, version }) => after.set(name, version));
+  const isSame = page.names.length === after.size && page.names.every((name) => after.has(name));
+  if (!isSame) page.names = [...after.keys()].sort();
+  return page.names.map((name) => [name, after.get(name)]);
 }

@@ -1,6 +1,6 @@
 // The turns of the protocol: the request that is pending, and what its answer does.
 
-import { carryOut, prune } from './carrying_out.js';
+import { prune } from './carrying_out.js';
 import { decide } from './deciding.js';
 import { giveUp, told, tellText } from './faults.js';
 import { learn, readModule } from './modules.js';
@@ -43,7 +43,7 @@ export async function pendingRequest(page) {
   return page.isLeaving || isPutOff ? { type: 'bye' } : { type: 'applied', table: tableAfter(page) };
 }
 
-/** Takes the answer to a request. */
+/** Takes the answer to a request. A plan is carried out once its `applied` is sent, beside the answer. */
 export async function take(page, request, answer) {
   const { type, path } = answer;
   if (!ANSWERS[request.type].includes(type)) {
@@ -52,7 +52,6 @@ export async function take(page, request, answer) {
   switch (request.type) {
     case 'applied':
       if (type === 'refused') throw new Error(`applied was refused: ${JSON.stringify(answer)}`);
-      await carryOut(page);
       break;
     case 'aborted':
       giveUp(page);

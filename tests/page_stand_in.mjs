@@ -9,11 +9,11 @@ import { createInterface } from 'node:readline';
 
 const [folder] = process.argv.slice(2);
 globalThis.document = { URL: 'http://localhost/' };
+const { carryOut } = await import(`${folder}/carrying_out.js`);
 const { enter } = await import(`${folder}/hot.js`);
 const { readModule } = await import(`${folder}/modules.js`);
 const { absolute } = await import(`${folder}/names.js`);
 const { Page } = await import(`${folder}/page.js`);
-const { staleEdges } = await import(`${folder}/stale.js`);
 const { pendingRequest, take } = await import(`${folder}/turns.js`);
 
 const input = createInterface({ input: process.stdin })[Symbol.asyncIterator]();
@@ -154,15 +154,16 @@ for (let told = await hear(); told !== null; told = await hear()) {
   for (let isIdle = false; !isIdle && !page.isLeaving;) {
     const request = await pendingRequest(page);
     say({ request });
-    const answer = await hear();
     const { plan } = page;
+    if (request.type === 'applied') await carryOut(page);
+    const answer = await hear();
     tellBefore(page, request, answer);
     await take(page, request, answer);
     tellAfter(request, plan);
     isIdle = request.type === 'ask' && answer.type === 'idle';
   }
   const table = [...page.live].map(([name, { module }]) => `${name} ${module.version}`).sort();
-  const stale = [...new Set(staleEdges(page).map(({ name, to }) => `stale ${name} ${to}`))].sort();
+  const stale = [...new Set(page.stale.map(({ name, to }) => `stale ${name} ${to}`))].sort();
   say({ lines, table, stale, leaves: page.isLeaving });
   lines = [];
 }

@@ -5,7 +5,7 @@ ghost use Rattle.live_page.specs.Files.{is_file};
 use crate::script;
 
 /// The bytes of the client's file at this path, which is `/@hmr/client.js`, or None where there is none. A page
-/// loads it by a classic script, first in its head. It takes no memory.
+/// loads it by a classic script, first in its head.
 pub fn file(path: &str) -> Option<&'static [u8]>
     ensures { is_some result ≡ is_file path.now }
 {
