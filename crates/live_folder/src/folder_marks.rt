@@ -28,13 +28,13 @@ const LOOKS: u32 = 10;
 /// The most bytes of a file.
 const FILE_BYTES: usize = 67_108_864;
 
-/// A folder of the file system. A file is read where its length or its time of change is another than at
-/// the look before. Most looks are glances: a file that is made, taken away or put in another's place is seen at
-/// once, and so is a change of one of the 64 files that changed last; of another one the change is seen after one
-/// look for each 256 files. Of the files those are looked at whose names end in `.js`, `.mjs`, `.css`, `.json`,
-/// `.html` or `.htm`; folders that begin with a dot, those named `node_modules` and links to folders are
-/// left out, and links to files outside of the folder are passed over. A look shows first the modules that have a new text and then those that are gone, in the
-/// order of their paths.
+/// A folder of the file system. A file is read where its length or its time of change is another than at the
+/// look before. Most looks are glances: a file that is made, taken away or put in another's place is seen at
+/// once, and so is a change of one of the 64 files that changed last; of another one the change is seen
+/// after one look for each 256 files. Of the files those are looked at whose names end in `.js`, `.mjs`,
+/// `.css`, `.json`, `.html` or `.htm`; folders that begin with a dot, those named `node_modules` and links
+/// to folders are left out, and links to files outside of the folder are passed over. A look shows first the
+/// modules that have a new text and then those that are gone, in the order of their paths.
 #[derive(Drop)]
 pub struct FolderMarks<R: Drop> {
     rt: R,
@@ -66,8 +66,8 @@ impl<R: Drop> FolderMarks<R> {
 }
 
 impl<R: Files + AllocGlobal + Wait + Clone + Drop> FolderMarks<R> {
-    // The marks once the files that changed are still, and the paths of these. At the first look all files have
-    // changed, and are taken as they are.
+    // The marks once the files that changed are still, and the paths of these. At the first look all files
+    // have changed, and are taken as they are.
     fn still_marks(&self, alloc: Global) -> Result<(Marks, Vec<String>), NoMarks> {
         let folder = self.folder.as_str();
         let mut marks = marks_below(&self.rt, alloc, folder)?;

@@ -1,21 +1,21 @@
 // Glances at a folder: whether anything may have changed, told by a part of what is known of it.
 //
-// A whole look asks the file system of each file, which takes milliseconds where there are thousands. A glance asks
-// of the folders, of the files that changed lately, and of the next few of all files in turn: so it sees at once
-// whatever is made, taken away or put in another's place, and what changes again, and any other change once its
-// file's turn has come.
+// A whole look asks the file system of each file, which takes milliseconds where there are thousands. A
+// glance asks of the folders, of the files that changed lately, and of the next few of all files in turn: so
+// it sees at once whatever is made, taken away or put in another's place, and what changes again, and any
+// other change once its file's turn has come.
 use crate::marks::{Marks, folder_change, mark_at};
 use std::alloc::{AllocError, Global};
 use std::rt::Files;
 
 /// How many files are looked at in turn.
-const FILES_AT_ONCE: usize = 256;
+const FILES_AT_ONCE: usize = 128;
 
 /// How many files that changed lately are looked at.
 const LATE_FILES: usize = 64;
 
-/// How many glances there are before a whole look, and before one that follows a change: a folder that is changed
-/// twice within a tick of the file system's clock may look as if it were changed once.
+/// How many glances there are before a whole look, and before one that follows a change: a folder that is
+/// changed twice within a tick of the file system's clock may look as if it were changed once.
 const MOST_GLANCES: u32 = 100;
 
 const GLANCES_AFTER_CHANGE: u32 = 10;

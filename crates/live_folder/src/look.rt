@@ -16,7 +16,7 @@ pub struct Change {
 }
 
 impl Change {
-    /// A module with a new text of at most 64 MiB. It takes no memory.
+    /// A module with a new text of at most 64 MiB.
     pub fn saved(name: ModName, text: Vec<u8>) -> Change
         requires short { IsShort text }
         ensures { (result.name ≡ name) × (result.text ≡ Some text) }
@@ -27,28 +27,28 @@ impl Change {
         }
     }
 
-    /// A module that is gone. It takes no memory.
+    /// A module that is gone.
     pub fn removed(name: ModName) -> Change
         ensures { (result.name ≡ name) × (result.text ≡ None) }
     {
         Change { name, text: None }
     }
 
-    /// Whether it is of this module. It takes no memory.
+    /// Whether it is of this module.
     pub fn is_of(&self, name: &ModName) -> bool
         ensures { result ≡ is_text self.now.name name.now }
     {
         self.name == *name
     }
 
-    /// Whether the module is gone. It takes no memory.
+    /// Whether the module is gone.
     pub fn is_removal(&self) -> bool
         ensures { result ≡ is_none self.now.text }
     {
         self.text.is_none()
     }
 
-    /// The name, and the new text; None where the module is gone. It takes no memory.
+    /// The name, and the new text; None where the module is gone.
     pub fn into_parts(self) -> (ModName, Option<Vec<u8>>)
         ensures name { result.0 ≡ self.name }
         ensures text { result.1 ≡ self.text }
@@ -93,7 +93,7 @@ pub struct Look {
 }
 
 impl Look {
-    /// A look that shows no change. It takes no memory.
+    /// A look that shows no change.
     pub fn of_nothing(alloc: Global, away: bool) -> Look {
         Look {
             changes: Vec::new(alloc),

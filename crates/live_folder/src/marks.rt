@@ -1,5 +1,5 @@
-// The marks of all files below a folder that may be modules, and of the folders that they are in. The folder is
-// gone through level by level; a path has at most 255 bytes, so that there are no more levels.
+// The marks of all files below a folder that may be modules, and of the folders that they are in. The folder
+// is gone through level by level; a path has at most 255 bytes, so that there are no more levels.
 use std::alloc::{AllocError, AllocFailed, Global};
 use std::collections::BTreeMap;
 use std::fs::{DirEntry, Metadata};

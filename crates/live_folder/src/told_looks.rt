@@ -10,7 +10,7 @@ pub struct ToldLooks {
 }
 
 impl ToldLooks {
-    /// These looks. It takes no memory.
+    /// These looks.
     pub fn new(looks: VecDeque<Look>) -> ToldLooks {
         ToldLooks { looks }
     }
