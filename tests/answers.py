@@ -53,7 +53,7 @@ BAD = answer(400, True)
 
 
 def worked():
-    """The two rows with which the answers are told."""
+    """The two cases with which the answers are told."""
     yield page(GET_M, ON_M)
     first = head("POST /m.js HTTP/1.1", "Host: x")
     second = head("GET /x.js HTTP/1.0")

@@ -1,9 +1,9 @@
 """What a scan tells of pages of HTML: `tests/run SCAN_PROGRAM html_pages`.
 
-Each row was worked out by hand from the HTML standard: its tokens, what it says of `script` and `link`, and what browsers
-insert before a page's first element. A row of FOUND has a text and the lines of its scan without their places, with ` / `
-between them; the line of the first script is left out. A row of HEADS has a text and the place of its first script, and one
-of PLACES a text and all of its lines.
+Each case was worked out by hand from the HTML standard: its tokens, what it says of `script` and `link`, and what
+browsers insert before a page's first element. A case of FOUND has a text and the lines of its scan without their
+places, with ` / ` between them; the line of the first script is left out. A case of HEADS has a text and the place of
+its first script, and one of PLACES a text and all of its lines.
 """
 import re
 

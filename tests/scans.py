@@ -1,8 +1,8 @@
 """What a scan tells of texts of JavaScript: `tests/run SCAN_PROGRAM scans`.
 
-Each row was worked out by hand from ECMA-262 and from what `import.meta.hot` means. A row of FOUND has a text and the
+Each case was worked out by hand from ECMA-262 and from what `import.meta.hot` means. A case of FOUND has a text and the
 lines of its scan without their places, with ` / ` between them; the lines of `import.meta` and of the first statement
-are left out. A row of FAULTS has a text and its one line, and one of PLACES a text and all of its lines.
+are left out. A case of FAULTS has a text and its one line, and one of PLACES a text and all of its lines.
 """
 import re
 

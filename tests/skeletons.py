@@ -1,11 +1,11 @@
 """What the skeletons of files are: `tests/run SCAN_PROGRAM skeletons`.
 
-Each row was worked out by hand: by what browsers read of a specifier as a URL, by what `import.meta.hot` means, and by the
-rules of names in docs/JAVASCRIPT.md. A row of TAKEN has a text and what its skeleton says behind the stamp, as the file
-`/app/main.js`: modules that are imported, then `| self`, `| accept ..` and `| decline`, each in the order of a skeleton. A
-row of OTHERS has the path of a page, a stylesheet or data with its text and what its skeleton says, and one of REFUSED a
-text and its whole skeleton. A row of NAMES has the path of a file, and what `import "./a b.js"` of it
-imports.
+Each case was worked out by hand: by what browsers read of a specifier as a URL, by what `import.meta.hot` means, and by
+the rules of names in docs/JAVASCRIPT.md. A case of TAKEN has a text and what its skeleton says behind the stamp, as the
+file `/app/main.js`: modules that are imported, then `| self`, `| accept ..` and `| decline`, each in the order of a
+skeleton. A case of OTHERS has the path of a page, a stylesheet or data with its text and what its skeleton says, and
+one of REFUSED a text and its whole skeleton. A case of NAMES has the path of a file, and what `import "./a b.js"` of
+it imports.
 """
 from rows import Run, encoded
 

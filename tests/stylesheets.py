@@ -1,7 +1,7 @@
 """What a scan tells of stylesheets: `tests/run SCAN_PROGRAM stylesheets`.
 
-Each row was worked out by hand from CSS Syntax and CSS Cascade. A row of FOUND has a text and the addresses that it imports,
-as they are written, with ` / ` between them, or None. A row of PLACES has a text and all of its lines.
+Each case was worked out by hand from CSS Syntax and CSS Cascade. A case of FOUND has a text and the addresses that it
+imports, as they are written, with ` / ` between them, or None. A case of PLACES has a text and all of its lines.
 """
 import re
 

@@ -1,5 +1,5 @@
-// Worked rows of names and specifiers from outside of the definitions, and what no clause says: that
-// they are read with ample memory.
+// Worked cases of names and specifiers from outside of the definitions, and what no clause says:
+// that they are read with ample memory.
 use hmr_types::{ModName, SpecFault, Text, event_module, event_path, is_event, is_name, resolve};
 use std::alloc::{AllocError, Global};
 use std::test::Fail;

@@ -6,8 +6,8 @@
 //!
 //! Stands on `es_scan` and `css_scan`, for the outlines of texts, on `file_names` and `page_addresses`, for where
 //! specifiers and addresses lead, on `instance_urls` and on `text_splices`. Keeps: nothing but the ranges of
-//! [`script_splices`] is changed, and of a stylesheet nothing but addresses. Knows nothing of versions, requests
-//! and of what a module does.
+//! [`script_splices`] is changed, and of a stylesheet nothing but addresses. Only a call that can return
+//! `AllocError` takes memory. Knows nothing of versions, requests and of what a module does.
 #![tactic(auto)]
 
 mod calls;

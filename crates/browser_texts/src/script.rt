@@ -61,7 +61,7 @@ pub fn script_splices<I: Instances>(
 }
 
 /// Whether a text has no `#!`, doesn't use `import.meta` and calls no `import`, so that it is sent byte for
-/// byte where its imports are at plain URLs. It takes no memory.
+/// byte where its imports are at plain URLs.
 pub fn is_plain(outline: &Outline) -> bool
     ensures { result ≡ is_plain outline.now }
 {

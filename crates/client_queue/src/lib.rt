@@ -4,8 +4,8 @@
 //!
 //! Stands on the vocabulary and on the definitions of the core. Keeps: each known name has the place in
 //! a row at which it stands, the marked ones first; the forced names rise by bytes, and so do the names
-//! of the notices, each once; a mark takes no memory; a notice for which room was made isn't refused.
-//! Knows nothing of views, of plans or of messages.
+//! of the notices, each once; a notice for which room was made isn't refused. Only a call that can
+//! return `AllocError` takes memory. Knows nothing of views, of plans or of messages.
 #![tactic(auto)]
 
 mod known;

@@ -51,7 +51,7 @@ impl Model for ClientQueue {
 }
 
 impl ClientQueue {
-    /// No name is known, and nothing is in store. It takes no memory.
+    /// No name is known, and nothing is in store.
     pub fn new(alloc: Global) -> ClientQueue
         ensures known { result.known ≡ [] }
         ensures forced { result.forced ≡ [] }
@@ -77,7 +77,7 @@ impl ClientQueue {
         self.known.enter(name)
     }
 
-    /// The name is known no more. It takes no memory.
+    /// The name is known no more.
     pub fn leave(&mut self, name: &ModName)
         ensures mark { MarkIs name.now None self.old self.new }
         ensures kept { self.new ≡ record self.old { known = self.new.known } }
@@ -85,7 +85,7 @@ impl ClientQueue {
         self.known.leave(name);
     }
 
-    /// The name is marked from now on, where it is known; else nothing changes. It takes no memory.
+    /// The name is marked from now on, where it is known; else nothing changes.
     pub fn mark(&mut self, name: &ModName)
         ensures mark { MarkIs name.now
             (mark_where_known true (at self.old.known name.now)) self.old self.new }
@@ -94,7 +94,7 @@ impl ClientQueue {
         self.known.mark(name);
     }
 
-    /// The name is marked no more. It takes no memory.
+    /// The name is marked no more.
     pub fn unmark(&mut self, name: &ModName)
         ensures mark { MarkIs name.now
             (mark_where_known false (at self.old.known name.now)) self.old self.new }
@@ -113,8 +113,8 @@ impl ClientQueue {
         Ok(names)
     }
 
-    /// Whether nothing is marked, forced or waiting as a notice. It takes no memory, and the same time
-    /// whatever is known.
+    /// Whether nothing is marked, forced or waiting as a notice. It takes the same time whatever is
+    /// known.
     pub fn is_clear(&self) -> bool
         ensures clear { result ≡ is_clear self.now }
         ensures marked { (n : Name) → has (marked_of self.now.known) n ≡ is_marked self.now n }
@@ -131,7 +131,7 @@ impl ClientQueue {
         put_name(&mut self.forced, name)
     }
 
-    /// The name is forced no more. It takes no memory.
+    /// The name is forced no more.
     pub fn unforce(&mut self, name: &ModName)
         ensures { self.new
             ≡ record self.old { forced = filter (λ m. not (same_name m name.now)) self.old.forced } }
@@ -139,7 +139,7 @@ impl ClientQueue {
         without_name(&mut self.forced, name);
     }
 
-    /// No name is forced any more. It takes no memory, and time in proportion to the forced names.
+    /// No name is forced any more. It takes time in proportion to the forced names.
     pub fn unforce_all(&mut self)
         ensures { self.new ≡ record self.old { forced = [] } }
     {
@@ -166,7 +166,7 @@ impl ClientQueue {
         put_row(&mut self.notices, name, fault)
     }
 
-    /// No fault of this module waits to be told. It takes no memory.
+    /// No fault of this module waits to be told.
     pub fn drop_notice(&mut self, name: &ModName)
         ensures { self.new
             ≡ record self.old { notices = without name.now self.old.notices; spare = self.new.spare } }
@@ -174,7 +174,7 @@ impl ClientQueue {
         without_row(&mut self.notices, name);
     }
 
-    /// Takes the waiting fault of the least name. It takes no memory.
+    /// Takes the waiting fault of the least name.
     pub fn next_notice(&mut self) -> Option<(ModName, TextFault)>
         ensures notice { result ≡ first_of self.old.notices }
         ensures left { self.new
@@ -192,21 +192,21 @@ impl ClientQueue {
         self.notices.reserve(1)
     }
 
-    /// The client gave a plan up that began at this count. It takes no memory.
+    /// The client gave a plan up that began at this count.
     pub fn hold(&mut self, at: u64)
         ensures { self.new ≡ record self.old { held = Some at } }
     {
         self.held = Some(at);
     }
 
-    /// The client isn't held any more. It takes no memory.
+    /// The client isn't held any more.
     pub fn release(&mut self)
         ensures { self.new ≡ record self.old { held = None } }
     {
         self.held = None;
     }
 
-    /// The count at which the plan began that the client gave up last. It takes no memory.
+    /// The count at which the plan began that the client gave up last.
     pub fn held(&self) -> Option<u64>
         ensures { result ≡ self.now.held }
     {

@@ -30,8 +30,8 @@ use update_msgs::{ClientMsg, ServerMsg};
 /// read in the runtime's format. After an idle the link pauses. [`Ended::Closed`] comes exactly where the
 /// bye was answered or the peer closed, [`Ended::LinkFault`] only where the link's count rose in this call,
 /// [`Ended::BadMessage`] exactly where what was received reads as no message, [`Ended::Unexpected`] and
-/// [`Ended::InstancesFull`] exactly where the runtime answered so, and [`Ended::NoMemory`] for want of
-/// memory; then the lines of the last answer may be missing, and the runtime takes nothing more. It waits.
+/// [`Ended::InstancesFull`] exactly where the runtime answered so, and [`Ended::NoMemory`] where memory ran
+/// out; then the lines of the last answer may be missing, and the runtime takes nothing more. It waits.
 pub fn client_session<L: Link, F: FnOnce(Bag) -> Result<Ran, AllocError> + Drop>(
     alloc: Global,
     link: &mut L,

@@ -1,5 +1,5 @@
 // Lines that no run of a script shows: the largest numbers, and words for what takes too long to come to.
-// The other lines are those of `examples/` and of the rows of `tests/`.
+// The other lines are those of `examples/` and of the test cases of `tests/`.
 use hmr_types::{EditRefusal, FaultWord, ModName, Sequence, TextFault};
 use output_lines::{EditWord, EndWord, OutLine, RemoveWord, SettleWord};
 use play_text::render;
@@ -24,7 +24,7 @@ settle /m.js 2 refused 4294967295:14 unexpected
 1 error /m.js 9007199254740992:18446744073709551615 not-utf8
 ";
 
-/// The line of a row.
+/// The line of a case.
 fn line(row: usize, name: ModName) -> OutLine {
     match row {
         0 => OutLine::Open {
@@ -67,7 +67,7 @@ fn line(row: usize, name: ModName) -> OutLine {
 
 // A line is made and rendered in a function of its own, so that none holds more than one.
 
-/// The text of a row's line.
+/// The text of a case's line.
 fn text_of(alloc: Global, row: usize) -> Result<Vec<u8>, AllocError> {
     let name = name(alloc, "/m.js")?;
     render(alloc, &line(row, name))

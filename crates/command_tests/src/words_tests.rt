@@ -1,5 +1,5 @@
-// Words of the command line, and what the commands that they are hold. Words that are no command are rows of
-// `tests/words.py`.
+// Words of the command line, and what the commands that they are hold. Words that are no command are test
+// cases of `tests/words.py`.
 use command_words::{Command, ServePlan, read_words};
 use hmr_types::ModName;
 use std::alloc::{AllocError, Global};

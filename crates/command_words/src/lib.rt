@@ -2,8 +2,8 @@
 //!
 //! The first word names the command, and those behind it are read by `clap` as the words of one simple
 //! command without help and version. Stands on `hmr_types` for names of modules and on `core_model` for
-//! what the roots of a page may be. Keeps: [`read_words`] is the definition `command_of`, want of memory
-//! apart. Knows nothing of what a command does.
+//! what the roots of a page may be. Keeps: [`read_words`] is the definition `command_of`, unless memory
+//! runs out. Knows nothing of what a command does.
 #![tactic(auto)]
 
 mod command;

@@ -29,10 +29,10 @@ pub struct Ran {
 
 /// Runs the body of a callback, where the variables of its own module hold what `own` says and the locals of
 /// its imports what `imports` says, with these modules as its parameters and this bag. A name of `own`
-/// stands before the same name of `imports`. A parameter past the end of `mods` is `undefined`. Only want of
-/// memory refuses; the bag is then gone. No variable is copied but for a value that the body reads or
-/// assigns. It takes time in proportion to the body and to both lists, but for the logarithm of the number
-/// of names.
+/// stands before the same name of `imports`. A parameter past the end of `mods` is `undefined`. It fails
+/// only where memory runs out; the bag is then gone. No variable is copied but for a value that the body
+/// reads or assigns. It takes time in proportion to the body and to both lists, but for the logarithm of the
+/// number of names.
 pub fn run_body(
     alloc: Global,
     code: &HandlerCode,

@@ -1,8 +1,8 @@
 //! The one evaluator: the evaluation of a module, and the run of a handler's body.
 //!
 //! It stands on the vocabulary, on the meaning of module texts and on bags. Keeps: every answer is the
-//! definition's, whole, with all that stands before a fault. Knows nothing of clients, of instances or
-//! of how a text is read.
+//! definition's, whole, with all that stands before a fault. A call takes memory only where its result
+//! can say that memory ran out. Knows nothing of clients, of instances or of how a text is read.
 #![tactic(auto)]
 
 mod body;

@@ -39,10 +39,10 @@ pub struct Evaluated {
     pub bag: Bag,
 }
 
-/// Evaluates a module, whose imports' locals hold what `imports` says, with this bag. Only want of
-/// memory refuses; the bag is then gone. Each name is looked up in an index: it takes time in proportion
-/// to the module's size and the number of imports, but for the logarithm of the number of names, and no
-/// deeper recursion than the depth of the module language.
+/// Evaluates a module, whose imports' locals hold what `imports` says, with this bag. It fails only
+/// where memory runs out; the bag is then gone. Each name is looked up in an index: it takes time in
+/// proportion to the module's size and the number of imports, but for the logarithm of the number of
+/// names, and no deeper recursion than the depth of the module language.
 #[tactic(auto, using(crate::proofs::Names::all_declared))]
 pub fn eval_module(
     alloc: Global,

@@ -33,7 +33,7 @@ impl<'a> Model for Slots<'a> {
 }
 
 impl<'a> Slots<'a> {
-    /// Names that are found by a walk. It takes no memory.
+    /// Names that are found by a walk.
     pub fn walked(first: &'a [(Name, Slot)], second: &'a [(Name, Slot)]) -> Slots<'a>
         ensures { result ≡ first.now ++ second.now }
     {

@@ -1,5 +1,5 @@
-// Why an evaluation ends early. A fault is the module's own, and the definitions say which; want of memory
-// says nothing of the module, and is told apart.
+// Why an evaluation ends early. A fault is the module's own, and the definitions say which; running out of
+// memory says nothing of the module, and is told apart.
 ghost use Rattle.std.specs.Prelude.{◌≡◌, IfOk};
 ghost use Rattle.module_semantics.specs.Bodies.{State, Progress};
 ghost use Rattle.const_eval.specs.Stops.{Leaves};
@@ -49,7 +49,8 @@ impl<T: Drop> From<AllocFailed<T>> for Stop {
     }
 }
 
-/// The fault that ended the evaluation, None where it came to its end. Want of memory stays an error.
+/// The fault that ended the evaluation, None where it came to its end. Running out of memory stays an
+/// error.
 pub fn fault_of(ended: Result<(), Stop>) -> Result<Option<EvalFault>, AllocError>
     ensures { IfOk result
         (λ fault. (s : State) (meant : Progress) → Leaves ended s meant → meant ≡ (s, fault)) }

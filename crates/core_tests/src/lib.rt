@@ -1,7 +1,7 @@
 //! The tests of the server's core, through its public calls.
 //!
 //! Each file is an area: sources, the limits of edits, requests of clients, roots, pages. Stands on the core
-//! and what it stands on, and no crate stands on it. Keeps: a row says what is expected in words from
+//! and what it stands on, and no crate stands on it. Keeps: a test case says what is expected in words from
 //! outside, never by a call of what it tests. Has no code but tests, and knows nothing of what is private in
 //! a crate.
 #![tactic(auto)]

@@ -19,7 +19,7 @@ use std::process::ExitCode;
 use top_call::run;
 use ws_links::TcpNet;
 
-/// The status for want of memory.
+/// The status where memory runs out.
 const NO_MEMORY: u8 = 9;
 
 fn main(rt: HostRuntime) -> ExitCode {

@@ -29,7 +29,7 @@ pub trait Attendant {
         ensures visits { visits self.new ≡ one_more (visits self.old) }
         ensures stays { stays self.old self.new };
 
-    /// Whether it serves no more. It takes no memory.
+    /// Whether it serves no more.
     fn is_done(&self) -> bool
         ensures { result ≡ is_done self.now };
 

@@ -51,10 +51,10 @@ pub trait Door {
         ensures cause { HasOutCause (faults self.old) (faults self.new) result };
 
     /// Lets one rest to whom an end was refused: over real connections it returns after 100 milliseconds, in
-    /// memory at once. It takes no memory.
+    /// memory at once.
     fn pause(&self);
 
-    /// Takes a closed end back, and counts a fault exactly where the end's count isn't 0. It takes no memory.
+    /// Takes a closed end back, and counts a fault exactly where the end's count isn't 0.
     fn retire(&mut self, end: Self::End)
         requires shut { Self.End.phase end ≡ Phase.Shut }
         requires out { is_out self.old ≡ true }

@@ -29,7 +29,7 @@ pub trait Entrance {
         ensures cause { HasOutCause (faults self.old) (faults self.new) result };
 
     /// At how many addresses it listens. Doors are given to them in turn, so who wants so many doors at each
-    /// asks for so many times as many. It takes no memory.
+    /// asks for so many times as many.
     fn addresses(&self) -> usize;
 
     /// One more door, which gave no end so far.
@@ -48,14 +48,14 @@ pub trait Entrance {
         ensures cause { HasOutCause (faults self.old) (faults self.new) result };
 
     /// Shuts all doors: each `accept` of theirs answers None from then on, also one that waits, and what
-    /// waits for bytes of a visitor is told that none come. It takes no memory.
+    /// waits for bytes of a visitor is told that none come.
     fn shut(&mut self)
         ensures shut { is_shut self.new ≡ true }
         ensures given { given self.new ≡ given self.old }
         ensures later { faults self.old ≤ faults self.new };
 
     /// Takes a door back whose last end was given back, and counts a fault exactly where the door's count
-    /// isn't 0. It takes no memory.
+    /// isn't 0.
     fn take_back(&mut self, door: Self::Door)
         requires back { Self.Door.is_out door ≡ false }
         ensures rose { Self.Door.faults door ≢ 0 → Rose (faults self.old) (faults self.new) }

@@ -32,7 +32,7 @@ pub struct DoorOut<D: Drop, A: Drop> {
 }
 
 impl<D: Door + Drop, A: Attendant + Drop> DoorJob<D, A> {
-    /// The job of an attendant at a door, both of which had equally many visits. It takes no memory.
+    /// The job of an attendant at a door, both of which had equally many visits.
     pub fn new(door: D, attendant: A) -> Self
         requires going { D.is_shut door ≡ false }
         requires back { D.is_out door ≡ false }

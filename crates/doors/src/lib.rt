@@ -8,8 +8,10 @@
 //!
 //! Stands on `links`, whose ends visitors are, on `http_heads` for where a head ends, and on `jobs`. Keeps:
 //! each end that was accepted is served once, shut and given back before the next is accepted; after a door
-//! has answered that no more come it is asked for none; a count rises wherever a call fails. Knows nothing
-//! of what is served, of hubs or of sockets.
+//! has answered that no more come it is asked for none; a count rises wherever a call fails. A call takes
+//! memory only where its result can say that memory ran out, but for [`serve_door`] and a [`DoorJob`] at
+//! its work, which take what their door and attendant take. Knows nothing of what is served, of hubs or of
+//! sockets.
 #![tactic(auto)]
 
 mod attendant;

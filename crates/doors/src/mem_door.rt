@@ -21,7 +21,7 @@ pub struct MemDoor<N: Net + Drop> {
 
 impl<N: Net + Drop> MemDoor<N> {
     /// A door over a net that listens, whose n-th end sends the n-th of these lists of bytes before it is
-    /// opened. It takes no memory.
+    /// opened.
     pub fn new(net: N, coming: VecDeque<Vec<u8>>) -> Self
         requires heard { IsSome (N.heard net) }
         ensures net { result.net ≡ net }
@@ -37,7 +37,7 @@ impl<N: Net + Drop> MemDoor<N> {
         }
     }
 
-    /// The net. It takes no memory.
+    /// The net.
     pub fn into_net(self) -> N
         ensures { result ≡ self.net }
     {

@@ -18,7 +18,7 @@ pub struct MemVisitor<L: Drop> {
 }
 
 impl<L: Link + Drop> MemVisitor<L> {
-    /// A visitor that sends these bytes before its link is opened. It takes no memory.
+    /// A visitor that sends these bytes before its link is opened.
     pub fn new(alloc: Global, link: L, unread: Vec<u8>) -> Self
         ensures link { result.link ≡ link }
         ensures unread { result.unread ≡ unread }
@@ -31,14 +31,14 @@ impl<L: Link + Drop> MemVisitor<L> {
         }
     }
 
-    /// The bytes that were written before the link was opened. It takes no memory.
+    /// The bytes that were written before the link was opened.
     pub fn written(&self) -> &[u8]
         ensures { result.now ≡ self.now.written.items }
     {
         &self.written
     }
 
-    /// The link. It takes no memory.
+    /// The link.
     pub fn into_link(self) -> L
         ensures { result ≡ self.link }
     {

@@ -64,7 +64,7 @@ pub trait Visitor: Link {
     /// Writes these bytes, whole. It may wait.
     ///
     /// `Failed` comes only where the count of faults rose in this call, `NoMemory` where memory ran out; a
-    /// front of the bytes may then have been written.
+    /// prefix of the bytes may then have been written.
     fn answer(&mut self, text: &[u8]) -> Result<(), OutFault>
         requires fresh { Self.phase self.old ≡ Phase.Fresh }
         ensures stays { Self.phase self.new ≡ Phase.Fresh }

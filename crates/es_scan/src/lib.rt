@@ -3,8 +3,8 @@
 //! `import.meta.hot`, and where a bracket, literal or comment isn't closed.
 //!
 //! One pass over the bytes, by what may come next and a stack of what is open; no tree is made. Stands on
-//! nothing. Keeps: each module specifier is a string literal of the text at its place, and they rise. Knows
-//! nothing of what specifiers mean, nor of how names are bound.
+//! nothing. Keeps: each module specifier is a string literal of the text at its place, and they rise. Only
+//! [`scan`] takes memory. Knows nothing of what specifiers mean, nor of how names are bound.
 #![tactic(auto)]
 
 mod blanks;

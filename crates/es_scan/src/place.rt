@@ -11,8 +11,8 @@ pub struct Place {
     pub column: u32,
 }
 
-/// The line and column of the byte `at` of a text; `at` may be its length. It takes no memory, and time
-/// linear in `at`.
+/// The line and column of the byte `at` of a text; `at` may be its length. It takes time linear in
+/// `at`.
 #[tactic(auto, using(std::proofs::lemmas::List::Sums::count_by_more_yes, std::proofs::lemmas::List::Sums::count_by_more_no))]
 pub fn place_of(text: &[u8], at: usize) -> Place
     requires within { at ≤ length text.now }

@@ -20,7 +20,7 @@ pub enum EventLog {
 }
 
 impl EventLog {
-    /// The log before any event. It takes no memory.
+    /// The log before any event.
     pub(crate) fn new(alloc: Global) -> EventLog
         ensures on { is_on result ≡ true }
         ensures none { IsLogOf [] result }

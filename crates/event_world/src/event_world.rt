@@ -45,8 +45,7 @@ pub struct EventWorld<F> {
 }
 
 impl<F: FnOnce(Bag) -> Result<Ran, AllocError> + Drop> EventWorld<F> {
-    /// The world with events, of a world in which no client is open. It logs no events of the core. It takes
-    /// no memory.
+    /// The world with events, of a world in which no client is open. It logs no events of the core.
     pub fn new(alloc: Global, world: World<F>) -> EventWorld<F>
         requires none { NoneIsOpen world }
         requires words { worlds.KeepsWords F.post world }
@@ -65,7 +64,7 @@ impl<F: FnOnce(Bag) -> Result<Ran, AllocError> + Drop> EventWorld<F> {
     }
 
     /// The world with events, of a world that has made no step, which logs the events that the core is told
-    /// in each step. It takes no memory.
+    /// in each step.
     pub fn recording(alloc: Global, world: World<F>) -> EventWorld<F>
         requires none { NoneIsOpen world }
         requires words { worlds.KeepsWords F.post world }
@@ -85,8 +84,7 @@ impl<F: FnOnce(Bag) -> Result<Ran, AllocError> + Drop> EventWorld<F> {
         }
     }
 
-    /// The world, which tells whether a client is open or caught up, and the jobs under way. It takes no
-    /// memory.
+    /// The world, which tells whether a client is open or caught up, and the jobs under way.
     pub fn world(&self) -> &World<F>
         ensures { result.now ≡ self.now.world }
     {
@@ -245,13 +243,13 @@ impl<F: FnOnce(Bag) -> Result<Ran, AllocError> + Drop> EventWorld<F> {
 }
 
 impl<F: Drop> EventWorld<F> {
-    /// Gives the world up with all its clients and events. It takes no memory.
+    /// Gives the world up with all its clients and events.
     pub fn end(self) {
         self.world.end();
     }
 
     /// Gives the world up with all its clients and events, and hands out the log of the events that the core
-    /// was told. It takes no memory.
+    /// was told.
     pub fn end_with_log(self) -> EventLog
         ensures { result ≡ self.log }
     {

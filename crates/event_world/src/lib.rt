@@ -4,8 +4,9 @@
 //! Stands on `hmr_world` and on `hot_events`. Keeps: an [`EventWorld`] stands for a run, the list of its
 //! steps so far, as the relation `StandsFor` says; its world stands for the run of the world that those steps
 //! make, so what is promised of every run of the world holds of it; what came to a client as events is what
-//! it has heard; and its log, where it keeps one, is of the events that the core was told in the run. Knows
-//! nothing of scripts or of the text of lines.
+//! it has heard; and its log, where it keeps one, is of the events that the core was told in the run. A call
+//! takes memory only where its result can say that memory ran out. Knows nothing of scripts or of the text
+//! of lines.
 #![tactic(auto)]
 
 mod core_events;

@@ -18,7 +18,7 @@ pub(crate) const MOST_BYTES: usize = 268_435_456;
 const ENTRY_BYTES: usize = 64;
 
 /// What is left of so many bytes behind one event more, where there are so many events; None where it has
-/// no place. It takes no memory.
+/// no place.
 pub(crate) fn left_behind(events: usize, left: usize, event: &Event) -> Option<usize>
     ensures { SomeIff result ((events < most_entries) × (entry_bytes (event_of event.now) ≤ left))
         (left - entry_bytes (event_of event.now)) }

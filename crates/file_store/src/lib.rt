@@ -5,8 +5,8 @@
 //! then the oldest plans.
 //!
 //! Stands on `hmr_types`, `instance_urls` and `told_plans`. Keeps: what is got is what was put under that name
-//! and version; what is served and what a plan names isn't let go while there is room. Knows nothing of what a
-//! file has, of requests and of threads.
+//! and version; what is served and what a plan names isn't let go while there is room. Only a call that can
+//! return `AllocError` takes memory. Knows nothing of what a file has, of requests and of threads.
 #![tactic(auto)]
 
 mod letting_go;

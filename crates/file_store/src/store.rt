@@ -45,7 +45,7 @@ impl<T> Model for FileStore<T> {
 impl<T: Drop> FileStore<T> {
     ghost use Rattle.file_store.specs.Stores.{file_at, plan_at, served_at, with_file, with_served, without};
 
-    /// A store of nothing. It takes no memory.
+    /// A store of nothing.
     pub fn new(alloc: Global) -> FileStore<T>
         ensures files { result.files ≡ [] }
         ensures served { result.served ≡ [] }

@@ -20,8 +20,8 @@ use serve_reports::{put_report_line, wind_up};
 use std::alloc::{AllocError, Global};
 use std::sync::Wait;
 
-/// How a server ended: by the work's own stop, and else by what the jobs have left, want of memory before a
-/// full transcript and that before a fault. It takes no memory.
+/// How a server ended: by the work's own stop, and else by what the jobs have left, out of memory before a
+/// full transcript and that before a fault.
 pub(crate) fn end_of(run: &RunEnd) -> Result<(), ServeStop>
     ensures { result ≡ status_after run.now.gathered run.now.ended }
 {

@@ -4,8 +4,9 @@
 //! [`serve`] is the whole of it, from the first scan to the report. Stands on `folder_watch` for folders, on
 //! `hub_editor` for edits, on `serve_crew` for the jobs in threads, and on `serve_reports` for the end.
 //! Keeps: what is written is the report of one transcript, which begins with the first scan and has each
-//! later edit once and in order; a status of failure comes only where the count of what failed rose. Knows
-//! nothing of the command line, nor of what carries a connection.
+//! later edit once and in order; a status of failure comes only where the count of what failed rose. A call
+//! takes memory only where its result can say that memory ran out. Knows nothing of the command line, nor of
+//! what carries a connection.
 #![tactic(auto)]
 
 mod changes;

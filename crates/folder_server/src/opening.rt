@@ -20,7 +20,7 @@ use std::alloc::Global;
 use std::sync::Wait;
 use std::thread::Threads;
 
-/// The hub of roots that are those of a page. Only want of memory refuses.
+/// The hub of roots that are those of a page. It fails only where memory runs out.
 pub(crate) fn new_hub(alloc: Global, roots: Vec<ModName>) -> Result<(Hub, Pass), ServeStop>
     requires roots { AreRoots roots.items }
     ensures pass { IfOk result (λ made. IsPassOf made.0 made.1) }

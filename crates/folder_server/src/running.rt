@@ -50,8 +50,8 @@ pub(crate) struct RunEnd {
 /// Begins the workers, the clients of the program's own and the sessions, makes the later edits, and
 /// finishes all jobs. After the first stop no further edit is made; the jobs that were begun are finished
 /// all the same. Where all went well, each name's last job has its result at the end. Each end that the net
-/// gave is given back to it, and after a refused `accept` or `connect` it gave none. No run comes only for
-/// want of memory, before anything was begun.
+/// gave is given back to it, and after a refused `accept` or `connect` it gave none. It fails only where
+/// memory runs out; nothing was begun then.
 pub(crate) fn run<
     F: FnOnce(Bag) -> Result<Ran, AllocError> + Drop + Send + 'static,
     T: Tree,

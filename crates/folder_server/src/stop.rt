@@ -40,7 +40,7 @@ pub enum ServeStop {
 }
 
 impl Limit {
-    /// The line for the limit, with its LF. It takes no memory.
+    /// The line for the limit, with its LF.
     pub(crate) fn line(self) -> &'static str
         ensures { result.now ≡ limit_text self }
     {

@@ -45,7 +45,7 @@ use transform_pool::JobQueue;
 ///
 /// [`ServeStop::Unwritten`], [`ServeStop::Tree`] and [`ServeStop::Fault`] come only where the count of
 /// faults of the output, of the tree, of the net or of the spawner rose in this call; [`ServeStop::Limit`]
-/// where a limit was passed, whose line is written last; [`ServeStop::NoMemory`] for want of memory. The
+/// where a limit was passed, whose line is written last; [`ServeStop::NoMemory`] where memory ran out. The
 /// first stop of the editor counts, and else that of a job. After a stop no further edit is made; the report
 /// is written all the same, but for `Unwritten`, `NoMemory` and a stop before it listened. It waits.
 pub fn serve<

@@ -6,7 +6,8 @@
 //!
 //! Stands on `folders` for the folder, and on `hmr_types` for names and limits. Keeps: the names of a
 //! listing rise strictly, its texts are within the limit, and where a tree tells its files the listing has
-//! exactly the modules among them. Knows nothing of clients, versions or messages.
+//! exactly the modules among them. A call takes memory only where its result can say that memory ran out.
+//! Knows nothing of clients, versions or messages.
 #![tactic(auto)]
 
 mod edits;

@@ -32,7 +32,7 @@ impl Model for Listing {
 }
 
 impl Listing {
-    /// The listing of no module. It takes no memory.
+    /// The listing of no module.
     pub fn new(alloc: Global) -> Listing
         ensures { result ≡ [] }
     {
@@ -41,7 +41,7 @@ impl Listing {
         }
     }
 
-    /// How many modules it has. It takes no memory.
+    /// How many modules it has.
     pub fn len(&self) -> usize
         ensures len { result ≡ length self.now }
         ensures rising { Rises self.now }
@@ -50,8 +50,8 @@ impl Listing {
         self.files.len()
     }
 
-    /// The text of a module, or None where the listing has no module of this name. It takes no memory, and
-    /// time in the logarithm of the names.
+    /// The text of a module, or None where the listing has no module of this name. It takes time in the
+    /// logarithm of the names.
     pub fn text(&self, name: &ModName) -> Option<&[u8]>
         ensures { option_copied result ≡ text_at self.now name.now }
     {

@@ -68,7 +68,7 @@ enum State {
 }
 
 impl<R: Files + AllocGlobal + Wait + Clone + Drop> FolderTree<R> {
-    /// The folders of the runtime's file system, of which none is asked for so far. It takes no memory.
+    /// The folders of the runtime's file system, of which none is asked for so far.
     pub fn new(rt: R) -> Self
         ensures unasked { result.asked ≡ None }
         ensures faults { result.faults ≡ 0 }

@@ -6,8 +6,9 @@
 //!
 //! Stands on `outside_calls` for refusals and for the plan of failing calls, and on `hmr_base` for what is
 //! read of a file. Keeps: a tree fails only where its count of faults rises, the form in memory exactly
-//! where its plan says; a folder or a file that is asked for was given by the tree. Knows nothing of
-//! modules, of which files are wanted, nor of versions.
+//! where its plan says; a folder or a file that is asked for was given by the tree. A call takes memory only
+//! where its result can say that memory ran out. Knows nothing of modules, of which files are wanted, nor of
+//! versions.
 #![tactic(auto)]
 
 mod folder_tree;

@@ -53,7 +53,7 @@ impl MemTree {
     /// A folder that has at its n-th `open` the n-th files of `folders`, of which the last stay; with no
     /// files at all it is always empty. Its calls fail where their numbers, from 0, stand in `failing`, and
     /// a `read` of a file that the folder has no more fails too. The files of one folder stand side by side;
-    /// otherwise a folder is listed once for each run of them. It takes no memory.
+    /// otherwise a folder is listed once for each run of them.
     pub fn new(folders: VecDeque<Vec<MemFile>>, failing: Vec<u64>) -> Self
         ensures folders { result.folders ≡ folders }
         ensures unopened { (result.is_open ≡ false) × (result.asked ≡ None) }

@@ -21,7 +21,8 @@ pub enum Handler<F> {
 
 impl<F: FnOnce(Bag) -> Result<Ran, AllocError> + Drop> Handler<F> {
     /// Runs the handler: code as `run_body` does, over the variables of its own module and the locals of its
-    /// imports, a closure on the bag alone. Only want of memory refuses; handler and bag are then gone.
+    /// imports, a closure on the bag alone. It fails only where memory runs out; handler and bag are then
+    /// gone.
     pub fn spend(
         self,
         alloc: Global,
@@ -42,7 +43,7 @@ impl<F: FnOnce(Bag) -> Result<Ran, AllocError> + Drop> Handler<F> {
 }
 
 impl<F: Drop> Handler<F> {
-    /// Lets the handler go without a run. It takes no memory.
+    /// Lets the handler go without a run.
     pub fn discard(self) {
         match self {
             Handler::Code(code) => drop(code),

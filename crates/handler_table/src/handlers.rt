@@ -34,7 +34,7 @@ impl<F> Model for Handlers<F> {
 }
 
 impl<F> Handlers<F> {
-    /// No handlers. It takes no memory.
+    /// No handlers.
     pub fn new(alloc: Global) -> Self
         ensures { result ≡ record { dispose = None; prune = None; own = []; deps = [] } }
     {
@@ -46,7 +46,7 @@ impl<F> Handlers<F> {
         }
     }
 
-    /// Holds this disposer, and hands back the one that it displaces. It takes no memory.
+    /// Holds this disposer, and hands back the one that it displaces.
     pub fn set_dispose(&mut self, handler: Handler<F>) -> Option<Handler<F>>
         ensures displaced { result ≡ self.old.dispose }
         ensures held { self.new ≡ record self.old { dispose = Some handler } }
@@ -54,7 +54,7 @@ impl<F> Handlers<F> {
         self.dispose.replace(handler)
     }
 
-    /// Holds this prune handler, and hands back the one that it displaces. It takes no memory.
+    /// Holds this prune handler, and hands back the one that it displaces.
     pub fn set_prune(&mut self, handler: Handler<F>) -> Option<Handler<F>>
         ensures displaced { result ≡ self.old.prune }
         ensures held { self.new ≡ record self.old { prune = Some handler } }
@@ -62,7 +62,7 @@ impl<F> Handlers<F> {
         self.prune.replace(handler)
     }
 
-    /// Hands out the disposer; then none is held. It takes no memory.
+    /// Hands out the disposer; then none is held.
     pub fn take_dispose(&mut self) -> Option<Handler<F>>
         ensures taken { result ≡ self.old.dispose }
         ensures left { self.new ≡ record self.old { dispose = None } }
@@ -70,7 +70,7 @@ impl<F> Handlers<F> {
         self.dispose.take()
     }
 
-    /// Hands out the prune handler; then none is held. It takes no memory.
+    /// Hands out the prune handler; then none is held.
     pub fn take_prune(&mut self) -> Option<Handler<F>>
         ensures taken { result ≡ self.old.prune }
         ensures left { self.new ≡ record self.old { prune = None } }
@@ -78,8 +78,8 @@ impl<F> Handlers<F> {
         self.prune.take()
     }
 
-    /// Adds a callback on the module itself behind the others. Only want of memory refuses; it hands the
-    /// callback back, and the table is as before.
+    /// Adds a callback on the module itself behind the others. It fails only where memory runs out; it
+    /// then hands the callback back, and the table is as before.
     pub fn add_own(&mut self, handler: Handler<F>) -> Result<(), Handler<F>>
         ensures ok { OnOk result (self.new ≡ record self.old { own = self.old.own ++ handler ∷ [] }) }
         ensures err { OnErr result (self.new ≡ self.old) }
@@ -91,8 +91,7 @@ impl<F> Handlers<F> {
         }
     }
 
-    /// Hands out the earliest callback on the module itself: None exactly where none is held. It takes
-    /// no memory.
+    /// Hands out the earliest callback on the module itself: None exactly where none is held.
     pub fn next_own(&mut self) -> Option<Handler<F>>
         ensures earliest { result ≡ slice_get self.old.own 0 }
         ensures left { self.new ≡ record self.old { own = drop 1 self.old.own } }
@@ -100,8 +99,8 @@ impl<F> Handlers<F> {
         self.own.pop_front()
     }
 
-    /// Adds a callback on these dependencies behind the others. Only want of memory refuses; callback and
-    /// list are then gone, and the table is as before.
+    /// Adds a callback on these dependencies behind the others. It fails only where memory runs out;
+    /// callback and list are then gone, and the table is as before.
     pub fn add_dep(&mut self, deps: Vec<ModName>, code: HandlerCode) -> Result<(), AllocError>
         ensures ok { OnOk result
             (self.new
@@ -114,21 +113,21 @@ impl<F> Handlers<F> {
     }
 
     /// The callback on dependencies of this place, from 0, in the order of registration: None exactly
-    /// past the end. It takes no memory.
+    /// past the end.
     pub fn dep(&self, place: usize) -> Option<&Dep>
         ensures { option_map (λ d. d.now) result ≡ slice_get self.now.deps place }
     {
         self.deps.get(place)
     }
 
-    /// How many callbacks on dependencies are held. It takes no memory.
+    /// How many callbacks on dependencies are held.
     pub fn dep_count(&self) -> usize
         ensures { result ≡ length self.now.deps }
     {
         self.deps.len()
     }
 
-    /// Drops the callbacks on dependencies. It takes no memory.
+    /// Drops the callbacks on dependencies.
     pub fn drop_deps(&mut self)
         ensures { self.new ≡ record self.old { deps = [] } }
     {
@@ -137,7 +136,7 @@ impl<F> Handlers<F> {
 }
 
 impl<F: Drop> Handlers<F> {
-    /// Gives the table up and discards all that it holds. It takes no memory.
+    /// Gives the table up and discards all that it holds.
     pub fn end(self) {
         let Handlers {
             dispose,

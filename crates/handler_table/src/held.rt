@@ -31,7 +31,7 @@ impl<F> Model for Held<F> {
 impl<F: FnOnce(Bag) -> Result<Ran, AllocError> + Drop> Held<F> {
     /// Takes a closure that may be called on every bag. Where it answers, that is the stated run: the one
     /// line `host LABEL NUMBER`, and the number kept under the key `host` of the bag; where that key is
-    /// new and the bag is full, the bag unchanged and the fault of a full bag. It takes no memory.
+    /// new and the bag is full, the bag unchanged and the fault of a full bag.
     pub fn new(label: Text, number: u32, call: F) -> Self
         requires callable { F.IsAlwaysCallable call }
         requires host { IsHost F.post (record { label = label; number = number; call = call }) }
@@ -45,7 +45,7 @@ impl<F: FnOnce(Bag) -> Result<Ran, AllocError> + Drop> Held<F> {
         }
     }
 
-    /// Calls the closure on a bag. Only want of memory refuses; closure and bag are then gone.
+    /// Calls the closure on a bag. It fails only where memory runs out; closure and bag are then gone.
     pub fn spend(self, bag: Bag) -> Result<Ran, AllocError>
         requires callable { F.IsAlwaysCallable self.call }
         requires host { IsHost F.post self }
@@ -75,7 +75,7 @@ impl<F> Held<F> {
         self.number
     }
 
-    /// Whether it has this label. It takes no memory.
+    /// Whether it has this label.
     pub fn has_label(&self, label: &Text) -> bool
         ensures { result ≡ has_label label.now self.now }
     {
@@ -84,7 +84,7 @@ impl<F> Held<F> {
 }
 
 impl<F: Drop> Held<F> {
-    /// Lets the closure go without a call. It takes no memory.
+    /// Lets the closure go without a call.
     pub fn discard(self) {
         let Held {
             label: _,

@@ -10,7 +10,8 @@ use std::alloc::{AllocError, Global};
 
 /// The stated run of a closure of this label and number on a bag: the one line `host LABEL NUMBER`, and
 /// the number kept under the key `host` of the bag. Where that key is new and the bag is full, the bag is
-/// unchanged and the fault is that of a full bag. Only want of memory refuses; the bag is then gone.
+/// unchanged and the fault is that of a full bag. It fails only where memory runs out; the bag is then
+/// gone.
 pub fn host_run(alloc: Global, label: &str, number: u32, bag: Bag) -> Result<Ran, AllocError>
     ensures { IfOk result (λ ran. ran_seen ran ≡ host_ran label.now number bag) }
 {

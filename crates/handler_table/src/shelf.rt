@@ -26,14 +26,15 @@ impl<F> Model for Shelf<F> {
 }
 
 impl<F> Shelf<F> {
-    /// The shelf of these closures. It takes no memory.
+    /// The shelf of these closures.
     pub fn new(items: Vec<Held<F>>) -> Self
         ensures { result ≡ items.items }
     {
         Shelf { items }
     }
 
-    /// Adds a closure behind the others. Want of memory hands it back, and the shelf is as before.
+    /// Adds a closure behind the others. Where memory runs out it is handed back, and the shelf is as
+    /// before.
     pub fn put(&mut self, held: Held<F>) -> Result<(), Held<F>>
         ensures ok { OnOk result (self.new ≡ self.old ++ held ∷ []) }
         ensures err { OnErr result (self.new ≡ self.old) }
@@ -45,8 +46,8 @@ impl<F> Shelf<F> {
         }
     }
 
-    /// Hands out the first closure of a label: None exactly where none of it is left. It takes no
-    /// memory, and time in proportion to the shelf.
+    /// Hands out the first closure of a label: None exactly where none of it is left. It takes time in
+    /// proportion to the shelf.
     pub fn next(&mut self, label: &Text) -> Option<Held<F>>
         ensures first { result ≡ first_of label.now self.old }
         ensures left { self.new ≡ without_first label.now self.old }
@@ -57,8 +58,8 @@ impl<F> Shelf<F> {
 
 impl<F: FnOnce(Bag) -> Result<Ran, AllocError> + Drop> Shelf<F> {
     /// Adds closures of this label behind the others, which `make` makes of their numbers, from `first`
-    /// on and before `end`. Only want of memory refuses; the shelf then has some of them, and the closure
-    /// that it was about is gone. The closures of before stay where they are.
+    /// on and before `end`. It fails only where memory runs out; the shelf then has some of them, and the
+    /// closure that it was about is gone. The closures of before stay where they are.
     pub fn fill<M: Fn(u32) -> F + Drop>(
         &mut self,
         label: &Text,
@@ -87,7 +88,7 @@ impl<F: FnOnce(Bag) -> Result<Ran, AllocError> + Drop> Shelf<F> {
 }
 
 impl<F: Drop> Shelf<F> {
-    /// Gives the shelf up and discards the closures that are left. It takes no memory.
+    /// Gives the shelf up and discards the closures that are left.
     pub fn end(self) {
         let Shelf { items } = self;
         let mut items = items;

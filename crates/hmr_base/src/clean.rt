@@ -1,5 +1,5 @@
 // A source and a sink that never fail: their count of faults is always 0. The source tells its
-// bytes. The sink keeps none, since keeping them could want memory, and so tells none.
+// bytes. The sink keeps none, since keeping them could run out of memory, and so tells none.
 ghost use Rattle.std.specs.Prelude.{◌≡◌, ◌≤◌, Some, None, drop, vec_len};
 
 use crate::{Failed, Sink, Source};
@@ -15,7 +15,7 @@ pub struct CleanSource {
 impl CleanSource {
     ghost use Rattle.hmr_base.specs.Memory.{clean_left};
 
-    /// A source of these bytes. It takes no memory.
+    /// A source of these bytes.
     pub fn new(bytes: Vec<u8>) -> Self
         ensures { clean_left result ≡ bytes.items }
     {
@@ -50,7 +50,7 @@ pub struct CleanSink {
 }
 
 impl CleanSink {
-    /// A sink that was given nothing. It takes no memory.
+    /// A sink that was given nothing.
     pub fn new() -> Self
         ensures { result.count ≡ 0 }
     {

@@ -16,7 +16,7 @@ pub struct FaultPlan {
 impl FaultPlan {
     ghost use Rattle.hmr_base.specs.Plans.{after_call, faults_of, fresh_plan, is_to_fail, plan_of};
 
-    /// The plan by which the calls fail whose numbers, from 0, stand in `failing`. It takes no memory.
+    /// The plan by which the calls fail whose numbers, from 0, stand in `failing`.
     pub fn new(failing: Vec<u64>) -> Self
         ensures plan { plan_of result ≡ fresh_plan failing.items }
         ensures faults { faults_of result ≡ 0 }
@@ -29,7 +29,7 @@ impl FaultPlan {
     }
 
     /// Begins a call. [`Failed`] comes exactly where its number stands in the list, and is counted. It takes
-    /// no memory, and time in proportion to the list.
+    /// time in proportion to the list.
     pub fn begin(&mut self) -> Result<(), Failed>
         ensures plan { plan_of self.new ≡ after_call (plan_of self.old) }
         ensures planned { is_err result ≡ is_to_fail (plan_of self.old) }

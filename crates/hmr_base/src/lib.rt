@@ -8,7 +8,8 @@
 //! readers and writers.
 //!
 //! Stands on nothing but std. Keeps: a count rises with each fault and with nothing else, and what a
-//! form in memory holds is told to contracts. Knows nothing of modules, scripts or messages.
+//! form in memory holds is told to contracts. A call takes memory only where its comment says so.
+//! Knows nothing of modules, scripts or messages.
 #![tactic(auto)]
 
 mod clean;

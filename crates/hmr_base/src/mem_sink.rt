@@ -1,5 +1,5 @@
-// A sink in memory. Its room is set aside when it is made, so that a write wants no memory; beside
-// its bytes it holds the numbers of the calls that are to fail.
+// A sink in memory. Its room is set aside when it is made, so that a write takes none; beside its
+// bytes it holds the numbers of the calls that are to fail.
 ghost use Rattle.std.specs.Prelude.{◌≡◌, ◌≤◌, [], Some, IfOk, max, vec_len, vec_capacity};
 ghost use Rattle.hmr_base.specs.Plans.{faults_of, fresh_plan, plan_of};
 
@@ -22,7 +22,7 @@ impl MemSink {
 
     /// An empty sink with room for `room` bytes, which takes at most `piece` of them in a call (0
     /// counts as 1). The calls whose numbers, from 0, stand in `failing` fail, and so does each call
-    /// whose front doesn't fit the room that is left. `AllocError` where the room can't be had.
+    /// whose prefix doesn't fit the room that is left. `AllocError` where the room can't be had.
     pub fn new(
         alloc: Global,
         room: usize,

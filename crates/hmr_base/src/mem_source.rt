@@ -19,7 +19,7 @@ impl MemSource {
     ghost use Rattle.hmr_base.specs.Memory.{left_of, failures_of};
 
     /// A source of these bytes, which gives at most `piece` of them in a call (0 counts as 1). The
-    /// calls whose numbers, from 0, stand in `failing` fail. It takes no memory.
+    /// calls whose numbers, from 0, stand in `failing` fail.
     pub fn new(bytes: Vec<u8>, piece: usize, failing: Vec<u64>) -> Self
         ensures left { left_of result ≡ bytes.items }
         ensures piece { result.piece ≡ piece }

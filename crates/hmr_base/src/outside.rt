@@ -59,7 +59,7 @@ pub trait Sink {
     /// How many bytes the sink takes in all, where it has such a limit.
     ghost room: { Self → Option ℕ };
 
-    /// Takes a front of the piece, and answers its length: at least 1 where the piece isn't empty.
+    /// Takes a prefix of the piece, and answers its length: at least 1 where the piece isn't empty.
     ///
     /// `Failed` comes only where the count of faults rose in this call; nothing is then written.
     fn write(&mut self, piece: &[u8]) -> Result<usize, Failed>

@@ -13,7 +13,7 @@ pub struct StdSource<R: Drop> {
 }
 
 impl<R: Read + Drop> StdSource<R> {
-    /// A source over this reader, with no fault so far. It takes no memory.
+    /// A source over this reader, with no fault so far.
     pub fn new(inner: R) -> Self
         ensures reader { result.inner ≡ inner }
         ensures faults { result.faults ≡ 0 }
@@ -50,7 +50,7 @@ pub struct StdSink<W: Drop> {
 }
 
 impl<W: Write + Drop> StdSink<W> {
-    /// A sink over this writer, with no fault so far. It takes no memory.
+    /// A sink over this writer, with no fault so far.
     pub fn new(inner: W) -> Self
         ensures writer { result.inner ≡ inner }
         ensures faults { result.faults ≡ 0 }

@@ -1,4 +1,4 @@
-// A whole text to a sink. The sink takes front after front until nothing is left, or fails.
+// A whole text to a sink. The sink takes prefix after prefix until nothing is left, or fails.
 ghost use Rattle.std.specs.Prelude.{◌≡◌, ◌<◌, ◌≤◌, take, length, OnOk, OnErr, IfErr};
 ghost use Rattle.std.specs.Io.KnownBytes.{Appends};
 ghost use Rattle.hmr_base.specs.Causes.{Rose};
@@ -13,7 +13,7 @@ pub struct WriteFault {
     pub written: usize,
 }
 
-/// Writes the whole text. It takes no memory.
+/// Writes the whole text.
 ///
 /// `WriteFault` comes only where the sink's count of faults rose in this call; exactly the first
 /// `written` bytes of the text went out.

@@ -11,7 +11,7 @@ use crate::limits::EVENT_BYTES;
 use crate::mod_name::is_segment;
 use std::alloc::{AllocError, Global};
 
-/// Whether bytes are the name of an event. It takes no memory, and time in proportion to the bytes.
+/// Whether bytes are the name of an event. It takes time in proportion to the bytes.
 pub fn is_event(text: &[u8]) -> bool
     ensures { result ≡ is_event text.now }
 {
@@ -46,7 +46,7 @@ pub fn events_and_modules_tell_each_other()
 {}
 
 /// The segments of the event that a module stands for, with a `/` between each two, unless it stands for
-/// none: with a `:` for each `/` they are the event's name. It takes no memory.
+/// none: with a `:` for each `/` they are the event's name.
 pub fn event_path(name: &[u8]) -> Option<&[u8]>
     ensures { option_map (λ path. with_mark slash colon path.now) result ≡ event_of name.now }
 {

@@ -4,7 +4,8 @@
 //!
 //! Every other crate stands on this one. It stands on nothing but std. Keeps: a [`ModName`] is always
 //! a name, a [`Table`] always rises, and contracts see each list and text as the list that it holds,
-//! never a pointer or a capacity. Knows nothing of trees and parsing, of clients, messages or lines.
+//! never a pointer or a capacity. A call takes memory only where its result can say that memory ran
+//! out. Knows nothing of trees and parsing, of clients, messages or lines.
 #![tactic(auto)]
 
 mod analysis;

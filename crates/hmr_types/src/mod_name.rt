@@ -49,7 +49,7 @@ impl From<AllocError> for NameFault {
     }
 }
 
-/// Whether bytes are the name of a module. It takes no memory, and time in proportion to the bytes.
+/// Whether bytes are the name of a module. It takes time in proportion to the bytes.
 pub fn is_name(text: &[u8]) -> bool
     ensures { result ≡ is_name text.now }
 {
@@ -65,7 +65,7 @@ fn are_segments(text: &[u8]) -> bool
     text.split(|b| *b == b'/').all(is_segment)
 }
 
-/// Whether bytes are a segment of a name. It takes no memory.
+/// Whether bytes are a segment of a name.
 pub(crate) fn is_segment(part: &[u8]) -> bool
     ensures { result ≡ is_segment part.now }
 {
@@ -98,7 +98,7 @@ impl ModName {
         Ok(ModName::from_name(Vec::from_slice(alloc, text)?))
     }
 
-    /// The name of these bytes. It takes no memory.
+    /// The name of these bytes.
     pub(crate) fn from_name(name: Vec<u8>) -> ModName
         requires { is_name name.items ≡ true }
         ensures { result ≡ name.items }

@@ -22,7 +22,7 @@ impl<T> Model for Sequence<T> {
 }
 
 impl<T> Sequence<T> {
-    /// The empty sequence. It takes no memory.
+    /// The empty sequence.
     pub fn new(alloc: Global) -> Self
         ensures { result ≡ [] }
     {
@@ -31,14 +31,14 @@ impl<T> Sequence<T> {
         }
     }
 
-    /// The sequence of the vector's elements. It takes no memory.
+    /// The sequence of the vector's elements.
     pub fn from_vec(items: Vec<T>) -> Self
         ensures { result ≡ items.items }
     {
         Sequence { items }
     }
 
-    /// The vector of the elements. It takes no memory.
+    /// The vector of the elements.
     pub fn into_vec(self) -> Vec<T>
         ensures { result.items ≡ self }
     {

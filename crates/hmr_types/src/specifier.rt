@@ -51,8 +51,8 @@ impl<T: Drop> From<AllocFailed<T>> for SpecFault {
 
 /// The module that `spec` means to the module `base`. The refusals come in the order of the
 /// specifier's parts: [`SpecFault::Bare`] and an empty specifier first, then the first part that
-/// climbs too far or is no segment, then the want of a segment, then the length of the name. Memory
-/// is asked for on the way. It takes time and memory in proportion to `base` and `spec`.
+/// climbs too far or is no segment, then that there is no segment, then the length of the name.
+/// Memory is asked for on the way. It takes time and memory in proportion to `base` and `spec`.
 pub fn resolve(alloc: Global, base: &ModName, spec: &[u8]) -> Result<ModName, SpecFault>
     ensures { Gives (λ name. name) result (resolve base.now spec.now) }
 {

@@ -29,7 +29,7 @@ impl Model for Table {
 
 impl Table {
     /// The table of these pairs, or None exactly where a name isn't below the next by bytes or a
-    /// version is out of range. It takes no memory, and time in proportion to the pairs.
+    /// version is out of range. It takes time in proportion to the pairs.
     pub fn of(pairs: Vec<(ModName, Ver)>) -> Option<Table>
         ensures some { IfSome result (λ table. table ≡ pairs.items) }
         ensures test { is_some result ≡ is_table pairs.items }
@@ -53,7 +53,7 @@ impl Table {
         self.pairs.as_slice()
     }
 
-    /// The pairs, in order. It takes no memory.
+    /// The pairs, in order.
     pub fn into_vec(self) -> Vec<(ModName, Ver)>
         ensures { result.items ≡ self }
     {

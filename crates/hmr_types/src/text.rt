@@ -31,14 +31,14 @@ impl Model for Text {
 }
 
 impl Text {
-    /// The text of these characters. It takes no memory.
+    /// The text of these characters.
     pub fn from_string(text: String) -> Self
         ensures { result ≡ string_bytes text }
     {
         Text { text }
     }
 
-    /// The characters. It takes no memory.
+    /// The characters.
     pub fn into_string(self) -> String
         ensures { string_bytes result ≡ self }
     {
@@ -136,7 +136,7 @@ impl Model for Name {
 }
 
 impl Name {
-    /// The name of these characters. It takes no memory.
+    /// The name of these characters.
     pub fn from_string(text: String) -> Self
         ensures { result ≡ string_bytes text }
     {
@@ -145,7 +145,7 @@ impl Name {
         }
     }
 
-    /// The characters. It takes no memory.
+    /// The characters.
     pub fn into_string(self) -> String
         ensures { string_bytes result ≡ self }
     {

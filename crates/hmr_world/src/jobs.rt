@@ -39,7 +39,7 @@ impl Model for Jobs {
 }
 
 impl Jobs {
-    /// No job. It takes no memory.
+    /// No job.
     pub fn new(alloc: Global) -> Jobs
         ensures { result ≡ [] }
     {
@@ -59,7 +59,7 @@ impl Jobs {
     }
 
     /// Takes the job of this name and version out, and gives its text: None where there is no such job. It
-    /// takes no memory, and time in the logarithm of the jobs.
+    /// takes time in the logarithm of the jobs.
     pub fn take(&mut self, name: &ModName, version: Ver) -> Option<Vec<u8>>
         ensures text { option_map (λ t. t.items) result
             ≡ option_map (λ j. j.text) (find (is_job name.now version) self.old) }
@@ -71,8 +71,8 @@ impl Jobs {
         text_of(self.rows.remove(&version))
     }
 
-    /// The text of the job of this name and version: None where there is no such job. It takes no memory,
-    /// and time in the logarithm of the jobs.
+    /// The text of the job of this name and version: None where there is no such job. It takes time in the
+    /// logarithm of the jobs.
     pub fn text(&self, name: &ModName, version: Ver) -> Option<&[u8]>
         ensures { option_map (λ t. t.now) result
             ≡ option_map (λ j. j.text) (find (is_job name.now version) self.now) }

@@ -4,7 +4,8 @@
 //! Stands on `server_core`, `hot_runtime` and `message_json`, and on the definitions of the world and their
 //! laws. Keeps: a [`World`] stands for a run, the list of its steps so far, as the relation `StandsFor`
 //! says; so what the laws promise of every run holds of it. In a turn both messages go as the bytes of their
-//! JSON. Knows nothing of scripts or of the text of lines.
+//! JSON. A call takes memory only where its result can say that memory ran out. Knows nothing of scripts or
+//! of the text of lines.
 #![tactic(auto)]
 
 mod clients;

@@ -20,8 +20,8 @@ use std::alloc::AllocError;
 
 impl<F> World<F> {
     /// Whether the client is open and caught up: its page is loaded, no plan is under way, and nothing is
-    /// changed, invalidated, dropped or waiting to be told, on either side. It takes no memory, and time
-    /// in the number of clients, of which there are at most 32.
+    /// changed, invalidated, dropped or waiting to be told, on either side. It takes time in the number of
+    /// clients, of which there are at most 32.
     pub fn caught_up(&self, client: ClientId) -> bool
         ensures { (run : Run) → StandsFor run self.now → let world = world_of run in
             result ≡ is_up_in (stage_of run) world client (client_at world.clients client) }
@@ -32,8 +32,7 @@ impl<F> World<F> {
         }
     }
 
-    /// Whether a client is open. It takes no memory, and time in the number of clients, of which there are
-    /// at most 32.
+    /// Whether a client is open. It takes time in the number of clients, of which there are at most 32.
     pub fn is_open(&self, client: ClientId) -> bool
         ensures { (run : Run) → StandsFor run self.now
             → result ≡ is_some (client_at (world_of run).clients client) }

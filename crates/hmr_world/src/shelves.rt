@@ -14,7 +14,7 @@ use retained_data::Bag;
 use std::alloc::{AllocError, Global};
 use std::mem;
 
-/// Takes the closures of a client, which leaves it none. It takes no memory.
+/// Takes the closures of a client, which leaves it none.
 pub(crate) fn take_shelf<F: FnOnce(Bag) -> Result<Ran, AllocError> + Drop>(
     alloc: Global,
     shelves: &mut [Shelf<F>],
@@ -36,7 +36,7 @@ pub(crate) fn take_shelf<F: FnOnce(Bag) -> Result<Ran, AllocError> + Drop>(
     empty
 }
 
-/// Discards all closures. It takes no memory.
+/// Discards all closures.
 pub(crate) fn discard<F: Drop>(mut shelves: Vec<Shelf<F>>) {
     while let Some(shelf) = shelves.pop() {
         shelf.end();

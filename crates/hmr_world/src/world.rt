@@ -52,7 +52,7 @@ impl<F: FnOnce(Bag) -> Result<Ran, AllocError> + Drop> World<F> {
     /// The world of a server's page with these roots, before the first step. The client that gets number c
     /// gets the c-th shelf, or an empty one. [`NewFault::NoRoots`] comes exactly where there are no roots,
     /// [`NewFault::TooManyRoots`] where there are more than 16, and [`NewFault::DuplicateRoot`] where there
-    /// are fewer and two are equal. It takes no memory.
+    /// are fewer and two are equal.
     pub fn new(
         alloc: Global,
         roots: Vec<ModName>,
@@ -191,8 +191,7 @@ impl<F: FnOnce(Bag) -> Result<Ran, AllocError> + Drop> World<F> {
 }
 
 impl<F: Drop> World<F> {
-    /// Gives the world up with all its clients, and discards the handlers and closures that are left. It
-    /// takes no memory.
+    /// Gives the world up with all its clients, and discards the handlers and closures that are left.
     pub fn end(self) {
         drop(self);
     }

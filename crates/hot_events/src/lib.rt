@@ -3,7 +3,8 @@
 //!
 //! Stands on the vocabulary alone. Keeps: what waits for a client is what came to it since it entered, in
 //! order, without what it took; an event comes to each client that is there and has fewer than 1,024
-//! waiting, or to none where memory ran out. Knows nothing of pages, of handlers or of sources.
+//! waiting, or to none where memory ran out. Only a call that can return `AllocError` takes memory. Knows
+//! nothing of pages, of handlers or of sources.
 #![tactic(auto)]
 
 mod event;

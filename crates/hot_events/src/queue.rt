@@ -45,7 +45,7 @@ impl Queue {
         self.events.len() >= WAITING
     }
 
-    /// An event waits behind the others. It takes no memory.
+    /// An event waits behind the others.
     pub(crate) fn add(&mut self, event: Event)
         requires { length self.old < 1024 }
         ensures { self.new ≡ self.old ++ event ∷ [] }
@@ -60,7 +60,7 @@ impl Queue {
         self.events.front()
     }
 
-    /// The first event, which then waits no more. It takes no memory.
+    /// The first event, which then waits no more.
     pub(crate) fn take_first(&mut self) -> Option<Event>
         ensures first { result ≡ first_of self.old }
         ensures rest { self.new ≡ drop 1 self.old }

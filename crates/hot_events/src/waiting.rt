@@ -34,7 +34,7 @@ impl Model for Waiting {
 }
 
 impl Waiting {
-    /// No client is there. It takes no memory.
+    /// No client is there.
     pub fn new(alloc: Global) -> Waiting
         ensures { StandsFor [] result }
     {
@@ -61,7 +61,7 @@ impl Waiting {
         }
     }
 
-    /// A client is there no more, and what waits for it is given up. It takes no memory.
+    /// A client is there no more, and what waits for it is given up.
     pub fn leave(&mut self, client: ClientId)
         ensures { (past : List Call) → StandsFor past self.old → StandsFor (leaves client ∷ past) self.new }
     {
@@ -98,7 +98,7 @@ impl Waiting {
     }
 
     /// The event that has waited longest for a client, which then waits for it no more; None exactly where
-    /// none waits for it. It takes no memory.
+    /// none waits for it.
     pub fn take_first(&mut self, client: ClientId) -> Option<Event>
         ensures stands { (past : List Call) → StandsFor past self.old
             → StandsFor (takes client ∷ past) self.new }

@@ -1,5 +1,5 @@
-// Why reading stopped early. Inside the crate want of memory is apart from the faults of the text,
-// so that a fault always speaks of the text; `lex` tells both by one `LexFault`.
+// Why reading stopped early. Inside the crate running out of memory is told apart from the faults
+// of the text, so that a fault always speaks of the text; `lex` tells both by one `LexFault`.
 ghost use Rattle.std.specs.Prelude.{◌≡◌, ◌^◌, ◌<◌};
 ghost use Rattle.module_semantics.specs.Lexing.{lex_fault};
 ghost use Rattle.hot_lexer.specs.declared.stop.Stop.TheVariants as stops;

@@ -5,8 +5,8 @@
 //!
 //! Stands on `hmr_types`, for trees and faults, on `module_semantics`, whose `parsing` it computes, on
 //! `hot_lexer` and `hot_grammar`, for the tokens and what the grammar tells of them, and on `byte_lanes`,
-//! for the line of a fault. Keeps: the fault told is the first of the text. Knows nothing of files, of
-//! specifiers or of evaluation.
+//! for the line of a fault. Keeps: the fault told is the first of the text. A call takes memory only
+//! where its result can say that memory ran out. Knows nothing of files, of specifiers or of evaluation.
 #![tactic(auto)]
 
 mod alone;

@@ -40,7 +40,7 @@ pub struct SyntaxFault {
 }
 
 impl SyntaxFault {
-    /// The fault of the text, as lines name it; None for want of memory. It takes no memory.
+    /// The fault of the text, as lines name it; None where memory ran out.
     pub fn text_fault(&self) -> Option<TextFault>
         ensures { result ≡ text_fault_of self.now }
     {
@@ -52,7 +52,7 @@ impl SyntaxFault {
         })
     }
 
-    /// Want of memory.
+    /// The fault where memory ran out.
     pub(crate) fn no_memory() -> SyntaxFault
         ensures { result ≡ no_memory }
     {
@@ -64,7 +64,7 @@ impl SyntaxFault {
     }
 }
 
-/// The word of what is wrong, None for want of memory.
+/// The word of what is wrong, None where memory ran out.
 fn word_of(kind: SyntaxKind) -> Option<FaultWord>
     ensures { result ≡ word_of kind }
 {

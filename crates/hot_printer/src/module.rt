@@ -10,9 +10,9 @@ use std::alloc::{AllocError, Global};
 /// The canonical text of a module: each item and statement on lines of its own, two spaces for each
 /// block, and parentheses exactly where an operand is of a lower level than its place asks for.
 ///
-/// Every tree has one, also a tree that no text has. The one error is want of memory. It takes time in
-/// proportion to the tree and its text, and stack in proportion to what is nested in it; a row of
-/// operators takes none.
+/// Every tree has one, also a tree that no text has. It fails only where memory runs out. It takes
+/// time in proportion to the tree and its text, and stack in proportion to what is nested in it; a row
+/// of operators takes none.
 pub fn print(alloc: Global, module: &Module) -> Result<Vec<u8>, AllocError>
     ensures exact { IfOk result (λ bytes. bytes.items ≡ canon (module_of module.now)) }
 {

@@ -46,7 +46,7 @@ impl From<Stop> for HttpEnd {
 ///
 /// `ReadFault` comes only where the source's count of faults rose in this call, `WriteFault` only where the
 /// sink's did, and `Turns` exactly where [`TURNS`] answers were written and more are to come, or the end of
-/// the input wasn't seen. What was written before a stop is a front of the answers. It holds at most some
+/// the input wasn't seen. What was written before a stop is a prefix of the answers. It holds at most some
 /// 12 kB of the input at a time.
 pub fn serve<S: Source, K: Sink, T: Site>(
     alloc: Global,

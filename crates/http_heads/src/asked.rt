@@ -40,7 +40,7 @@ pub enum Asked<'a> {
 
 /// What the bytes ask: as a whole they are a request head of `httparse`'s grammar with at most 64 fields,
 /// or else they ask nothing, which is a bad request. The names of fields are compared in any ASCII case. It
-/// takes no memory, and time linear in the bytes.
+/// takes time linear in the bytes.
 pub fn judge<'a>(bytes: &'a [u8]) -> Asked<'a>
     ensures head { (h : RequestHead) → IsHeadOf bytes.now h → said result ≡ asked_of h }
     ensures asks { Asks bytes.now (said result) }

@@ -24,7 +24,7 @@ pub enum Cut {
 
 /// Where the first head of the bytes ends: behind the first CR LF CR LF. The caller knows that none ends
 /// within the first `searched` bytes, as from an earlier call that answered [`Cut::Partial`] with so many.
-/// It takes no memory, and time linear in the bytes that weren't searched.
+/// It takes time linear in the bytes that weren't searched.
 pub fn find_head(bytes: &[u8], searched: usize) -> Cut
     requires searched { NoEndWithin bytes.now searched }
     ensures { Cuts bytes.now result }

@@ -2,7 +2,8 @@
 //!
 //! Stands on `httparse`, whose grammar says what a head is, and on `memchr`. Keeps: bytes ask one thing at
 //! most (`asks_are_unique`), the refusals come in a fixed order, and a search of bytes that come in pieces
-//! never begins anew. Knows nothing of modules, of answers or of where bytes come from.
+//! never begins anew. No call takes memory. Knows nothing of modules, of answers or of where bytes come
+//! from.
 #![tactic(auto)]
 
 mod asked;

@@ -37,8 +37,7 @@ pub struct HubBoard {
 impl HubBoard {
     ghost use Rattle.hub_desks.specs.Boards.{Posted, has_ended};
 
-    /// A board over a hub and a queue, with a pass of each; that of the queue takes and has not ended. It
-    /// takes no memory.
+    /// A board over a hub and a queue, with a pass of each; that of the queue takes and has not ended.
     pub fn new(
         hub: Arc<Hub, Global>,
         pass: Pass,
@@ -64,14 +63,14 @@ impl HubBoard {
         }
     }
 
-    /// Whether the hub answered that its transcript is full. It takes no memory.
+    /// Whether the hub answered that its transcript is full.
     pub fn is_full(&self) -> bool
         ensures { result ≡ self.now.full }
     {
         self.full
     }
 
-    /// The hub's pass of the board. It takes no memory.
+    /// The hub's pass of the board.
     pub fn into_pass(self) -> Pass
         ensures pass { result ≡ self.pass }
         ensures near_full { self.full ≡ true → IsNearlyFull (seen_of result) }

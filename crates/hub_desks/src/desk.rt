@@ -35,7 +35,7 @@ pub struct HubDesk<R: Drop> {
 }
 
 impl<R: Drop> HubDesk<R> {
-    /// A desk without a client. It takes no memory.
+    /// A desk without a client.
     pub fn new(rt: R, hub: Arc<Hub, Global>, pass: Pass) -> Self
         requires of { IsPassOf (arc_value hub) pass }
         ensures hub { result.hub ≡ hub }
@@ -54,28 +54,28 @@ impl<R: Drop> HubDesk<R> {
         }
     }
 
-    /// The number of the desk's client, 0 for none. It takes no memory.
+    /// The number of the desk's client, 0 for none.
     pub fn client(&self) -> ClientId
         ensures { result ≡ self.now.client }
     {
         self.client
     }
 
-    /// Whether the hub answered that its transcript is full. It takes no memory.
+    /// Whether the hub answered that its transcript is full.
     pub fn is_full(&self) -> bool
         ensures { result ≡ self.now.full }
     {
         self.full
     }
 
-    /// Whether there was no memory for telling the hub that the client is gone. It takes no memory.
+    /// Whether there was no memory for telling the hub that the client is gone.
     pub fn wants_memory(&self) -> bool
         ensures { result ≡ self.now.no_memory }
     {
         self.no_memory
     }
 
-    /// The pass of the desk. It takes no memory.
+    /// The pass of the desk.
     pub fn into_pass(self) -> Pass
         ensures pass { result ≡ self.pass }
         ensures near_full { self.full ≡ true → IsNearlyFull (seen_of result) }

@@ -5,7 +5,8 @@
 //! tells the hub each result. Stands on `hmr_hub`, on the queue of `transform_pool`, and on what desks and
 //! boards are. Keeps: each answer but two kinds of refusal, and each post, is one call of the hub; the pass
 //! is of the hub beside it; where a desk or a board is full, the transcript that its pass has seen has no
-//! place for a message of full size. Knows nothing of links or of bytes on them, nor of threads.
+//! place for a message of full size. A call takes memory only where its result can say that memory ran out,
+//! or the desk can, as for [`HubDesk::leave`]. Knows nothing of links or of bytes on them, nor of threads.
 #![tactic(auto)]
 
 mod board;

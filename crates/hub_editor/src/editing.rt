@@ -24,7 +24,7 @@ use std::sync::Wait;
 use transform_pool::{JobPass, JobQueue};
 
 impl Editor {
-    /// An editor that made no edit yet. It takes no memory.
+    /// An editor that made no edit yet.
     pub fn new(alloc: Global) -> Editor
         ensures { made_by result ≡ [] }
     {
@@ -38,7 +38,7 @@ impl Editor {
     /// pass that puts; where the queue has no place, the editor works it and tells its result. It waits.
     ///
     /// [`EditStop::Text`], `Names` and `Sources` come where the edit was refused, `Full` where the
-    /// transcript has no place, `NoMemory` where memory is wanting. After each the edit was made, or nothing
+    /// transcript has no place, `NoMemory` where memory ran out. After each the edit was made, or nothing
     /// was; its job may be neither in the queue nor worked. A refused edit gives the stop of its refusal. It
     /// keeps a copy of the text.
     pub fn edit<R: Wait>(

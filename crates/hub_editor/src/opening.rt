@@ -29,7 +29,7 @@ use transform_pool::{TextJob, run_jobs};
 /// order. It waits, and takes memory for a copy of the texts.
 ///
 /// [`EditStop::Text`], `Names` and `Sources` come where an edit was refused, `Full` where the transcript has
-/// no place, `NoMemory` where memory is wanting. After each the pass has seen a front of the edits in order,
+/// no place, `NoMemory` where memory ran out. After each the pass has seen a prefix of the edits in order,
 /// and then of the results; no edit behind a refused one was made, and a refused one gives the stop of its
 /// refusal. Where it is Ok, no edit was refused.
 pub fn open_sources<R: Threads + Wait + Sync>(

@@ -37,7 +37,6 @@ impl Model for Work {
 
 impl Work {
     /// An edit of a name and a text of at most 16,777,216 bytes together, whose job the editor didn't work.
-    /// It takes no memory.
     pub fn new(
         name: ModName,
         text: Option<Vec<u8>>,
@@ -99,7 +98,7 @@ impl Work {
         }
     }
 
-    /// The job that it brought, with a copy of the text. Only want of memory refuses.
+    /// The job that it brought, with a copy of the text. It fails only where memory runs out.
     pub fn job(&self, alloc: Global) -> Result<Option<TextJob>, AllocError>
         ensures job { IfOk result (λ job. option_to_list job ≡ jobs_of self.now) }
         ensures version { IfOk result (λ job. IfSome job (λ j. IsVersion j.ver)) }

@@ -71,8 +71,8 @@ fn a_client_that_lies_is_refused(rt: HostRuntime) -> Result<(), Fail> {
 }
 
 /// In a transcript that has this many bytes left behind a client's hello: whether the hello was answered,
-/// whether the desk was full then, and whether it is full and lacks memory once it told that its client is
-/// gone. None where there was no memory.
+/// whether the desk was full then, and whether it is full and ran out of memory once it told that its client
+/// is gone. None where there was no memory.
 fn gone<R: Wait + Copy + Drop>(
     rt: R,
     alloc: Global,

@@ -6,7 +6,8 @@
 //!
 //! Stands on `hot_parser`, and on `module_semantics` for the definitions `analysed` and `transformed`.
 //! Keeps: the outcome of a [`Transformed`] is always the definition's value of its name and text; a
-//! caller can't make one with another. Knows nothing of versions, of other modules or of clients.
+//! caller can't make one with another. A call takes memory only where its result can say that memory
+//! ran out. Knows nothing of versions, of other modules or of clients.
 #![tactic(auto)]
 
 mod analysis;

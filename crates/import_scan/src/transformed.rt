@@ -84,7 +84,7 @@ fn outcome_of_tree(alloc: Global, base: &ModName, tree: &Module) -> Result<Outco
     }
 }
 
-/// The word of a refusal, None for want of memory.
+/// The word of a refusal, None where memory ran out.
 fn word(fault: ScanFault) -> Option<FaultWord>
     ensures { result ≡ told_word fault }
 {
@@ -133,7 +133,7 @@ impl Transformed {
         })
     }
 
-    /// The name, the text and the outcome. It takes no memory.
+    /// The name, the text and the outcome.
     pub fn into_parts(self) -> (ModName, Vec<u8>, Outcome)
         ensures name { result.0 ≡ self.name }
         ensures text { result.1.items ≡ self.text }

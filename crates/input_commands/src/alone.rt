@@ -34,7 +34,7 @@ use text_check::limit_line;
 /// 0: the whole output is written, and an input that is read was read to its end. 2: the words are no
 /// command. 3: the input of `play` or `record` is no script. 4: the input failed, and nothing is written. 5:
 /// the output failed. 8: the input, a text, a client's instances or the events to be recorded passed their
-/// limit. 9: memory ran out. At 3, 5, 8 and 9 a front of the output is written. The closures of the shelves
+/// limit. 9: memory ran out. At 3, 5, 8 and 9 a prefix of the output is written. The closures of the shelves
 /// go to the clients of a script, or are let go.
 pub fn run_alone<F: FnOnce(Bag) -> Result<Ran, AllocError> + Drop, S: Source, K: Sink>(
     alloc: Global,

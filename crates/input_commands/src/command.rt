@@ -26,7 +26,7 @@ pub enum Command {
     Turns(ClientId, u32),
 }
 
-/// The command of a line; None for `quiet`. It takes no memory.
+/// The command of a line; None for `quiet`.
 pub fn command_of(line: ScriptLine) -> Option<Command>
     requires { asked.HasFormat line }
     ensures command { option_map command_seen result ≡ command_of line }

@@ -4,8 +4,9 @@
 //! module text and writes what there is to tell of it; `make` plays a script that is generated and writes a
 //! summary of its run; `record` plays a script and writes the record of what the core was told in its run;
 //! `audit` reads a record and writes the verdict on it. Stands on the words, on worlds and what they are
-//! played by, and on the check of records. Keeps: what is written is a front of the definition's text of the
-//! words and of the bytes read, and the whole of it at status 0. Knows nothing of folders, nets or threads.
+//! played by, and on the check of records. Keeps: what is written is a prefix of the definition's text of
+//! the words and of the bytes read, and the whole of it at status 0. A call takes memory only where its
+//! result can say that memory ran out. Knows nothing of folders, nets or threads.
 #![tactic(auto)]
 
 mod alone;

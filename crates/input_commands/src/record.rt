@@ -248,7 +248,7 @@ fn stop_at(stop: &Stop, log: &EventLog) -> Stop
 {
     match stop {
         Stop::InstancesFull => stop_at_instances(log),
-        // Lines that are dropped meet no fault of an output, so this is want of memory.
+        // Lines that are dropped meet no fault of an output, so memory ran out.
         _ => Stop::NoMemory,
     }
 }

@@ -158,7 +158,7 @@ fn play_on<F: FnOnce(Bag) -> Result<Ran, AllocError> + Drop, K: Sink>(
     played
 }
 
-/// The stop for a script's fault: its line, or want of memory.
+/// The stop for a script's fault: its line, or that memory ran out.
 pub fn stop_of_fault(alloc: Global, fault: ScriptFault) -> Stop
     ensures { IsFaultStop fault result }
 {

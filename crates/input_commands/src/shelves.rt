@@ -71,7 +71,7 @@ fn put_shelf<F: FnOnce(Bag) -> Result<Ran, AllocError> + Drop, M: Fn(u32) -> F>(
     }
 }
 
-/// Lets all closures go without a call. It takes no memory.
+/// Lets all closures go without a call.
 pub fn discard<F: Drop>(mut shelves: Vec<Shelf<F>>) {
     while let Some(shelf) = shelves.pop() {
         shelf.end();

@@ -4,7 +4,8 @@
 //!
 //! Stands on `hmr_types` and `file_names`, for names and the paths that they stand for, on `percent_encoding`
 //! and `itoa`. Keeps: the text of a plan is read as that plan, and a URL has neither quotes nor backslashes, so
-//! that between quotes it is a string literal as it is. Knows nothing of texts, versions and requests.
+//! that between quotes it is a string literal as it is. Only a call that can return `AllocError` takes
+//! memory. Knows nothing of texts, versions and requests.
 #![tactic(auto)]
 
 mod instances;

@@ -17,7 +17,7 @@ pub struct PlanId {
 }
 
 impl PlanId {
-    /// The plan whose text this is; None where it is no plan's. It takes no memory.
+    /// The plan whose text this is; None where it is no plan's.
     pub fn read(text: &str) -> Option<PlanId>
         ensures written { IfSome result (λ id. (text.now ≡ plan_text id) × IsPlan id) }
         ensures value { result ≡ plan_of text.now }

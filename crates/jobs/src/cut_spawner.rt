@@ -13,7 +13,7 @@ pub struct CutSpawner<P> {
 
 impl<P: Spawner> CutSpawner<P> {
     /// A spawner that refuses the starts of these numbers, before another that is handed the rest. What was
-    /// begun and the faults are the other's. It takes no memory.
+    /// begun and the faults are the other's.
     pub fn new(inner: P, refused: Vec<u64>) -> Self
         ensures { result.inner ≡ inner }
     {

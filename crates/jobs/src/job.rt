@@ -26,7 +26,7 @@ pub trait Job {
     fn give_up(self) -> Self::Out
         ensures { gives_up self result };
 
-    /// The kind of the job, from 0 to 2. It takes no memory.
+    /// The kind of the job, from 0 to 2.
     fn kind(&self) -> u8
         ensures is { result ≡ kind_of self.now }
         ensures range { result < kinds };

@@ -6,8 +6,9 @@
 //! worker passes a [`Gate`] between a result and its post.
 //!
 //! Stands on `hmr_base` for what a fault is. Keeps: a started job is worked, or given up where a fault was
-//! counted; a refused one is given up; `begun` counts the starts that went on, by kind. Knows nothing of
-//! modules, queues or links, nor of when a thread gets on.
+//! counted; a refused one is given up; `begun` counts the starts that went on, by kind. Beside what the
+//! work of a job takes, only the start of a thread takes memory; where that runs out, the start is
+//! refused. Knows nothing of modules, queues or links, nor of when a thread gets on.
 #![tactic(auto)]
 
 mod cut_spawner;

@@ -72,7 +72,7 @@ where
 }
 
 /// Waits for the end of a job that was started, and gives its Out: that of the job worked, or of the job
-/// given up, where the spawner's count of faults then rose. It takes no memory.
+/// given up, where the spawner's count of faults then rose.
 pub fn finish<P: Spawner, J: Job, R: Threads + Wait>(
     rt: &R,
     spawner: &mut P,

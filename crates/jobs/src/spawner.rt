@@ -21,7 +21,7 @@ pub struct Refused {
 impl Started {
     ghost use Rattle.jobs.specs.Tokens.{started_kind};
 
-    /// The kind of the job, from 0 to 2. It takes no memory.
+    /// The kind of the job, from 0 to 2.
     pub fn kind(&self) -> u8
         ensures is { result ≡ started_kind self.now }
         ensures range { result < kinds }

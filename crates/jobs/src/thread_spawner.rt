@@ -14,7 +14,7 @@ pub struct ThreadSpawner {
 impl ThreadSpawner {
     ghost use Rattle.jobs.specs.Spawners.{begun_of, faults_of};
 
-    /// A spawner that has begun nothing, with no fault. It takes no memory.
+    /// A spawner that has begun nothing, with no fault.
     pub fn new() -> Self
         ensures begun { begun_of result ≡ none_begun }
         ensures faults { faults_of result ≡ 0 }

@@ -133,7 +133,7 @@ fn spawn<
 }
 
 /// Waits for the end of a thread that was started, and gives what its work gave, and whether the work went
-/// on; where it was given up, the spawner's count of faults rose. It takes no memory.
+/// on; where it was given up, the spawner's count of faults rose.
 pub fn finish_thread<P: Spawner, T, Q: Promise<(T, bool)>, R: Threads>(
     rt: &R,
     spawner: &mut P,

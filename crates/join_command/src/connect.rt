@@ -27,7 +27,7 @@ use std::alloc::{AllocError, Global};
 /// [`JoinStop::NetFailed`] only where the net's did. [`JoinStop::BadAnswer`] and
 /// [`JoinStop::InstancesFull`] come exactly where the session ended so, and [`JoinStop::NoMemory`] where
 /// memory ran out. The lines of the answers that were taken are written: all of them, but where the output
-/// failed or memory ran out a front of their bytes. What it sends and takes is that of a client's session,
+/// failed or memory ran out a prefix of their bytes. What it sends and takes is that of a client's session,
 /// as far as the net tells messages: a real one tells none. The net has each end back that it gave. It
 /// waits.
 pub fn join<F: FnOnce(Bag) -> Result<Ran, AllocError> + Drop, N: Net, K: Sink>(

@@ -51,7 +51,7 @@ impl Lists {
 }
 
 impl Feed {
-    /// The lists of an end that is to receive these messages. It takes no memory.
+    /// The lists of an end that is to receive these messages.
     pub(crate) fn told(alloc: Global, coming: VecDeque<Vec<u8>>) -> Self
         ensures left { left_of result ≡ Some (map (λ message. message.items) coming.items) }
         ensures sent { sent_of result ≡ Some [] }

@@ -7,8 +7,9 @@
 //!
 //! Stands on `outside_calls` for refusals and for the plans of failing calls, and on `hmr_types` for the
 //! limit on a message. Keeps: an object fails only where its count of faults rises, a form in memory
-//! exactly where its plan says, and what an end tells is what it received and sent, in order. Knows
-//! nothing of what messages mean, nor of when a thread gets on.
+//! exactly where its plan says, and what an end tells is what it received and sent, in order. A call
+//! takes memory only where its result can say that memory ran out, but for [`Link::close`], which may
+//! take some to tell the other end. Knows nothing of what messages mean, nor of when a thread gets on.
 #![tactic(auto)]
 
 mod feed;

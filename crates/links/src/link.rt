@@ -79,11 +79,11 @@ pub trait Link {
             (is_first_long (left self.old)) };
 
     /// Lets a client rest that was told there is nothing new: over a real connection it returns after 50
-    /// milliseconds, in memory at once. It takes no memory.
+    /// milliseconds, in memory at once.
     fn pause(&self);
 
     /// Closes the end. The other end still receives what was sent before, and after that None or a
-    /// failure. It takes no memory.
+    /// failure.
     fn close(&mut self)
         ensures shut { phase self.new ≡ Phase.Shut }
         ensures left { left self.new ≡ left self.old }

@@ -24,8 +24,7 @@ pub struct MemLink<R: Drop> {
 }
 
 impl<R: Drop> MemLink<R> {
-    /// A fresh end with this feed, whose calls fail where their numbers, from 0, stand in `failing`. It
-    /// takes no memory.
+    /// A fresh end with this feed, whose calls fail where their numbers, from 0, stand in `failing`.
     pub(crate) fn new(rt: R, feed: Feed, failing: Vec<u64>) -> Self
         ensures fresh { result.phase ≡ Phase.Fresh }
         ensures feed { result.feed ≡ feed }

@@ -114,7 +114,7 @@ pub trait Net {
         ensures planned { AsPlanned (plan self.old) (plan self.new) (is_failed result) false };
 
     /// Takes a closed end back, and counts a fault exactly where the end's count isn't 0. A net that tells
-    /// messages tells from then on which were left to this end, and which it sent. It takes no memory.
+    /// messages tells from then on which were left to this end, and which it sent.
     fn retire(&mut self, end: Self::End)
         requires shut { Self.End.phase end ≡ Phase.Shut }
         ensures rose { Self.End.faults end ≢ 0 → Rose (faults self.old) (faults self.new) }

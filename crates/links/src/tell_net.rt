@@ -31,7 +31,7 @@ impl<R: Wait + Copy + Drop> TellNet<R> {
     /// A net whose next end receives the messages of `coming`. Of its calls of `listen`, `accept` and
     /// `connect` those fail whose numbers, from 0, stand in `failing`, and of the calls of the n-th end
     /// that it gives those whose numbers stand in the n-th list of `ends`; of an end past these lists no
-    /// call fails. It takes no memory.
+    /// call fails.
     pub fn new(
         rt: R,
         coming: VecDeque<Vec<u8>>,

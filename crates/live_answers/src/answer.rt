@@ -47,8 +47,8 @@ pub struct Answer {
 }
 
 /// How many bytes of a body are to be read behind a head before it is answered by a server at this port of
-/// this machine: those of a post that is let in, at most 4,194,304. None where no body is read. It takes no
-/// memory, and time linear in the head.
+/// this machine: those of a post that is let in, at most 4,194,304. None where no body is read. It takes
+/// time linear in the head.
 pub fn body_length(head: &[u8], port: u16) -> Option<usize>
     ensures { TellsWant port head.now length_of result }
 {
@@ -68,7 +68,7 @@ pub fn body_length(head: &[u8], port: u16) -> Option<usize>
 }
 
 /// The query of the target by which a WebSocket is asked for that may be opened, of no bytes where the
-/// target has none; None where none is asked for. It takes no memory, and time linear in the head.
+/// target has none; None where none is asked for. It takes time linear in the head.
 pub fn upgrade_query<'a>(head: &'a [u8], port: u16) -> Option<&'a [u8]>
     ensures { TellsWant port head.now upgrade_of (option_map (λ query. query.now) result) }
 {

@@ -20,7 +20,7 @@ pub struct FolderFiles<R: Drop> {
 }
 
 impl<R: rt::Files + AllocGlobal + Drop> FolderFiles<R> {
-    /// The files in this folder, which is looked at anew for each path. It takes no memory.
+    /// The files in this folder, which is looked at anew for each path.
     pub fn new(rt: R, folder: String) -> Self {
         FolderFiles { rt, folder }
     }

@@ -9,7 +9,8 @@
 //! Stands on `request_guard` for who is let in and for media types, on `http_heads` for what a head asks, on
 //! `request_details` for what else it says. Keeps: an answer is a function of the head, the port, the body,
 //! and what the site tells of one path; a page of another server posts nothing; a path that has a part which
-//! begins with a dot is never looked at. Knows nothing of connections, of modules' texts or of versions.
+//! begins with a dot is never looked at. A call takes memory only where its result can say that memory ran
+//! out. Knows nothing of connections, of modules' texts or of versions.
 #![tactic(auto)]
 
 mod answer;

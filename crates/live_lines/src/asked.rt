@@ -27,7 +27,8 @@ pub enum Asked {
 }
 
 impl Asked {
-    /// What this message asks. Only want of memory refuses; but for a plan that was given up it takes none.
+    /// What this message asks. It takes memory only for a plan that was given up, and fails only where that
+    /// runs out.
     pub fn of(msg: &ClientMsg) -> Result<Asked, AllocError>
         ensures { IfOk result (λ asked. asked ≡ asked_of msg.now) }
     {

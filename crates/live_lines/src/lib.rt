@@ -6,9 +6,9 @@
 //! [`line_of`] gives the line of a [`News`], [`json_of`] the same as one JSON object.
 //!
 //! Stands on the messages (`update_msgs`) and on `play_text` for the words of faults and causes. Keeps: a
-//! stale binding is one whose instance isn't the live one of its module; each text is its definition. Knows
-//! nothing of sockets, threads or folders, nor of what stands in the text of a module, and no time but the
-//! one that it is given.
+//! stale binding is one whose instance isn't the live one of its module; each text is its definition. Only a
+//! call that can return `AllocError` takes memory. Knows nothing of sockets, threads or folders, nor of what
+//! stands in the text of a module, and no time but the one that it is given.
 #![tactic(auto)]
 
 mod applying;

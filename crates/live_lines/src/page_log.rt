@@ -43,7 +43,7 @@ impl Model for PageLog {
 }
 
 impl PageLog {
-    /// Of a page whose first message hasn't been answered. It takes no memory.
+    /// Of a page whose first message hasn't been answered.
     pub fn new(alloc: Global) -> PageLog
         ensures { result ≡ blank 0 }
     {
@@ -90,7 +90,7 @@ impl PageLog {
         }
     }
 
-    // Forgets all but the number. It takes no memory.
+    // Forgets all but the number.
     pub(crate) fn forget(&mut self, alloc: Global, client: ClientId)
         ensures { self.new ≡ blank client }
     {

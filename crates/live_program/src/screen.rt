@@ -29,6 +29,7 @@ pub(crate) struct Manner {
 }
 
 /// The terminal of one server after another. It keeps what is to be told of the stale bindings of each page.
+/// Where memory runs out a text is left out, and stale bindings aren't kept; nothing else takes memory.
 #[derive(Drop)]
 pub(crate) struct Screen<R: Drop, S: Drop> {
     rt: R,
@@ -46,7 +47,7 @@ pub(crate) struct Screen<R: Drop, S: Drop> {
 }
 
 impl<R: time::Clock + Drop, S: Sink + Drop> Screen<R, S> {
-    /// A terminal at which nothing was said. It takes no memory.
+    /// A terminal at which nothing was said.
     pub fn new(alloc: Global, rt: R, out: S, manner: Manner, keys: Keys) -> Self {
         Screen {
             rt,
@@ -69,12 +70,12 @@ impl<R: time::Clock + Drop, S: Sink + Drop> Screen<R, S> {
         self.first = 0;
     }
 
-    /// The port that the server listens at, or the one before it listened at. It takes no memory.
+    /// The port that the server listens at, or the one before it listened at.
     pub fn port(&self) -> Option<u16> {
         self.port
     }
 
-    /// The server listens at this port. It takes no memory.
+    /// The server listens at this port.
     pub fn listens(&mut self, port: u16) {
         self.port = Some(port);
     }

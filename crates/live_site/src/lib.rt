@@ -6,8 +6,8 @@
 //! and says what people are shown of the file: its lines, and the names that it imports.
 //!
 //! Stands on `hmr_types` for names and versions, on `live_answers` for answers, and on `live_lines` for
-//! imported names. Keeps: what a core is told has at most 131,072 bytes. Knows nothing of how files are read,
-//! of hubs or of connections.
+//! imported names. Keeps: what a core is told has at most 131,072 bytes. Only a call that can return
+//! `AllocError` takes memory. Knows nothing of how files are read, of hubs or of connections.
 #![tactic(auto)]
 
 mod site;

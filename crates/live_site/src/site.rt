@@ -16,7 +16,7 @@ pub trait Site {
     type File: Drop;
 
     /// How many bytes are to be read behind a head before it is answered, as `live_answers::body_length`
-    /// tells; None where no body is taken. It takes no memory.
+    /// tells; None where no body is taken.
     fn body_length(&self, head: &[u8]) -> Option<usize>;
 
     /// The answer to a head, and to the bytes of its body.

@@ -1,4 +1,5 @@
-// One row for each message of a client, each spelling, and each fault; nesting, long names, long tables.
+// One case for each message of a client, each spelling, and each fault; nesting, long names, long
+// tables.
 ghost use Rattle.update_msgs.specs.Writable.{IsSayable};
 
 use crate::told::told;

@@ -1,4 +1,4 @@
-// One row for each message of a server in each format, and each fault.
+// One case for each message of a server in each format, and each fault.
 ghost use Rattle.update_msgs.specs.Writable.{IsFormat, IsWritable};
 
 use crate::told::told;
@@ -76,7 +76,7 @@ bad triggeredBy={"batch":1,"cause":"root","path":["/a.js"],"triggeredBy":["/a.js
 extra x={"batch":1,"cause":"root","path":["/a.js"],"triggeredBy":[],"type":"full-reload","x":1}
 "#;
 
-/// How many rows there are, each told as it says.
+/// How many cases there are, each told as it says.
 fn rows_told(rt: &impl Abort, alloc: Global, table: &str, format: u8) -> Result<u32, Fail>
     requires { IsFormat format }
 {

@@ -1,5 +1,5 @@
-// What a row tells of bytes: that they are written again as they stand, how else they are written again, or
-// why they are no message.
+// What a case tells of bytes: that they are written again as they stand, how else they are written again,
+// or why they are no message.
 use message_json::MsgFault;
 use std::alloc::{AllocError, Global};
 

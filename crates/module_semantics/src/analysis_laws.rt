@@ -13,7 +13,7 @@ pub fn analyses_are_well_made()
     ensures { (base : List ℕ) (m : ModuleTree) (a : Analysis) → analysed base m ≡ Ok a → IsWellMade a }
 {}
 
-/// Want of memory is no answer of the definitions.
+/// The definitions never answer that memory ran out.
 pub fn memory_is_never_meant()
     ensures specifiers { (base spec : List ℕ) → resolve base spec ≢ Err SpecFault.NoMemory }
     ensures specifier_faults { (base : List ℕ) (m : ModuleTree) →

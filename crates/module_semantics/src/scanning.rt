@@ -8,6 +8,6 @@ pub enum ScanFault {
     Spec(SpecFault),
     /// More than 256 different modules are imported.
     TooManyImports,
-    /// Want of memory.
+    /// Memory ran out.
     NoMemory,
 }

@@ -1,9 +1,9 @@
-//! Calls of the outside that may want memory: why one is refused.
+//! Calls of the outside that may take memory: why one is refused.
 //!
 //! A folder, a net and a link each answer an [`OutFault`] where a call is refused.
 //!
 //! Stands on `hmr_base` for what a rising count is. Keeps: that the outside failed is told apart from
-//! want of memory, and has a rising count. Knows nothing of folders, nets or links.
+//! running out of memory, and has a rising count. Knows nothing of folders, nets or links.
 #![tactic(auto)]
 
 mod out_fault;

@@ -23,8 +23,8 @@ use std::alloc::Global;
 ///
 /// [`PageStop::Unread`], [`PageStop::Unwritten`] and [`PageStop::Tree`] come only where the count of faults
 /// of the input, of the output or of the tree rose in this call; [`PageStop::Limit`] where a limit was met,
-/// whose line is written last; [`PageStop::NoMemory`] for want of memory. What was written before is a front
-/// of the answers. The folder costs its bytes once, and an answer then the module that is asked for.
+/// whose line is written last; [`PageStop::NoMemory`] where memory ran out. What was written before is a
+/// prefix of the answers. The folder costs its bytes once, and an answer then the module that is asked for.
 pub fn page<S: Source, K: Sink, T: Tree>(
     alloc: Global,
     folder: &str,

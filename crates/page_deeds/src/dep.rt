@@ -18,8 +18,8 @@ use std::alloc::{AllocError, Global};
 impl<F: FnOnce(Bag) -> Result<Ran, AllocError> + Drop> Page<F> {
     /// The callbacks of the instance at a place that list this dependency are run, in the order in which
     /// they came. Each is given the dependency's live module at the places where it lists it, and
-    /// `undefined` at the others. Adds their lines. Only want of memory refuses; the page is then of no
-    /// more use.
+    /// `undefined` at the others. Adds their lines. It fails only where memory runs out; the page can't be
+    /// used then.
     pub fn run_dep(
         &mut self,
         alloc: Global,
@@ -42,8 +42,8 @@ impl<F: FnOnce(Bag) -> Result<Ran, AllocError> + Drop> Page<F> {
 
     /// The callbacks of the instance at a place that list this event are run, in the order in which they
     /// came. Each is given a module whose one export `data` is the value at the places where it lists the
-    /// event, and `undefined` at the others. Adds their lines. Only want of memory refuses; the page is
-    /// then of no more use.
+    /// event, and `undefined` at the others. Adds their lines. It fails only where memory runs out; the
+    /// page can't be used then.
     pub fn hear_event(
         &mut self,
         alloc: Global,

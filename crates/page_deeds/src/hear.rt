@@ -39,8 +39,8 @@ impl<F: FnOnce(Bag) -> Result<Ran, AllocError> + Drop> Page<F> {
     }
 
     /// Each live instance hears an event, the earliest first: its callbacks that list the event are run.
-    /// Adds their lines. Only want of memory refuses; the page is then of no more use. It takes time in
-    /// proportion to the number of instances and to what the callbacks do.
+    /// Adds their lines. It fails only where memory runs out; the page can't be used then. It takes time
+    /// in proportion to the number of instances and to what the callbacks do.
     pub fn hear_all(
         &mut self,
         alloc: Global,

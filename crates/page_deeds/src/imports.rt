@@ -22,7 +22,7 @@ fn meaning(alloc: Global, base: &ModName, spec: &Text) -> Result<Option<ModName>
     }
 }
 
-/// The modules that specifiers mean to the module `base`, in order. Only want of memory refuses.
+/// The modules that specifiers mean to the module `base`, in order. It fails only where memory runs out.
 pub fn meant(alloc: Global, base: &ModName, specs: &[Text]) -> Result<Vec<ModName>, AllocError>
     ensures { IfOk result (λ names. names.items ≡ meant base.now specs.now) }
 {
@@ -35,8 +35,8 @@ pub fn meant(alloc: Global, base: &ModName, specs: &[Text]) -> Result<Vec<ModNam
     Ok(names)
 }
 
-/// What the imports of the module `base` bind, in the order of its text. Only want of memory refuses. It
-/// takes time in proportion to the tree.
+/// What the imports of the module `base` bind, in the order of its text. It fails only where memory runs
+/// out. It takes time in proportion to the tree.
 pub fn bindings_of(
     alloc: Global,
     base: &ModName,

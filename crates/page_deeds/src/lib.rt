@@ -3,8 +3,8 @@
 //! It stands on `page_instances`, on the model of a client, on the module language, and on the sets of names
 //! and the new numbers of `page_plan`. Keeps: a page stands for a runtime of the model by number and by
 //! name; each deed here follows the deed of the same name there, so the page then stands for what that makes
-//! of the runtime, and the lines are those that it tells. Knows nothing of messages, or of which deed is
-//! due.
+//! of the runtime, and the lines are those that it tells. Only a call that can return `AllocError` takes
+//! memory. Knows nothing of messages, or of which deed is due.
 #![tactic(auto)]
 
 mod birth;

@@ -23,7 +23,7 @@ impl Model for LiveNumbers {
 }
 
 impl LiveNumbers {
-    /// No numbers. It takes no memory.
+    /// No numbers.
     pub fn new(alloc: Global) -> Self
         ensures { result ≡ [] }
     {
@@ -32,16 +32,16 @@ impl LiveNumbers {
         }
     }
 
-    /// The number of a name, None where it has none. It takes no memory, and time in proportion to the
-    /// logarithm of the number of names.
+    /// The number of a name, None where it has none. It takes time in proportion to the logarithm of the
+    /// number of names.
     pub fn get(&self, name: &ModName) -> Option<u32>
         ensures { result ≡ number_of self.now name.now }
     {
         self.numbers.get(name).copied()
     }
 
-    /// Gives a name a number, in place of an earlier one. Only want of memory refuses; the numbers are then
-    /// as before. It takes time as `get` does.
+    /// Gives a name a number, in place of an earlier one. It fails only where memory runs out; the numbers
+    /// are then as before. It takes time as `get` does.
     pub fn put(&mut self, name: ModName, number: u32) -> Result<(), AllocError>
         ensures ok { OnOk result (HasNumber name (Some number) self.old self.new) }
         ensures err { OnErr result (self.new ≡ self.old) }
@@ -50,14 +50,14 @@ impl LiveNumbers {
         Ok(())
     }
 
-    /// Leaves a name without a number. It takes no memory, and time as `get` does.
+    /// Leaves a name without a number. It takes time as `get` does.
     pub fn remove(&mut self, name: &ModName)
         ensures { HasNumber name.now None self.old self.new }
     {
         self.numbers.remove(name);
     }
 
-    /// Leaves a name without a number where it has this one. It takes no memory, and time as `get` does.
+    /// Leaves a name without a number where it has this one. It takes time as `get` does.
     pub fn end(&mut self, name: &ModName, number: usize)
         ensures { LosesNumber name.now number self.old self.new }
     {

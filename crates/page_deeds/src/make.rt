@@ -66,8 +66,8 @@ fn status_after(fault: &Option<EvalFault>) -> InstanceStatus
 
 impl<F: FnOnce(Bag) -> Result<Ran, AllocError> + Drop> Page<F> {
     /// A module gets a new instance, of the page's next number; none of its name may be live. Adds the
-    /// lines of its evaluation. Only want of memory refuses; the page is then of no more use. It takes time
-    /// in proportion to the tree and to what its evaluation does.
+    /// lines of its evaluation. It fails only where memory runs out; the page can't be used then. It takes
+    /// time in proportion to the tree and to what its evaluation does.
     pub fn make(
         &mut self,
         alloc: Global,

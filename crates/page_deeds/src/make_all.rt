@@ -12,8 +12,8 @@ use std::alloc::{AllocError, Global};
 
 impl<F: FnOnce(Bag) -> Result<Ran, AllocError> + Drop> Page<F> {
     /// Modules get new instances, one after another, of the page's next numbers; no two may have one name,
-    /// and none of the names may be live. Adds the lines of their evaluations. Only want of memory refuses;
-    /// the page is then of no more use. It takes time in proportion to the trees and to what their
+    /// and none of the names may be live. Adds the lines of their evaluations. It fails only where memory
+    /// runs out; the page can't be used then. It takes time in proportion to the trees and to what their
     /// evaluations do.
     pub fn make_all(
         &mut self,

@@ -77,8 +77,8 @@ impl<F: FnOnce(Bag) -> Result<Ran, AllocError> + Drop> Page<F> {
     }
 
     /// The callbacks on itself that the instance at a place holds are run, in the order in which they came.
-    /// Each is given the live module of the name. Adds their lines. Only want of memory refuses; the page
-    /// is then of no more use.
+    /// Each is given the live module of the name. Adds their lines. It fails only where memory runs out;
+    /// the page can't be used then.
     pub fn run_own(
         &mut self,
         alloc: Global,

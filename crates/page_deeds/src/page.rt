@@ -34,7 +34,7 @@ pub struct Page<F> {
 }
 
 impl<F> Page<F> {
-    /// A page without instances, of a client that has no number yet. It takes no memory.
+    /// A page without instances, of a client that has no number yet.
     pub fn new(alloc: Global, shelf: Shelf<F>) -> Self
         ensures client { result.client ≡ 0 }
         ensures instances { result.instances.items ≡ [] }
@@ -55,7 +55,7 @@ impl<F> Page<F> {
 }
 
 impl<F: Drop> Page<F> {
-    /// Gives the page up, and discards the handlers and closures that are left. It takes no memory.
+    /// Gives the page up, and discards the handlers and closures that are left.
     pub fn discard(self) {
         let Page {
             client: _,

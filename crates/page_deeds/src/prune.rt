@@ -20,9 +20,9 @@ use retained_data::Bag;
 use std::alloc::{AllocError, Global};
 
 impl<F: FnOnce(Bag) -> Result<Ran, AllocError> + Drop> Page<F> {
-    /// The instance at a place is pruned. Adds its lines, that of the prune last. Only want of memory
-    /// refuses; the page is then of no more use. It takes time in proportion to what its two handlers do
-    /// and to the number of its handlers.
+    /// The instance at a place is pruned. Adds its lines, that of the prune last. It fails only where memory
+    /// runs out; the page can't be used then. It takes time in proportion to what its two handlers do and to
+    /// the number of its handlers.
     pub fn prune_instance(
         &mut self,
         alloc: Global,
@@ -71,9 +71,9 @@ impl<F: FnOnce(Bag) -> Result<Ran, AllocError> + Drop> Page<F> {
         Ok(())
     }
 
-    /// The live instances of these names are pruned, the latest first. Adds their lines. Only want of
-    /// memory refuses; the page is then of no more use. It takes time in proportion to the number of
-    /// instances and to what the handlers do.
+    /// The live instances of these names are pruned, the latest first. Adds their lines. It fails only where
+    /// memory runs out; the page can't be used then. It takes time in proportion to the number of instances
+    /// and to what the handlers do.
     pub fn prune_all(
         &mut self,
         alloc: Global,

@@ -22,7 +22,7 @@ use std::alloc::{AllocError, Global};
 
 impl<F: FnOnce(Bag) -> Result<Ran, AllocError> + Drop> Page<F> {
     /// Registers these with the instance at a place, which is of this name. Adds a line for each label of
-    /// which no closure is left. Only want of memory refuses; the page is then of no more use. It takes
+    /// which no closure is left. It fails only where memory runs out; the page can't be used then. It takes
     /// time in proportion to the handlers that it registers and to those that they displace.
     pub fn register_all(
         &mut self,

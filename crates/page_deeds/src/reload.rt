@@ -17,8 +17,8 @@ use retained_data::{Bag, Bags};
 use std::alloc::{AllocError, Global};
 
 impl<F: FnOnce(Bag) -> Result<Ran, AllocError> + Drop> Page<F> {
-    /// The instance at a place ends with its page: its handlers are dropped. It tells nothing and takes no
-    /// memory, and time in proportion to the number of its handlers.
+    /// The instance at a place ends with its page: its handlers are dropped. It tells nothing. It takes
+    /// time in proportion to the number of its handlers.
     pub fn reload_instance(&mut self, place: usize)
         requires { place < length self.old.instances.items }
         ensures count { length self.new.instances.items ≡ length self.old.instances.items }
@@ -42,8 +42,8 @@ impl<F: FnOnce(Bag) -> Result<Ran, AllocError> + Drop> Page<F> {
     }
 
     /// The page is loaded anew: every live instance ends, its handlers are dropped, and all data is given
-    /// up. It tells nothing. Only want of memory refuses; the page is then as before. It takes time in
-    /// proportion to the number of instances and of the handlers of those that are live.
+    /// up. It tells nothing. It fails only where memory runs out; the page is then as before. It takes
+    /// time in proportion to the number of instances and of the handlers of those that are live.
     pub fn reload_all(&mut self, alloc: Global) -> Result<(), AllocError>
         ensures count { OnOk result (length self.new.instances.items ≡ length self.old.instances.items) }
         ensures words { KeepWords F.post self.old → OnOk result (KeepWords F.post self.new) }

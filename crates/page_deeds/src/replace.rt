@@ -24,9 +24,9 @@ use retained_data::Bag;
 use std::alloc::{AllocError, Global};
 
 impl<F: FnOnce(Bag) -> Result<Ran, AllocError> + Drop> Page<F> {
-    /// The instance at a place is replaced by the one of this number. Adds its lines. Only want of memory
-    /// refuses; the page is then of no more use. It takes time in proportion to what its disposer does and
-    /// to the number of its handlers.
+    /// The instance at a place is replaced by the one of this number. Adds its lines. It fails only where
+    /// memory runs out; the page can't be used then. It takes time in proportion to what its disposer does
+    /// and to the number of its handlers.
     pub fn replace_instance(
         &mut self,
         alloc: Global,
@@ -100,9 +100,9 @@ impl<F: FnOnce(Bag) -> Result<Ran, AllocError> + Drop> Page<F> {
     /// The live instances of these names are replaced, the latest first, each by the instance of the number
     /// that its name gets. Adds their lines, and answers the places of those that were replaced, in that
     /// order: their callbacks on themselves stay set aside there, until `drop_all`. None is live under one
-    /// of the names then, nor under a name under which none was before. Only want of memory refuses; the
-    /// page is then of no more use. It takes time in proportion to the number of instances and to what the
-    /// disposers do.
+    /// of the names then, nor under a name under which none was before. It fails only where memory runs
+    /// out; the page can't be used then. It takes time in proportion to the number of instances and to what
+    /// the disposers do.
     pub fn replace_all(
         &mut self,
         alloc: Global,
@@ -136,7 +136,7 @@ impl<F: FnOnce(Bag) -> Result<Ran, AllocError> + Drop> Page<F> {
     }
 
     /// All handlers that the instances at these places still hold are dropped, one instance after another.
-    /// It tells nothing and takes no memory, and time in proportion to the number of handlers.
+    /// It tells nothing. It takes time in proportion to the number of handlers.
     pub fn drop_all(&mut self, places: &[usize])
         requires { All (λ k. k < length self.old.instances.items) places.now }
         ensures count { length self.new.instances.items ≡ length self.old.instances.items }

@@ -16,8 +16,8 @@ use retained_data::Bag;
 use std::alloc::{AllocError, Global};
 
 impl<F: FnOnce(Bag) -> Result<Ran, AllocError> + Drop> Page<F> {
-    /// Runs the disposer of the instance at a place, where it holds one, and adds its lines. Only want of
-    /// memory refuses.
+    /// Runs the disposer of the instance at a place, where it holds one, and adds its lines. It fails only
+    /// where memory runs out.
     pub fn run_disposer(
         &mut self,
         alloc: Global,
@@ -46,8 +46,8 @@ impl<F: FnOnce(Bag) -> Result<Ran, AllocError> + Drop> Page<F> {
         Ok(())
     }
 
-    /// Runs the prune handler of the instance at a place, where it holds one, and adds its lines. Only want
-    /// of memory refuses.
+    /// Runs the prune handler of the instance at a place, where it holds one, and adds its lines. It fails
+    /// only where memory runs out.
     pub fn run_prune(
         &mut self,
         alloc: Global,

@@ -33,8 +33,8 @@ fn add_invalidations(
 }
 
 impl<F> Page<F> {
-    /// The live instance of a name: None exactly where none is live. It takes no memory, and time in
-    /// proportion to the logarithm of the number of names.
+    /// The live instance of a name: None exactly where none is live. It takes time in proportion to the
+    /// logarithm of the number of names.
     pub fn live_instance(&self, name: &ModName) -> Option<&Instance<F>>
         ensures { option_map (λ c. c.now) result ≡ live_in self.now name.now }
     {

@@ -88,9 +88,9 @@ impl<F> Page<F> {
     }
 
     /// The lines of what the exports of the live modules among these hold, in the order of the names and
-    /// then of the exports. Only want of memory refuses. It takes time in proportion to the names, each
-    /// with the logarithm of the number of live ones, and to the exports, each with the variables of its
-    /// module.
+    /// then of the exports. It fails only where memory runs out. It takes time in proportion to the names,
+    /// each with the logarithm of the number of live ones, and to the exports, each with the variables of
+    /// its module.
     pub fn value_lines(&self, alloc: Global, names: &[ModName]) -> Result<Vec<OutLine>, AllocError>
         ensures { (r : Runtime) → StandsFor r self.now
             → IfOk result (λ lines. lines.items ≡ Values r.client ∷ values_among r names.now) }
@@ -115,8 +115,8 @@ impl<F> Page<F> {
     }
 
     /// Adds the edges from a module to each of these imports of which another instance is live than the one
-    /// that it is linked to. Only want of memory refuses. It takes time in proportion to the links of the
-    /// module and the imports, each with the logarithm of the number of live modules.
+    /// that it is linked to. It fails only where memory runs out. It takes time in proportion to the links
+    /// of the module and the imports, each with the logarithm of the number of live modules.
     pub fn tell_stale(
         &self,
         alloc: Global,
@@ -147,8 +147,8 @@ impl<F> Page<F> {
     }
 
     /// The lines of each instance that was made, by rising number, with its handlers in the order in which
-    /// they came. Only want of memory refuses, or more instances than a `u32` counts. It takes time in
-    /// proportion to the instances and their handlers.
+    /// they came. It fails only where memory runs out, or where there are more instances than a `u32`
+    /// counts. It takes time in proportion to the instances and their handlers.
     pub fn fate_lines(&self, alloc: Global) -> Result<Vec<OutLine>, AllocError>
         ensures { (r : Runtime) → StandsFor r self.now → IfOk result (λ lines. lines.items ≡ fate_lines r) }
     {

@@ -14,7 +14,7 @@ use retained_data::Bag;
 use std::alloc::AllocError;
 
 impl<F: FnOnce(Bag) -> Result<Ran, AllocError> + Drop> Page<F> {
-    /// Drops the handlers of the instance at a place but the callbacks on itself. It takes no memory.
+    /// Drops the handlers of the instance at a place but the callbacks on itself.
     pub fn drop_left_behind(&mut self, place: usize)
         requires { place < length self.old.instances.items }
         ensures count { length self.new.instances.items ≡ length self.old.instances.items }
@@ -25,7 +25,7 @@ impl<F: FnOnce(Bag) -> Result<Ran, AllocError> + Drop> Page<F> {
         self.instances[place].drop_left_behind();
     }
 
-    /// Drops all handlers of the instance at a place. It takes no memory.
+    /// Drops all handlers of the instance at a place.
     pub fn drop_held(&mut self, place: usize)
         requires { place < length self.old.instances.items }
         ensures count { length self.new.instances.items ≡ length self.old.instances.items }
@@ -36,8 +36,8 @@ impl<F: FnOnce(Bag) -> Result<Ran, AllocError> + Drop> Page<F> {
         self.instances[place].drop_held();
     }
 
-    /// Gives the instance at a place its fate, by which it is dead. It takes no memory, and time in
-    /// proportion to the logarithm of the number of names.
+    /// Gives the instance at a place its fate, by which it is dead. It takes time in proportion to the
+    /// logarithm of the number of names.
     pub fn end_instance(&mut self, place: usize, fate: InstanceFate)
         requires place { place < length self.old.instances.items }
         requires dead { is_live_fate fate ≡ false }
@@ -50,8 +50,8 @@ impl<F: FnOnce(Bag) -> Result<Ran, AllocError> + Drop> Page<F> {
         self.instances[place].end(fate);
     }
 
-    /// Gives up the data of the name of the instance at a place. It takes no memory, and time in proportion
-    /// to the logarithm of the number of names.
+    /// Gives up the data of the name of the instance at a place. It takes time in proportion to the
+    /// logarithm of the number of names.
     pub fn give_up_bag(&mut self, place: usize)
         requires { place < length self.old.instances.items }
         ensures count { length self.new.instances.items ≡ length self.old.instances.items }

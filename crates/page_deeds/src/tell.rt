@@ -59,8 +59,8 @@ impl<F> Page<F> {
         }
     }
 
-    /// The place of the live instance of a name. It takes no memory, and time in proportion to the logarithm
-    /// of the number of names.
+    /// The place of the live instance of a name. It takes time in proportion to the logarithm of the number
+    /// of names.
     pub fn live_place(&self, name: &ModName) -> Option<usize>
         ensures within { IfSome result (λ k. k < length self.now.instances.items) }
         ensures place { (r : Runtime) → StandsFor r self.now
@@ -73,7 +73,7 @@ impl<F> Page<F> {
     }
 
     /// How a boundary is told of a module by a plan, as the page stands before the plan: the module gets a
-    /// new instance, or it is forced. It takes no memory.
+    /// new instance, or it is forced.
     pub fn telling(
         &self,
         boundary: &ModName,
@@ -174,8 +174,8 @@ impl<F: FnOnce(Bag) -> Result<Ran, AllocError> + Drop> Page<F> {
         }
     }
 
-    /// A boundary is told of a module. Adds the lines. Only want of memory refuses; the page is then of no
-    /// more use.
+    /// A boundary is told of a module. Adds the lines. It fails only where memory runs out; the page can't
+    /// be used then.
     pub fn tell(
         &mut self,
         alloc: Global,
@@ -197,8 +197,8 @@ impl<F: FnOnce(Bag) -> Result<Ran, AllocError> + Drop> Page<F> {
         }
     }
 
-    /// The boundaries are told of their modules, in order. Adds the lines. Only want of memory refuses; the
-    /// page is then of no more use.
+    /// The boundaries are told of their modules, in order. Adds the lines. It fails only where memory runs
+    /// out; the page can't be used then.
     pub fn tell_all(
         &mut self,
         alloc: Global,

@@ -24,8 +24,8 @@ use retained_data::Bag;
 use std::alloc::AllocError;
 
 impl<F: FnOnce(Bag) -> Result<Ran, AllocError> + Drop> Instance<F> {
-    /// Holds a disposer; the one that it displaces is dropped. Only want of memory refuses; the handler
-    /// is then gone.
+    /// Holds a disposer; the one that it displaces is dropped. It fails only where memory runs out; the
+    /// handler is then gone.
     pub fn hold_disposer(&mut self, handler: Handler<F>, handled: Handled) -> Result<(), AllocError>
         requires handled { handled ≡ handled_of (deed_in handler) }
         requires word { KeepsItsWord F.post handler }
@@ -46,8 +46,8 @@ impl<F: FnOnce(Bag) -> Result<Ran, AllocError> + Drop> Instance<F> {
         Ok(())
     }
 
-    /// Holds a prune handler; the one that it displaces is dropped. Only want of memory refuses; the
-    /// handler is then gone.
+    /// Holds a prune handler; the one that it displaces is dropped. It fails only where memory runs out;
+    /// the handler is then gone.
     pub fn hold_prune(&mut self, handler: Handler<F>, handled: Handled) -> Result<(), AllocError>
         requires handled { handled ≡ handled_of (deed_in handler) }
         requires word { KeepsItsWord F.post handler }
@@ -68,8 +68,8 @@ impl<F: FnOnce(Bag) -> Result<Ran, AllocError> + Drop> Instance<F> {
         Ok(())
     }
 
-    /// Holds one more callback on the module itself. Only want of memory refuses; the handler is then
-    /// gone.
+    /// Holds one more callback on the module itself. It fails only where memory runs out; the handler is
+    /// then gone.
     pub fn add_own(&mut self, handler: Handler<F>, handled: Handled) -> Result<(), AllocError>
         requires handled { handled ≡ handled_of (deed_in handler) }
         requires word { KeepsItsWord F.post handler }
@@ -92,8 +92,8 @@ impl<F: FnOnce(Bag) -> Result<Ran, AllocError> + Drop> Instance<F> {
         Ok(())
     }
 
-    /// Holds a handler of this kind, as the method of the kind does. Only want of memory refuses; the
-    /// handler is then gone.
+    /// Holds a handler of this kind, as the method of the kind does. It fails only where memory runs out;
+    /// the handler is then gone.
     pub fn hold(
         &mut self,
         kind: HandlerKind,
@@ -118,8 +118,8 @@ impl<F: FnOnce(Bag) -> Result<Ran, AllocError> + Drop> Instance<F> {
         }
     }
 
-    /// Holds one more callback on these dependencies. Only want of memory refuses; the callback is then
-    /// gone.
+    /// Holds one more callback on these dependencies. It fails only where memory runs out; the callback is
+    /// then gone.
     pub fn add_dep(&mut self, deps: Vec<ModName>, what: HandlerCode) -> Result<(), AllocError>
         ensures sees { (i : model.Instance) → Sees i self.old
             → OnOk result (Sees (with_held kind.Dep deps.items (code (handler_of what)) i) self.new) }

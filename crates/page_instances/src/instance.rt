@@ -41,7 +41,7 @@ pub struct Instance<F> {
 }
 
 impl<F> Instance<F> {
-    /// A live instance with these variables, and without handlers. It takes no memory.
+    /// A live instance with these variables, and without handlers.
     pub fn new(
         alloc: Global,
         name: ModName,
@@ -73,7 +73,7 @@ impl<F> Instance<F> {
         }
     }
 
-    /// Gives it its fate. It takes no memory.
+    /// Gives it its fate.
     pub fn end(&mut self, fate: InstanceFate)
         ensures sees { (i : model.Instance) → Sees i self.old → Sees (record i { fate = fate }) self.new }
         ensures rest { self.new ≡ record self.old { fate = fate } }
@@ -83,7 +83,7 @@ impl<F> Instance<F> {
 }
 
 impl<F: Drop> Instance<F> {
-    /// Gives the instance up and discards the handlers that are left. It takes no memory.
+    /// Gives the instance up and discards the handlers that are left.
     pub fn discard(self) {
         let Instance {
             name: _,

@@ -13,14 +13,14 @@ use handler_table::{Handler, Handlers, tables_keep_their_word};
 use retained_data::Bag;
 use std::alloc::AllocError;
 
-/// Lets a handler go unrun, where there is one. It takes no memory.
+/// Lets a handler go unrun, where there is one.
 pub fn discard_one<F: Drop>(handler: Option<Handler<F>>) {
     if let Some(handler) = handler {
         handler.discard();
     }
 }
 
-/// The callbacks of a table on the module itself are dropped. It takes no memory.
+/// The callbacks of a table on the module itself are dropped.
 fn drop_own<F: Drop>(held: &mut Handlers<F>)
     ensures { held.new ≡ record held.old { own = [] } }
 {
@@ -30,7 +30,7 @@ fn drop_own<F: Drop>(held: &mut Handlers<F>)
 }
 
 impl<F: FnOnce(Bag) -> Result<Ran, AllocError> + Drop> Instance<F> {
-    /// Drops all handlers but the callbacks on the module itself. It takes no memory.
+    /// Drops all handlers but the callbacks on the module itself.
     pub fn drop_left_behind(&mut self)
         ensures sees { (i : model.Instance) → Sees i self.old
             → Sees (record i { handlers = with_dropped is_left_behind i.handlers }) self.new }
@@ -44,7 +44,7 @@ impl<F: FnOnce(Bag) -> Result<Ran, AllocError> + Drop> Instance<F> {
         drop_marks(&mut self.marks, Those::ButOwn);
     }
 
-    /// Drops all handlers. It takes no memory.
+    /// Drops all handlers.
     pub fn drop_held(&mut self)
         ensures sees { (i : model.Instance) → Sees i self.old
             → Sees (record i { handlers = with_dropped is_held i.handlers }) self.new }

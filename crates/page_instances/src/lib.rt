@@ -2,7 +2,8 @@
 //!
 //! It stands on the model of a client, on the tables of handlers and on the evaluator. Keeps: what is held
 //! of an instance is always seen as one of the model's, and each step here as the model's step of the same
-//! name; the text of a module is never kept. Knows nothing of a page, of messages or of lines.
+//! name; the text of a module is never kept. Only a call that can return `AllocError` takes memory. Knows
+//! nothing of a page, of messages or of lines.
 #![tactic(auto)]
 
 mod hold;

@@ -55,7 +55,7 @@ fn is_held(mark: &Mark, those: Those) -> bool
     matches!(mark.end, HandlerEnd::Held) && is_of(those, mark.kind)
 }
 
-/// The held handlers of these kinds are dropped. It takes no memory.
+/// The held handlers of these kinds are dropped.
 pub fn drop_marks(marks: &mut Vec<Mark>, those: Those)
     ensures { marks.new.items ≡ marks_dropped (is_held_of (is_of those)) marks.old.items }
 {
@@ -66,7 +66,7 @@ pub fn drop_marks(marks: &mut Vec<Mark>, those: Those)
     }
 }
 
-/// The first held handler of a kind was run. It takes no memory.
+/// The first held handler of a kind was run.
 pub fn spend_mark(marks: &mut Vec<Mark>, kind: HandlerKind)
     ensures { marks.new.items ≡ first_ended (is_held_of (is_kind kind)) Spent marks.old.items }
 {
@@ -78,7 +78,7 @@ pub fn spend_mark(marks: &mut Vec<Mark>, kind: HandlerKind)
     }
 }
 
-/// One handler more is held. Only want of memory refuses.
+/// One handler more is held. It fails only where memory runs out.
 pub fn add_mark(
     marks: &mut Vec<Mark>,
     kind: HandlerKind,

@@ -26,7 +26,7 @@ fn slots_of(
 }
 
 /// An instance as the argument of a callback: its exports, or `undefined` where it wasn't evaluated to its
-/// end. Only want of memory refuses.
+/// end. It fails only where memory runs out.
 pub fn exports_in<F>(alloc: Global, instance: &Instance<F>) -> Result<ModParam, AllocError>
     ensures { IfOk result (λ m. m ≡ argument_of (exports_in instance.now)) }
 {

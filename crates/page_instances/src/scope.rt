@@ -23,8 +23,8 @@ fn link_at(links: &[(ModName, u32)], name: &ModName) -> Option<u32>
     None
 }
 
-/// The instance of a number, from 1: None exactly where there is none. It takes no memory, and the same
-/// time whatever the number.
+/// The instance of a number, from 1: None exactly where there is none. It takes the same time whatever the
+/// number.
 pub fn instance_at<F>(instances: &[Instance<F>], number: u32) -> Option<&Instance<F>>
     ensures { option_map (λ c. c.now) result ≡ kept_at instances.now number }
 {
@@ -73,7 +73,7 @@ fn add_bound<F>(
 }
 
 /// The local names of imports that are linked so, each with what its export holds now: what the evaluation
-/// of a new instance reads. Only want of memory refuses.
+/// of a new instance reads. It fails only where memory runs out.
 pub fn slots_bound<F>(
     alloc: Global,
     instances: &[Instance<F>],
@@ -90,8 +90,8 @@ pub fn slots_bound<F>(
 }
 
 /// The local names of the imports of an instance, each with what its export holds now: what its code reads
-/// beside its own variables. Only want of memory refuses. It takes time in proportion to the look-ups of the
-/// imports.
+/// beside its own variables. It fails only where memory runs out. It takes time in proportion to the
+/// look-ups of the imports.
 pub fn imports_in<F>(
     alloc: Global,
     instances: &[Instance<F>],

@@ -30,8 +30,9 @@ fn tell_each(
     Ok(())
 }
 
-/// Adds a line for each export of an instance of the module of this name, of what it holds. Only want of
-/// memory refuses. It takes time in proportion to the exports, and for each to the variables.
+/// Adds a line for each export of an instance of the module of this name, of what it holds. It fails
+/// only where memory runs out. It takes time in proportion to the exports, and for each to the
+/// variables.
 pub fn tell_values<F>(
     lines: &mut Vec<OutLine>,
     name: &ModName,
@@ -58,7 +59,7 @@ fn tell_marks(lines: &mut Vec<OutLine>, marks: &[Mark]) -> Result<(), AllocError
     Ok(())
 }
 
-/// Adds the line of an instance, of what became of it. Only want of memory refuses.
+/// Adds the line of an instance, of what became of it. It fails only where memory runs out.
 fn tell_one<F>(
     lines: &mut Vec<OutLine>,
     number: u32,
@@ -79,7 +80,7 @@ fn tell_one<F>(
 }
 
 /// Adds the line of the instance of this number, and a line for each handler that it ever had, of what
-/// became of it. Only want of memory refuses. It takes time in proportion to the handlers.
+/// became of it. It fails only where memory runs out. It takes time in proportion to the handlers.
 pub fn tell_fate<F>(
     lines: &mut Vec<OutLine>,
     number: u32,

@@ -16,7 +16,7 @@ use retained_data::Bag;
 use std::alloc::AllocError;
 
 impl<F: FnOnce(Bag) -> Result<Ran, AllocError> + Drop> Instance<F> {
-    /// Hands out the disposer; then none is held. It takes no memory.
+    /// Hands out the disposer; then none is held.
     pub fn take_disposer(&mut self) -> Option<Handler<F>>
         ensures some { IfSome result
             (λ h. (i : model.Instance) → Sees i self.old → TakenOff disposes h i self.new) }
@@ -36,7 +36,7 @@ impl<F: FnOnce(Bag) -> Result<Ran, AllocError> + Drop> Instance<F> {
         }
     }
 
-    /// Hands out the prune handler; then none is held. It takes no memory.
+    /// Hands out the prune handler; then none is held.
     pub fn take_prune(&mut self) -> Option<Handler<F>>
         ensures some { IfSome result
             (λ h. (i : model.Instance) → Sees i self.old → TakenOff prunes h i self.new) }
@@ -56,8 +56,7 @@ impl<F: FnOnce(Bag) -> Result<Ran, AllocError> + Drop> Instance<F> {
         }
     }
 
-    /// Hands out the earliest callback on the module itself: None exactly where none is held. It takes no
-    /// memory.
+    /// Hands out the earliest callback on the module itself: None exactly where none is held.
     pub fn take_own(&mut self) -> Option<Handler<F>>
         ensures some { IfSome result
             (λ h. (i : model.Instance) → Sees i self.old → TakenOff accepts_own h i self.new) }

@@ -35,8 +35,9 @@ fn assign(values: &mut Vec<(Name, Slot)>, name: &Name, value: &Value) -> Result<
 /// Up to so many changes are made sooner by walks than by an index.
 const FEW_CHANGES: usize = 16;
 
-/// The variables get these values, in order. Only want of memory refuses. It takes time in proportion to the
-/// number of variables and the number of changes, but for the logarithm of the number of changes.
+/// The variables get these values, in order. It fails only where memory runs out. It takes time in
+/// proportion to the number of variables and the number of changes, but for the logarithm of the number of
+/// changes.
 pub fn assign_all(
     values: &mut Vec<(Name, Slot)>,
     changes: &[(Name, Value)],

@@ -39,7 +39,7 @@ pub(crate) struct Found<'a> {
 }
 
 impl<'a> Commands<'a> {
-    /// The commands of a text. It takes no memory.
+    /// The commands of a text.
     pub(crate) fn of(text: &'a [u8]) -> Commands<'a>
         ensures { result ≡ commands (lines_from [] text.now) }
     {

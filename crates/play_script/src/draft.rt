@@ -28,7 +28,7 @@ pub struct Draft {
 }
 
 impl Draft {
-    /// The script before its first line. It takes no memory.
+    /// The script before its first line.
     pub fn new(alloc: Global, form: Form) -> Draft
         ensures { result ≡ beginning form }
     {

@@ -27,7 +27,7 @@ impl<'a> Model for Edits<'a> {
 }
 
 impl<'a> Edits<'a> {
-    /// The edits of a text. It takes no memory.
+    /// The edits of a text.
     pub(crate) fn of(text: &'a [u8]) -> Edits<'a>
         ensures { result ≡ edits_in text.now }
     {

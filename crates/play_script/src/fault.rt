@@ -39,7 +39,7 @@ pub struct ScriptFault {
     pub kind: ScriptKind,
 }
 
-/// The word of a kind of fault, as it is written after `script fault at line N: `. It takes no memory.
+/// The word of a kind of fault, as it is written after `script fault at line N: `.
 pub fn script_word(kind: ScriptKind) -> &'static str
     ensures { result.now ≡ kind_word kind }
 {

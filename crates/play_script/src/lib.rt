@@ -3,8 +3,9 @@
 //! Stands on the vocabulary. Keeps: [`read_script`] is the definition `script_of`, the first fault of
 //! bytes that are no script included, and a [`Script`] keeps its text and no command: the commands are
 //! read from the text, one by one, as [`Commands::next`] is asked for them. [`read_edits`] and [`Edits`]
-//! are the same for scripts that have edits and removals alone. Knows nothing of worlds,
-//! clients or versions, and nothing of what a command writes.
+//! are the same for scripts that have edits and removals alone. A call takes memory only where its
+//! result can say that memory ran out. Knows nothing of worlds, clients or versions, and nothing of what
+//! a command writes.
 #![tactic(auto)]
 
 mod arguments;

@@ -18,9 +18,9 @@ use std::alloc::Global;
 
 /// The script that the bytes say, at most 4,294,967,295 of them.
 ///
-/// A refusal is the fault of the first line that has one, and its first fault; or want of memory, whose
-/// line is 0. The time is linear in the bytes. The memory is that of the roots and, meanwhile, of the
-/// words and names of one line: no command is kept.
+/// A refusal is the fault of the first line that has one, and its first fault; or that memory ran out,
+/// whose line is 0. The time is linear in the bytes. The memory is that of the roots and, meanwhile, of
+/// the words and names of one line: no command is kept.
 pub fn read_script(alloc: Global, text: &[u8]) -> Result<Script<'_>, ScriptFault>
     requires { length text.now ≤ 4294967295 }
     ensures { IsReading result (script_of text.now) }

@@ -23,7 +23,7 @@ impl<'a> Model for Script<'a> {
 }
 
 impl<'a> Script<'a> {
-    /// The script of these roots whose commands are those of the text. It takes no memory.
+    /// The script of these roots whose commands are those of the text.
     pub(crate) fn new(roots: Sequence<ModName>, text: &'a [u8]) -> Script<'a>
         ensures roots { result.roots ≡ roots }
         ensures commands { result.lines ≡ commands (lines_from [] text.now) }
@@ -39,7 +39,7 @@ impl<'a> Script<'a> {
         self.roots.as_slice()
     }
 
-    /// The commands, from the first on. It takes no memory: each is read as it is asked for.
+    /// The commands, from the first on. Each is read as it is asked for.
     pub fn commands(&self) -> Commands<'a>
         ensures { result ≡ self.now.lines }
     {

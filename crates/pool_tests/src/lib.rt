@@ -2,8 +2,9 @@
 //!
 //! Each file is an area: a gate that holds one result until another is posted, a worker's board over a
 //! queue, and workers as jobs that a spawner starts. Stands on `jobs` and `transform_pool`, and no crate
-//! stands on it. Keeps: a board's pass is of its queue, whatever becomes of its worker. Knows nothing of
-//! what is private in the crates below.
+//! stands on it. Keeps: a board's pass is of its queue, whatever becomes of its worker. A call takes
+//! memory only where its result can say that memory ran out. Knows nothing of what is private in the
+//! crates below.
 #![tactic(auto)]
 
 #[cfg(test)]

@@ -25,7 +25,7 @@ pub struct QueueBoard {
 }
 
 impl QueueBoard {
-    /// A board over this queue, with a pass of it that takes. It takes no memory.
+    /// A board over this queue, with a pass of it that takes.
     pub fn new(
         alloc: Global,
         queue: Arc<JobQueue, Global>,

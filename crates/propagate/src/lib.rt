@@ -2,8 +2,8 @@
 //! replaces, and which modules are told of what.
 //!
 //! Stands on the modules of a page and on the definitions of the core. Keeps: what is answered is said
-//! by paths of edges on the view, never by an order of visiting. Knows nothing of clients, of plans or
-//! of versions.
+//! by paths of edges on the view, never by an order of visiting. Only a call that can return
+//! `AllocError` takes memory. Knows nothing of clients, of plans or of versions.
 #![tactic(auto)]
 
 mod change;

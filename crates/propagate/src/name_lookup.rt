@@ -36,7 +36,7 @@ impl<'a> NameLookup<'a> {
         Ok(NameLookup { names, set })
     }
 
-    /// Whether the list has the name. It takes no memory.
+    /// Whether the list has the name.
     pub(crate) fn has(&self, name: &ModName) -> bool
         ensures { result ≡ has self.now name.now }
     {

@@ -53,7 +53,7 @@ fn line_of(verdict: Verdict) -> u64 {
     }
 }
 
-/// How many rows there are, each said as it says.
+/// How many cases there are, each said as it says.
 fn rows_said(rt: &impl Abort, alloc: Global) -> Result<u32, Fail> {
     let mut rows: u32 = 0;
     for row in CHANGED.lines() {

@@ -27,7 +27,7 @@ pub struct Draft {
 }
 
 impl Draft {
-    /// The record before its first line. It takes no memory.
+    /// The record before its first line.
     pub(crate) fn new(alloc: Global) -> Draft
         ensures { result ≡ beginning }
     {

@@ -4,8 +4,9 @@
 //! Stands on the vocabulary, on `play_script` for the lines and numbers of a text, on `play_text` for the
 //! words of faults, on `message_text` and `message_json` for the messages in replies, and on `itoa` for
 //! numbers. Keeps: [`write`] is the definition `record_text`, and [`read_record`] the definition
-//! `record_of`, the first bad line of bytes that are no record included. Knows nothing of what a core
-//! answers, and so nothing of whether a record is true.
+//! `record_of`, the first bad line of bytes that are no record included. A call takes memory only where its
+//! result can say that memory ran out. Knows nothing of what a core answers, and so nothing of whether a
+//! record is true.
 #![tactic(auto)]
 
 mod arguments;

@@ -30,7 +30,7 @@ pub struct Details<'a> {
 
 /// What the bytes say of their request, at a server at this port of this machine; None exactly where they
 /// are no head as a whole, of at most 64 fields. The names of fields are compared in any case of letters. It
-/// takes no memory, and time linear in the bytes.
+/// takes time linear in the bytes.
 pub fn read_details(bytes: &[u8], port: u16) -> Option<Details<'_>>
     ensures { Tells port bytes.now (option_map said result) }
 {

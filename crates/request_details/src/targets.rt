@@ -3,7 +3,7 @@ ghost use Rattle.std.specs.Prelude.{◌≡◌};
 ghost use Rattle.http_heads.specs.Head.{path_of};
 ghost use Rattle.request_details.specs.Details.{before_hash, behind_mark, query_of};
 
-/// The target up to its first question mark. It takes no memory.
+/// The target up to its first question mark.
 pub fn path_of(target: &[u8]) -> &[u8]
     ensures { result.now ≡ path_of target.now }
 {
@@ -16,7 +16,7 @@ pub fn path_of(target: &[u8]) -> &[u8]
 }
 
 /// What stands behind the first question mark of a target, up to a `#` or its end; nothing where there is no
-/// question mark. It takes no memory.
+/// question mark.
 pub fn query_of(target: &[u8]) -> &[u8]
     ensures { result.now ≡ query_of target.now }
 {

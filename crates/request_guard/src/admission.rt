@@ -24,8 +24,7 @@ pub enum Admission {
 
 /// Who the request of this head is of, at a server at this port of this machine; None exactly where the
 /// bytes are no head as a whole, of at most 64 fields. A field counts wherever it stands, in any case of its
-/// name's letters, so one that is foreign is never hidden by another. It takes no memory, and time linear
-/// in the bytes.
+/// name's letters, so one that is foreign is never hidden by another. It takes time linear in the bytes.
 pub fn admit(bytes: &[u8], port: u16) -> Option<Admission>
     ensures { Admits port bytes.now result }
 {

@@ -5,7 +5,7 @@ ghost use Rattle.http_heads.specs.Head.{same_letters};
 
 /// Whether the text is a host of a server at this port of this machine: `localhost`, `127.0.0.1` or `[::1]`
 /// in any case of letters, with `:` and the port in decimal behind it. Where the port is 80 it may be left
-/// out. It takes no memory.
+/// out.
 pub fn is_own_host(text: &[u8], port: u16) -> bool
     ensures { result ≡ is_own_host port text.now }
 {
@@ -15,7 +15,7 @@ pub fn is_own_host(text: &[u8], port: u16) -> bool
 }
 
 /// Whether the text is the origin of a page that a server at this port of this machine gave: `http://` and a
-/// host of it. It takes no memory.
+/// host of it.
 pub fn is_own_origin(text: &[u8], port: u16) -> bool
     ensures { result ≡ is_own_origin port text.now }
 {

@@ -4,8 +4,8 @@
 //! those that name this server as their host, and upgrades only from its own pages. [`media_type`] says what
 //! a file is by its name.
 //!
-//! Stands on `http_heads` for what a head is. Keeps: what is said of a head is a function of its fields.
-//! Knows nothing of connections or of answers.
+//! Stands on `http_heads` for what a head is. Keeps: what is said of a head is a function of its fields. No
+//! call takes memory. Knows nothing of connections or of answers.
 #![tactic(auto)]
 
 mod admission;

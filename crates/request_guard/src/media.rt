@@ -6,7 +6,6 @@ use crate::hosts::same_letters;
 
 /// The media type of a file with this name, which may have folders before it: by what stands behind the last
 /// dot of its last part, in any case of letters, and `application/octet-stream` where that is nothing known.
-/// It takes no memory.
 pub fn media_type(name: &[u8]) -> &'static str
     ensures { result.now ≡ media_type name.now }
 {

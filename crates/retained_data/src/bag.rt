@@ -33,12 +33,12 @@ impl Model for Bag {
 pub enum BagFault {
     /// The key is new, and the bag holds 64.
     Full,
-    /// Want of memory.
+    /// Memory ran out.
     NoMemory,
 }
 
 impl Bag {
-    /// The empty bag. It takes no memory.
+    /// The empty bag.
     pub fn new(alloc: Global) -> Self
         ensures { result ≡ [] }
     {
@@ -55,7 +55,7 @@ impl Bag {
         &self.entries
     }
 
-    /// The value at a key, None where the bag lacks it. It takes no memory.
+    /// The value at a key, None where the bag lacks it.
     pub fn get(&self, key: &Name) -> Option<&Value>
         ensures { option_map (λ v. v.now) result ≡ entry_at key.now self.now }
     {
@@ -78,8 +78,7 @@ impl Bag {
         }
     }
 
-    /// Whether a value would be taken at this key: the bag has it, or holds fewer than 64. It takes no
-    /// memory.
+    /// Whether a value would be taken at this key: the bag has it, or holds fewer than 64.
     pub fn has_room(&self, key: &Name) -> bool
         ensures { result ≡ has_room key.now self.now }
     {

@@ -24,7 +24,7 @@ impl Model for Bags {
 }
 
 impl Bags {
-    /// No bags. It takes no memory.
+    /// No bags.
     pub fn new(alloc: Global) -> Self
         ensures { result ≡ [] }
     {
@@ -33,8 +33,8 @@ impl Bags {
         }
     }
 
-    /// Hands out the bag of a name, the empty one where none is kept; then none is kept. It takes no
-    /// memory, and time in proportion to the logarithm of the number of names.
+    /// Hands out the bag of a name, the empty one where none is kept; then none is kept. It takes time
+    /// in proportion to the logarithm of the number of names.
     pub fn take(&mut self, alloc: Global, name: &ModName) -> Bag
         ensures bag { result ≡ bag_of self.old name.now }
         ensures taken { HasBag name.now [] self.old self.new }
@@ -43,9 +43,9 @@ impl Bags {
         or_empty(alloc, kept)
     }
 
-    /// Keeps a bag for a name, in place of an earlier one. Only want of memory refuses; the bag given is
-    /// then gone, and those that are kept are as before. It takes time in proportion to the logarithm of
-    /// the number of names.
+    /// Keeps a bag for a name, in place of an earlier one. It fails only where memory runs out; the bag
+    /// given is then gone, and those that are kept are as before. It takes time in proportion to the
+    /// logarithm of the number of names.
     pub fn put(&mut self, name: ModName, bag: Bag) -> Result<(), AllocError>
         ensures ok { OnOk result (HasBag name bag self.old self.new) }
         ensures err { OnErr result (self.new ≡ self.old) }
@@ -54,7 +54,7 @@ impl Bags {
         Ok(())
     }
 
-    /// Keeps no bag for a name. It takes no memory, and time as `take` does.
+    /// Keeps no bag for a name. It takes time as `take` does.
     pub fn forget(&mut self, name: &ModName)
         ensures { HasBag name.now [] self.old self.new }
     {

@@ -2,8 +2,8 @@
 //!
 //! It stands on the vocabulary and on the meaning of module texts, whose words for entries it keeps.
 //! Keeps: a [`Bag`] has at most 64 keys, all different, in the order in which they came; a step of
-//! [`Bags`] at one name leaves the bag of every other. Knows nothing of evaluation, of instances or of
-//! clients.
+//! [`Bags`] at one name leaves the bag of every other. A call takes memory only where its result can
+//! say that memory ran out. Knows nothing of evaluation, of instances or of clients.
 #![tactic(auto)]
 
 mod bag;

@@ -14,7 +14,7 @@ pub(crate) enum FileKind {
     Script,
 }
 
-/// What the file is that a module stands for, by what its name ends in. It takes no memory.
+/// What the file is that a module stands for, by what its name ends in.
 pub(crate) fn kind_of(name: &ModName) -> FileKind {
     let name = name.as_bytes();
     if name.ends_with(b".html") || name.ends_with(b".htm") {

@@ -9,7 +9,8 @@
 //! (`skeletons`, `page_skeletons`), texts (`browser_texts`, `page_texts`) and reports (`scan_reports`);
 //! on `told_plans` and `file_store` for plans and versions, on `live_answers` for HTTP and on
 //! `live_site`, whose trait it is. Keeps: what a core is told has at most 131,072 bytes; what is answered
-//! is an answer to the head. Knows nothing of hubs, of connections, and of how the folder is looked at.
+//! is an answer to the head. A call takes memory only where it can return `AllocError`, or where its
+//! comment says so. Knows nothing of hubs, of connections, and of how the folder is looked at.
 #![tactic(auto)]
 
 mod about;

@@ -12,8 +12,7 @@ pub(crate) enum WantedInstance {
     Unknown,
 }
 
-/// Which instance a query asks for, of parts with an `&` between each two; the first `hmr` counts. It
-/// takes no memory.
+/// Which instance a query asks for, of parts with an `&` between each two; the first `hmr` counts.
 pub(crate) fn wanted_instance(query: &[u8]) -> WantedInstance {
     for part in query.split(|b| *b == b'&') {
         if let Some(text) = part.strip_prefix(b"hmr=") {

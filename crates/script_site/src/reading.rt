@@ -173,7 +173,8 @@ fn hooks_of(alloc: Global, text: &[u8], outline: &PageOutline) -> Result<Vec<u32
     Ok(hooks)
 }
 
-// Where the hook of an inline module goes; None where it has none, or can't be read.
+// Where the hook of an inline module goes; None where it has none, or can't be read, or where memory
+// runs out.
 fn hook_in(alloc: Global, text: &[u8], content: Span) -> Option<u32> {
     let Some(inside) = text.get(content.start as usize..content.end as usize) else {
         return None;

@@ -33,7 +33,7 @@ pub struct ScriptSite<F: Drop> {
 impl<F: Files + Drop> ScriptSite<F> {
     /// The site of a server at this port of this machine, of no modules. `files` are those of the folder:
     /// what isn't kept as a module is looked for there. `client` is the text of the page's client, and
-    /// `run` a number by which a page tells that it is of another run of the server. It takes no memory.
+    /// `run` a number by which a page tells that it is of another run of the server.
     pub fn new(alloc: Global, files: F, client: &'static [u8], port: u16, run: u64) -> ScriptSite<F>
         ensures files { result.files ≡ files }
         ensures client { result.client.now ≡ client.now }

@@ -40,7 +40,7 @@ pub(crate) struct Served {
 }
 
 impl SiteState {
-    /// A site of no files. It takes no memory.
+    /// A site of no files.
     pub fn new(alloc: Global) -> SiteState {
         SiteState {
             store: FileStore::new(alloc),

@@ -42,7 +42,7 @@ impl<
 where
     N::End: Drop + Send + 'static,
 {
-    /// A crew of a hub, of which no job was begun yet. It takes no memory.
+    /// A crew of a hub, of which no job was begun yet.
     pub fn new(alloc: Global, hub: Arc<Hub, Global>) -> Self
         ensures hub { result.hub ≡ hub }
         ensures crew { IsCrew ⟦<N::End as Link>⟧ (arc_value hub)

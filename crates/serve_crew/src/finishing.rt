@@ -31,7 +31,7 @@ where
     /// each of the hub, and a log of each of the program's own clients. Each end of a connection is given
     /// back to the net. `full` stands only where a pass has seen a transcript without a place for a message
     /// of full size, `fault` only where it stood before or the count of the net or of the spawner rose in
-    /// this call. It takes no memory.
+    /// this call.
     pub fn finish_all<P: Spawner>(self, rt: &R, net: &mut N, spawner: &mut P) -> Gathered
         requires crew { IsCrew ⟦<N::End as Link>⟧ (arc_value self.hub)
             self.running self.clients self.gathered }

@@ -35,7 +35,7 @@ impl Gathered {
     ghost use Rattle.serve_crew.specs.Gathers.{Added, TakenIn};
     ghost use Rattle.serve_reports.specs.declared.log.Log.{Log};
 
-    // Of no job yet. It takes no memory.
+    // Of no job yet.
     pub(crate) fn new(alloc: Global) -> Self
         ensures passes { result.passes.items ≡ [] }
         ensures counts { (vec_len result.passes ≡ 0) × (vec_len result.logs ≡ 0) }

@@ -9,7 +9,8 @@
 //! connections and on `hmr_hub` for passes. Keeps: each pass that was split off for a job comes back, and
 //! each of the program's own clients leaves a log; a fault is noted only where the count of the net or of
 //! the spawner rose; each end is shut and given back; and there is room for what a job leaves before it is
-//! started. Knows nothing of edits, folders or reports.
+//! started. Beside what the jobs take, only [`Crew::begin_all`] takes memory. Knows nothing of edits,
+//! folders or reports.
 #![tactic(auto)]
 
 mod beginning;

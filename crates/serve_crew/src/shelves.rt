@@ -8,7 +8,7 @@ use retained_data::Bag;
 use std::alloc::{AllocError, Global};
 use std::mem;
 
-// Takes the closures that stand at this place, which leaves none there. It takes no memory.
+// Takes the closures that stand at this place, which leaves none there.
 pub(crate) fn take_shelf<F: FnOnce(Bag) -> Result<Ran, AllocError> + Drop>(
     alloc: Global,
     shelves: &mut [Shelf<F>],

@@ -50,7 +50,7 @@ pub struct ClientEnd<L> {
 }
 
 impl<F> ClientOpening<F> {
-    /// With these closures, these roots and a format, 1 or 2. It takes no memory.
+    /// With these closures, these roots and a format, 1 or 2.
     pub fn new(shelf: Shelf<F>, roots: Vec<ModName>, format: u8) -> Self
         requires format { IsFormat format }
         ensures shelf { result.shelf ≡ shelf }
@@ -68,7 +68,7 @@ impl<F> ClientOpening<F> {
 impl<F: FnOnce(Bag) -> Result<Ran, AllocError> + Drop> ClientOpening<F> {
     ghost use Rattle.serve_jobs.specs.ClientSessions.{opening_of};
 
-    // The runtime that begins so. It takes no memory.
+    // The runtime that begins so.
     fn runtime(self, alloc: Global) -> HotRuntime<F>
         requires hosts { All (IsHost F.post) self.shelf }
         ensures stands { StandsFor (opening_of self) [] result }
@@ -98,7 +98,7 @@ impl<F: Drop> Drop for ClientOpening<F> {
 impl<F: FnOnce(Bag) -> Result<Ran, AllocError> + Drop, L: Link + Drop> ClientJob<F, L> {
     ghost use Rattle.serve_jobs.specs.ClientSessions.{IsEndOf};
 
-    /// The job of a client over a fresh link that never failed. It takes no memory.
+    /// The job of a client over a fresh link that never failed.
     pub fn new(opening: ClientOpening<F>, link: L, turns: u32) -> Self
         requires fresh { L.phase link ≡ Fresh }
         requires clean { L.faults link ≡ 0 }
@@ -132,7 +132,7 @@ impl<F: FnOnce(Bag) -> Result<Ran, AllocError> + Drop, L: Link + Drop> ClientJob
         }
     }
 
-    /// Closes the link, over which nothing went. It takes no memory.
+    /// Closes the link, over which nothing went.
     pub(crate) fn give_up(self) -> ClientEnd<L>
         ensures { IsEndOf self result false }
     {

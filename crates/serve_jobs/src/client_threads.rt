@@ -85,7 +85,7 @@ pub fn start_client<
 
 /// Waits for the end of a client that was started. Its lines, its ending and what went over its link are
 /// those of one session of that client. Where the client was given up, nothing went over its link and the
-/// spawner's count of faults then rose. It takes no memory.
+/// spawner's count of faults then rose.
 pub fn finish_client<P: Spawner, F: Drop, L: Link + Drop, R: Threads + Wait>(
     rt: &R,
     spawner: &mut P,

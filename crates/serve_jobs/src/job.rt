@@ -46,8 +46,7 @@ pub enum ServeOut<R: Drop, L> {
 }
 
 impl<G: Drop> WorkerJob<G> {
-    /// The job of a worker with this board, which is not full and has not ended, behind a gate. It takes no
-    /// memory.
+    /// The job of a worker with this board, which is not full and has not ended, behind a gate.
     pub fn new(board: HubBoard, gate: G) -> Self
         requires room { board.full ≡ false }
         requires going { has_ended board ≡ false }
@@ -59,8 +58,7 @@ impl<G: Drop> WorkerJob<G> {
 }
 
 impl<R: Drop, L: Link + Drop> SessionJob<R, L> {
-    /// The job of a session with this desk, which is not full, over a fresh link that never failed. It takes
-    /// no memory.
+    /// The job of a session with this desk, which is not full, over a fresh link that never failed.
     pub fn new(desk: HubDesk<R>, link: L) -> Self
         requires room { desk.full ≡ false }
         requires fresh { L.phase link ≡ Fresh }

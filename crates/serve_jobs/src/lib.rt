@@ -7,7 +7,8 @@
 //! start. Keeps: an Out is of its job's kind, with the job's hub and passes; its link is shut; an ending by
 //! a fault of the link or by a full transcript stands in it only where the link, or the desk or board, shows
 //! that; the hub was told that the client of a session is gone, and a job that was given up told it nothing.
-//! Knows nothing of which jobs a server starts, nor of what becomes of their Outs.
+//! A call takes memory only where its result can say that memory ran out or that a start was refused. Knows
+//! nothing of which jobs a server starts, nor of what becomes of their Outs.
 #![tactic(auto)]
 
 mod client;

@@ -14,7 +14,8 @@ pub struct Site {
 }
 
 impl Site {
-    /// A folder whose root has this name. It refuses what is no name as it does for want of memory.
+    /// A folder whose root has this name. Where that is no name it fails as it does where memory
+    /// runs out.
     pub fn new(
         alloc: Global,
         looks: VecDeque<Vec<MemFile>>,

@@ -87,7 +87,7 @@ impl Core {
     }
 
     // A bad result's fault waits to be told to each client; or the result is late. What the notices need
-    // is had before the result is taken, so that a want of memory leaves the core as it was.
+    // is had before the result is taken, so that the core stays as it was where memory runs out.
     fn settle_bad(
         &mut self,
         alloc: Global,

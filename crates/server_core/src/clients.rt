@@ -58,7 +58,7 @@ pub(crate) fn take_out(clients: &mut Vec<Row>, number: ClientId)
 }
 
 /// Each client is told that the module has just been served anew or removed; `sources` is as it is
-/// after that. It takes no memory.
+/// after that.
 pub(crate) fn tell_changed(clients: &mut [Row], sources: &VersionMap, name: &ModName)
     ensures stands { (s : Sources) (rows : List (ℕ × Client)) → AreClients s rows clients.old
         → SameBut name.now s sources.now
@@ -99,7 +99,7 @@ pub(crate) fn copies_for(
     Ok(copies)
 }
 
-/// Each client is to be told of this fault of a module, in place of an earlier one. It takes no memory.
+/// Each client is to be told of this fault of a module, in place of an earlier one.
 pub(crate) fn give_notices(
     clients: &mut [Row],
     mut copies: Vec<ModName>,

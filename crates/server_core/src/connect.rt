@@ -76,7 +76,7 @@ impl Core {
         }))
     }
 
-    /// A client goes. It takes no memory.
+    /// A client goes.
     pub(crate) fn disconnect(&mut self, number: ClientId) -> Reply
         ensures { IsStep (model.disconnect number) self.old self.new (Ok result) }
     {

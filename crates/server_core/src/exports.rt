@@ -39,7 +39,7 @@ impl ExportSet {
         Ok(set)
     }
 
-    /// Whether the name is exported. It takes no memory.
+    /// Whether the name is exported.
     pub(crate) fn has(&self, name: &Name) -> bool
         ensures { result ≡ has self.now name.now }
     {
@@ -112,7 +112,7 @@ impl Exports {
         Ok(())
     }
 
-    /// What the module exports, if it is served. It takes no memory.
+    /// What the module exports, if it is served.
     pub(crate) fn get(&self, name: &ModName) -> Option<&ExportSet>
         ensures { option_copied result ≡ at self.now name.now }
     {

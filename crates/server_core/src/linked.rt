@@ -39,7 +39,7 @@ impl Linked {
         Ok(linked)
     }
 
-    /// The names that are imported from this module, in the order of their links. It takes no memory.
+    /// The names that are imported from this module, in the order of their links.
     pub(crate) fn get(&self, name: &ModName) -> &[Name]
         ensures { result.now ≡ kept_or_none (at self.now name.now) }
     {

@@ -53,7 +53,7 @@ impl Model for Core {
 impl Core {
     /// The core of a page with these roots, before any event. [`NewFault::NoRoots`] comes exactly
     /// where there are none, [`NewFault::TooManyRoots`] where there are more than 16, and
-    /// [`NewFault::DuplicateRoot`] where there are fewer and two are equal. It takes no memory.
+    /// [`NewFault::DuplicateRoot`] where there are fewer and two are equal.
     pub fn new(alloc: Global, roots: Vec<ModName>) -> Result<Core, NewFault>
         ensures roots { IfOk result (λ core. core.roots ≡ roots.items) }
         ensures stands { IfOk result (StandsFor []) }
@@ -79,7 +79,7 @@ impl Core {
         })
     }
 
-    /// The core's step for an event, and its reply. After a want of memory the core stands for the same
+    /// The core's step for an event, and its reply. Where memory runs out the core stands for the same
     /// events as before. An edit that is no job takes none, nor does a Connect that is refused, an
     /// Aborted, a Disconnect, or a request of a client that isn't connected. An event of one client
     /// leaves the record of every other as it was. An Ask is answered by a full reload exactly where one

@@ -16,7 +16,7 @@ use hmr_types::{ClientId, ModName, Table};
 use std::alloc::{AllocError, Global};
 
 impl Core {
-    /// Whether the name has a source for which no result came yet. It takes no memory.
+    /// Whether the name has a source for which no result came yet.
     pub fn outstanding(&self, name: &ModName) -> bool
         ensures { (past : List model.Event) → StandsFor past self.now
             → result ≡ outstanding_in (at (core_after self.now.roots past).sources.current name.now) }
@@ -25,7 +25,7 @@ impl Core {
     }
 
     /// Whether the client is connected and nothing is to be done for it: its page is loaded, no plan is
-    /// under way, and nothing is changed, dropped, forced or waiting as a notice. It takes no memory.
+    /// under way, and nothing is changed, dropped, forced or waiting as a notice.
     pub fn at_rest(&self, client: ClientId) -> bool
         ensures { (past : List model.Event) → StandsFor past self.now
             → result ≡ is_resting (core_after self.now.roots past) client }
@@ -36,7 +36,7 @@ impl Core {
         known.at_rest()
     }
 
-    /// The roots of a connected client's page. It takes no memory.
+    /// The roots of a connected client's page.
     pub fn roots_of(&self, client: ClientId) -> Option<&[ModName]>
         ensures { (past : List model.Event) → StandsFor past self.now
             → option_map (λ names. names.now) result ≡ roots_of (core_after self.now.roots past) client }

@@ -66,7 +66,7 @@ pub(crate) fn applied(
     Ok(told(answer))
 }
 
-/// A client gave the plan under way up. It takes no memory.
+/// A client gave the plan under way up.
 pub(crate) fn aborted(clients: &mut [Row], sources: &VersionMap, number: ClientId) -> Reply
     ensures { IsHeard sources.now number requests.aborted clients.old clients.new (Ok result) }
 {

@@ -15,7 +15,7 @@ pub enum Ended {
     Closed,
     /// The link failed, and its count rose.
     LinkFault,
-    /// What was received is no message, by this fault, which is never want of memory.
+    /// What was received is no message, by this fault, which is never `NoMemory`.
     BadMessage(MsgFault),
     /// The desk's transcript is full: it answered [`HubStop::TranscriptFull`]. A client never ends so.
     Stopped,

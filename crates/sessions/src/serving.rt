@@ -21,8 +21,8 @@ use update_msgs::{ClientMsg, Desk};
 /// that is taken. [`Ended::Closed`] comes exactly where a bye was answered or the peer closed,
 /// [`Ended::LinkFault`] only where the link's count rose in this call, [`Ended::BadMessage`] exactly where
 /// what was received reads as no message, [`Ended::Stopped`] exactly where the desk answered that its
-/// transcript is full, and [`Ended::NoMemory`] for want of memory. At a fault of the link and for want of
-/// memory the last answer may be unsent; at all other endings each answer was sent. It waits, and has no
+/// transcript is full, and [`Ended::NoMemory`] where memory ran out. At a fault of the link and where memory
+/// ran out the last answer may be unsent; at all other endings each answer was sent. It waits, and has no
 /// bound on messages.
 pub fn serve_session<R: Wait, L: Link, D: Desk>(
     rt: &R,

@@ -18,9 +18,9 @@ use std::alloc::{AllocError, Global};
 /// which the core learns that it imports these modules, each once and in their order, and accepts those of them
 /// that are among `accepts`. Where these are more than 256, what the core learns is that they are too many.
 ///
-/// The stamp is a count of the file's changes, as that of [`skeleton`](crate::skeleton). The one error is want
-/// of memory. It takes time and memory linear in the lists, but for the look-up of imported names, of which
-/// there are at most 257.
+/// The stamp is a count of the file's changes, as that of [`skeleton`](crate::skeleton). It fails only where
+/// memory runs out. It takes time and memory linear in the lists, but for the look-up of imported names, of
+/// which there are at most 257.
 pub fn list_skeleton(
     alloc: Global,
     stamp: u64,

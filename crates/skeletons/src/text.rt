@@ -27,8 +27,9 @@ use std::alloc::{AllocError, Global};
 /// is the same fault at the same line and column, of which each is 65,000 at most.
 ///
 /// The stamp is a count of the file's changes. Skeletons of different stamps differ, so that each change of a
-/// file is an edit. The one error is want of memory, also of the scan's own. It takes time and memory linear
-/// in the text and the scan, but for the look-up of imported names, of which there are at most 257.
+/// file is an edit. It fails only where memory runs out, or where the scan ran out of it. It takes time and
+/// memory linear in the text and the scan, but for the look-up of imported names, of which there are at most
+/// 257.
 pub fn skeleton(
     alloc: Global,
     name: &ModName,

@@ -33,7 +33,7 @@ pub(crate) struct HttpStream<S: Drop, R: Drop> {
 }
 
 impl<S: Drop, R: Drop> HttpStream<S, R> {
-    /// A stream of which nothing was read. The flag says whether the doors are shut. It takes no memory.
+    /// A stream of which nothing was read. The flag says whether the doors are shut.
     pub(crate) fn new(alloc: Global, rt: R, stream: S, shut: Arc<AtomicBool, Global>) -> Self {
         HttpStream {
             rt,

@@ -5,7 +5,9 @@
 //! limits of time, until it is opened as a WebSocket; no byte behind its last head is lost.
 //!
 //! Stands on `doors` for the traits, on `ws_links` for the WebSocket and on `http_heads` for where a head
-//! ends. Keeps: a call fails only where the count of faults rises. Knows nothing of what is served.
+//! ends. Keeps: a call fails only where the count of faults rises. A call takes memory only where it can
+//! be refused, but for the close of a visitor that was upgraded, as in `ws_links`. Knows nothing of what
+//! is served.
 #![tactic(auto)]
 
 mod http_stream;

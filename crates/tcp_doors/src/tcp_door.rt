@@ -35,7 +35,7 @@ pub struct TcpDoor<R: std::net::Net + Drop> {
 }
 
 impl<R: std::net::Net + Drop> TcpDoor<R> {
-    /// A door at a listener. The flag says whether the doors are shut. It takes no memory.
+    /// A door at a listener. The flag says whether the doors are shut.
     pub(crate) fn new(rt: R, listener: R::Listener, shut: Arc<AtomicBool, Global>) -> Self
         ensures faults { result.faults ≡ 0 }
         ensures visits { result.visits ≡ 0 }
@@ -52,7 +52,7 @@ impl<R: std::net::Net + Drop> TcpDoor<R> {
         }
     }
 
-    /// How often it, or an end that it took back, has failed, up to the largest `u64`. It takes no memory.
+    /// How often it, or an end that it took back, has failed, up to the largest `u64`.
     pub fn faults(&self) -> u64
         ensures { result ≡ self.now.faults }
     {

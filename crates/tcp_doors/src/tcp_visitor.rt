@@ -33,7 +33,7 @@ pub struct TcpVisitor<S: Drop, R: Drop> {
 }
 
 impl<S: Read + Write + Drop, R: RandomSource + Clock + Wait + Copy + Drop> TcpVisitor<S, R> {
-    /// A fresh visitor over this stream. The flag says whether the doors are shut. It takes no memory.
+    /// A fresh visitor over this stream. The flag says whether the doors are shut.
     pub fn new(alloc: Global, rt: R, stream: S, shut: Arc<AtomicBool, Global>) -> Self
         ensures fresh { result.phase ≡ Phase.Fresh }
         ensures faults { result.faults ≡ 0 }
@@ -48,7 +48,7 @@ impl<S: Read + Write + Drop, R: RandomSource + Clock + Wait + Copy + Drop> TcpVi
         }
     }
 
-    /// How often it has failed, up to the largest `u64`. It takes no memory.
+    /// How often it has failed, up to the largest `u64`.
     pub fn faults(&self) -> u64
         ensures { result ≡ self.now.faults }
     {

@@ -29,8 +29,8 @@ pub struct Checked {
 /// 8. Else the status is 0. The report of a module is its canonical text, and behind it a line each for
 /// the modules that it imports, the names that it exports, that it accepts itself, the imported modules
 /// that it accepts, and that it declines, of these lines those that have something to tell; the report of
-/// another text is the line of its first fault. The one error is want of memory. The time is linear in the
-/// text, but for the look-up of names.
+/// another text is the line of its first fault. It fails only where memory runs out. The time is linear in
+/// the text, but for the look-up of names.
 pub fn check_text(alloc: Global, name: &ModName, text: &[u8]) -> Result<Checked, AllocError>
     ensures status { IfOk result (λ c. c.status ≡ (checked name.now text.now).status) }
     ensures report { IfOk result (λ c. c.report.items ≡ (checked name.now text.now).report) }
@@ -87,7 +87,7 @@ fn tree_report(alloc: Global, name: &ModName, tree: &Module) -> Result<Vec<u8>, 
     }
 }
 
-/// The word of a refusal, None for want of memory.
+/// The word of a refusal, None where memory ran out.
 fn told_word(fault: ScanFault) -> Option<FaultWord>
     ensures { result ≡ told_word fault }
 {

@@ -6,9 +6,9 @@
 //! over connections and writes the report of its one transcript; `hmr join PORT` is one client of such a
 //! server, and writes its lines as they come; `hmr page FOLDER` answers HTTP requests of the input by the
 //! modules of a folder. Stands on every other crate but those that make the real outside. Keeps: what the
-//! first three write is a front of the definition's text of the words and of the bytes read, and the whole
-//! of it at status 0; what `serve`, `join` and `page` write is that of a run that is stated. Knows nothing
-//! of which input, output, folder, net and threads it is given.
+//! first three write is a prefix of the definition's text of the words and of the bytes read, and the
+//! whole of it at status 0; what `serve`, `join` and `page` write is that of a run that is stated. Knows
+//! nothing of which input, output, folder, net and threads it is given.
 #![tactic(auto)]
 
 mod join;

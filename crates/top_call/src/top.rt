@@ -47,11 +47,11 @@ use std::thread::Threads;
 /// 0: the whole output is written, and a command that reads the input read it to its end. 2: the words are
 /// no command; the usage line is written. 3: the input of `play` or `record` is no script, or that of
 /// `serve` no edits; the line of its first fault is written. 4: the input failed; nothing is written, but
-/// for the answers of `page` so far. 5: the output failed; a front of the output is written. 6: the folder
+/// for the answers of `page` so far. 5: the output failed; a prefix of the output is written. 6: the folder
 /// failed, in `serve` and `page`. 7: the net, an end of a connection or the start of a thread failed, in
 /// `serve` and `join`. 8: a limit was passed, whose line is written last: of the input, a text, the names,
 /// the sources, the transcript or the passes, of a client's instances, or of the answers of `page`. 9:
-/// memory ran out; a front of the output is written. 10: what the server sent is no answer, in `join`. A
+/// memory ran out; a prefix of the output is written. 10: what the server sent is no answer, in `join`. A
 /// cause keeps its status where its line can't be written.
 ///
 /// `fresh_load`: at each place of a script where a client is shown and is up, its lines are those of the

@@ -9,7 +9,8 @@ use record_text::RecordEvent;
 use server_core::Event;
 use std::alloc::{AllocError, Global};
 
-/// The event of a core that a record tells. The text of a result is transformed; all else takes no memory.
+/// The event of a core that a record tells. It takes memory only for the text of a result, which is
+/// transformed.
 pub(crate) fn core_event(alloc: Global, event: RecordEvent) -> Result<Event, AllocError>
     requires { event_bytes (event_in event) ≤ most_bytes }
     ensures { IfOk result (λ told. event_of told ≡ event_in event) }

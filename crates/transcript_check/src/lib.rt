@@ -5,8 +5,8 @@
 //! results, and on `record_text`, which reads and writes lines. Keeps: no reply of a record and no client
 //! that it says to be at rest is believed; [`audit`] is the definition `verdict_of`, which says yes exactly
 //! of the texts of sound records, and [`write_record`] writes the one sound record of its events that says of
-//! a client that it is at rest wherever that is so behind a Done. Knows nothing of commands, of files or of
-//! how a record came to be.
+//! a client that it is at rest wherever that is so behind a Done. A call takes memory only where its result
+//! can say that memory ran out. Knows nothing of commands, of files or of how a record came to be.
 #![tactic(auto)]
 
 mod auditing;

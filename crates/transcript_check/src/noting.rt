@@ -10,7 +10,7 @@ ghost use Rattle.record_laws.specs.Tellable.{IsTellable};
 use hmr_types::{ModName, Outcome, Table, Ver};
 use server_core::Event;
 
-/// The event is one that a record can tell. It takes time in the number of its names, and no memory.
+/// The event is one that a record can tell. It takes time in the number of its names.
 pub(crate) fn note_event(event: &Event)
     ensures { IsTellable (event_of event.now) }
 {

@@ -7,8 +7,7 @@ use record_laws::Why;
 use server_core::{Core, NewFault};
 use std::alloc::Global;
 
-/// A core of these roots that was told nothing; or that they are bad, which is said at this line. It takes no
-/// memory.
+/// A core of these roots that was told nothing; or that they are bad, which is said at this line.
 pub(crate) fn new_core(alloc: Global, line: u64, roots: Vec<ModName>) -> Result<Core, Halt>
     ensures { IsOpening line roots.items result }
 {

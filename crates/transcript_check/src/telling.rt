@@ -10,7 +10,7 @@ use server_core::Reply;
 use update_msgs::ServerMsg;
 use version_map::{EditOutcome, Settled};
 
-/// A core's reply, as a record tells it. It takes no memory.
+/// A core's reply, as a record tells it.
 pub(crate) fn reply_told(reply: Reply) -> RecordReply
     ensures { result ≡ reply_told reply }
 {

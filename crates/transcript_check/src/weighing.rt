@@ -18,7 +18,7 @@ pub(crate) const MOST_BYTES: usize = 268_435_456;
 const ENTRY_BYTES: usize = 64;
 
 /// What is left of so many bytes behind one event more, where so many events were told; None where it has no
-/// place. It takes no memory.
+/// place.
 pub(crate) fn left_behind(steps: u64, left: usize, event: &RecordEvent) -> Option<usize>
     ensures { SomeIff result ((steps < most_entries) × (entry_bytes (event_in event.now) ≤ left))
         (left - entry_bytes (event_in event.now)) }

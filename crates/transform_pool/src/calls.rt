@@ -51,8 +51,8 @@ fn takers_beside(
 }
 
 impl JobQueue {
-    /// A queue with one pass that puts and as many that take as there are takers, from 1 to 16. Only want
-    /// of memory refuses.
+    /// A queue with one pass that puts and as many that take as there are takers, from 1 to 16. It fails
+    /// only where memory runs out.
     pub fn new(
         alloc: Global,
         takers: usize,
@@ -72,7 +72,7 @@ impl JobQueue {
     }
 
     /// Puts a job at the back, by the pass that puts, before it is closed. The job comes back only where the
-    /// queue held 64 items at a step of this call. It takes no memory.
+    /// queue held 64 items at a step of this call.
     pub fn put<R: Wait>(&self, rt: &R, pass: &mut JobPass, job: TextJob) -> Result<(), TextJob>
         requires of { IsPassOf self.now pass.old }
         requires puts { (role_of pass.old).puts ≡ true }
@@ -95,7 +95,7 @@ impl JobQueue {
 
     /// Closes the pass that puts, and puts an end mark for each taker. Where a mark finds 64 items, the one
     /// at the front is taken: a job is answered, which the caller works before it calls `close` again, and
-    /// an end mark counts as not yet put. None comes exactly where all marks were put. It takes no memory.
+    /// an end mark counts as not yet put. None comes exactly where all marks were put.
     pub fn close<R: Wait>(&self, rt: &R, pass: &mut JobPass) -> Option<TextJob>
         requires of { IsPassOf self.now pass.old }
         requires puts { (role_of pass.old).puts ≡ true }
@@ -166,7 +166,7 @@ impl JobQueue {
 
     /// Waits for an item, by a pass that takes and has not ended: Some of a job, None exactly where the item
     /// is an end mark, and then the pass has ended: the pass that puts is closed, and from then on the queue
-    /// holds no job. It takes no memory.
+    /// holds no job.
     #[tactic(auto, using(crate::proofs::Ends::ends))]
     pub fn take<R: Wait>(&self, rt: &R, pass: &mut JobPass) -> Option<TextJob>
         requires of { IsPassOf self.now pass.old }

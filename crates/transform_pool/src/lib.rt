@@ -7,8 +7,9 @@
 //!
 //! Stands on `import_scan` for what a text gives, on `jobs` for gates, on `update_msgs` for how a post is
 //! refused, and on the toolchain's `crossbeam_queue`. Keeps: each result is the definition's for its job;
-//! results stand, or are posted, in the order of the jobs; in a queue no job stands behind an end mark.
-//! Knows nothing of sources, of the hub behind a board, nor of when a thread gets on.
+//! results stand, or are posted, in the order of the jobs; in a queue no job stands behind an end mark. A
+//! call takes memory only where its result can say that memory ran out. Knows nothing of sources, of the
+//! hub behind a board, nor of when a thread gets on.
 #![tactic(auto)]
 
 mod board;

@@ -27,7 +27,7 @@ impl MemBoard {
     ghost use Rattle.transform_pool.specs.MemBoards.{has_ended, jobs_of, posted_on, taken_from};
 
     #[tactic(auto, using(crate::proofs::Lefts::none_taken))]
-    /// A board of these jobs, which has not ended. It takes no memory.
+    /// A board of these jobs, which has not ended.
     pub fn new(alloc: Global, jobs: VecDeque<TextJob>) -> MemBoard
         ensures jobs { jobs_of result ≡ jobs.items }
         ensures ended { has_ended result ≡ false }

@@ -30,7 +30,7 @@ impl Model for TextJob {
 }
 
 impl TextJob {
-    /// The job of a text of the module `name`. It takes no memory.
+    /// The job of a text of the module `name`.
     pub fn new(name: ModName, text: Vec<u8>, ver: Ver) -> TextJob
         requires short { length name + length text.items ≤ MESSAGE_BYTES }
         ensures { result ≡ record { name = name; text = text.items; ver = ver } }

@@ -4,8 +4,9 @@
 //! beginning of it: what its caller had seen, with all of its own calls. How the words of the lock and the
 //! knowledge of its passes hang together is told in docs/TURN_LOCK.md. Stands on the toolchain's
 //! `atomic_table`. Keeps: there is one history; whatever the order in which threads come, each call is
-//! answered in the state that the history before it makes. Knows nothing of what is kept, and nothing of
-//! when a thread gets the turn.
+//! answered in the state that the history before it makes. Only [`TurnLock::new`] takes memory;
+//! [`TurnLock::call`] takes what the value's own reply takes. Knows nothing of what is kept, and nothing
+//! of when a thread gets the turn.
 #![tactic(auto)]
 
 mod keeps;

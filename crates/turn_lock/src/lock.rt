@@ -18,7 +18,7 @@ use std::thread;
 
 impl<T, E> Pass<T, E> {
     /// The number of the pass: 0 of the one that [`TurnLock::new`] gives, from 1 of those split off, each
-    /// given once. It takes no memory.
+    /// given once.
     pub fn number(&self) -> u64
         ensures number { result ≡ pass_number self.now }
         ensures view { (pass_view self.now).number ≡ Some result }
@@ -28,8 +28,8 @@ impl<T, E> Pass<T, E> {
 }
 
 impl<T: Keeps> TurnLock<T> {
-    /// A lock round a value whose history is empty, and its first pass, which is alone until it is split.
-    /// Only want of memory refuses.
+    /// A lock round a value whose history is empty, and its first pass, which is alone until it is split. It
+    /// fails only where memory runs out.
     pub fn new(alloc: Global, value: T) -> Result<(TurnLock<T>, Pass<T, T::Entry>), AllocError>
         requires empty { T.history value ≡ [] }
         requires follows { T.follows value value }
@@ -161,8 +161,8 @@ impl<T: Keeps> TurnLock<T> {
     /// Splits a pass of this lock off another: it has seen as much, and has a number of its own, which
     /// nobody had before: it is above each number that the pass, or one that was joined into it, knows or
     /// gave in an earlier split, and no entry that was seen is under it. [`SplitFault::Spent`] comes exactly
-    /// where all numbers were given; the pass knows that then, and is answered so again. It takes no memory;
-    /// it waits only while other splits come between.
+    /// where all numbers were given; the pass knows that then, and is answered so again. It waits only while
+    /// other splits come between.
     pub fn split<R: Wait>(
         &self,
         rt: &R,
@@ -193,8 +193,8 @@ impl<T: Keeps> TurnLock<T> {
     /// Joins another pass of this lock into a pass. The history that one of them has seen begins the
     /// other's; the longer stays. The pass that remains knows the numbers of both, and past what either had
     /// seen the history has no entry under a number which that one knew: so it has all their entries, each
-    /// once. A pass that is split off it later has a number above all that either knew or gave. It takes no
-    /// memory and doesn't wait.
+    /// once. A pass that is split off it later has a number above all that either knew or gave. It doesn't
+    /// wait.
     pub fn join(&self, into: &mut Pass<T, T::Entry>, other: Pass<T, T::Entry>)
         requires into { IsPassOf self.now into.old }
         requires other { IsPassOf self.now other }

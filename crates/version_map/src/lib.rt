@@ -2,8 +2,9 @@
 //! refused, and what is served.
 //!
 //! Stands on the vocabulary, on the definitions of the core's sources, and on transforms. Keeps: a
-//! [`VersionMap`] has exactly what its edits and results so far give; each text is kept once. Knows
-//! nothing of roots, of graphs or of clients.
+//! [`VersionMap`] has exactly what its edits and results so far give; each text is kept once. A
+//! call takes memory only where its result can say that memory ran out. Knows nothing of roots, of
+//! graphs or of clients.
 #![tactic(auto)]
 
 mod entry;

@@ -47,7 +47,7 @@ impl Model for VersionMap {
 }
 
 impl VersionMap {
-    /// No name has a source, and nothing is served. It takes no memory.
+    /// No name has a source, and nothing is served.
     pub fn new(alloc: Global) -> VersionMap
         ensures { StandsFor [] result }
     {
@@ -152,7 +152,7 @@ impl VersionMap {
         }
     }
 
-    /// Takes the name's source away, as an `edit` without a text does. It takes no memory.
+    /// Takes the name's source away, as an `edit` without a text does.
     pub fn take_away(&mut self, name: &ModName) -> Result<EditOutcome, EditFault>
         ensures stands { (past : List Change) → StandsFor past self.old
             → Answered result (StandsFor (changes.edit name.now None ∷ past) self.new) }
@@ -184,7 +184,7 @@ impl VersionMap {
     /// nothing. Else a good one is served from now on, and a bad one is told with its fault, and what
     /// is served stays.
     ///
-    /// It takes no memory, and as many comparisons of names as the logarithm of their number.
+    /// It takes as many comparisons of names as the logarithm of their number.
     pub fn settle(&mut self, transformed: Transformed, ver: Ver) -> Settled
         ensures stands { (past : List Change) → StandsFor past self.old
             → StandsFor
@@ -220,7 +220,7 @@ impl VersionMap {
         self.entries.get(name)
     }
 
-    /// What is served of the name. It takes no memory.
+    /// What is served of the name.
     pub fn served(&self, name: &ModName) -> Option<&Served>
         ensures value { option_map (λ s. serving_of s.now) result ≡ at self.now.served name.now }
         ensures fits { IfSome result (λ s. Fits s.now.ver s.now.text) }
@@ -232,14 +232,14 @@ impl VersionMap {
         }
     }
 
-    /// How often something was served, or removed. It takes no memory.
+    /// How often something was served, or removed.
     pub fn served_no(&self) -> u64
         ensures { result ≡ self.now.served_no }
     {
         self.served_no
     }
 
-    /// Whether the name has a source for which no result came yet. It takes no memory.
+    /// Whether the name has a source for which no result came yet.
     pub fn outstanding(&self, name: &ModName) -> bool
         ensures { result ≡ outstanding_in (at self.now.current name.now) }
     {
@@ -249,7 +249,7 @@ impl VersionMap {
         }
     }
 
-    /// The fault of the name's source, where its result was bad. It takes no memory.
+    /// The fault of the name's source, where its result was bad.
     pub fn refused(&self, name: &ModName) -> Option<&TextFault>
         ensures { option_copied result ≡ refused_in (at self.now.current name.now) }
     {

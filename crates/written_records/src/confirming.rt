@@ -20,7 +20,7 @@ use server_core::Event;
 /// as there are events, where the roots are those of a core and the events have places in a transcript: that
 /// is all that a record is written of (`events`). So it is of the record of a transcript that a core of these
 /// roots can have, where these are its events (`transcript`). It takes time in the number of the names in
-/// them, and no memory.
+/// them.
 pub fn records_are_confirmed(roots: &[ModName], events: &[Event])
     ensures events { let told = map event_of events.now in
         AreRoots roots.now → length events.now ≤ most_entries → past_bytes told ≤ most_bytes →

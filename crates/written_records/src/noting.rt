@@ -17,7 +17,7 @@ use import_scan::Transformed;
 use server_core::Event;
 
 /// Each event is one that a line of a record can have, and its result is true. It takes time in the number of
-/// their names, and no memory.
+/// their names.
 pub(crate) fn note_events(events: &[Event])
     ensures recordable { All (λ event. IsRecordable (event_of event)) events.now }
     ensures true_results { All (λ event. IsTrueEvent (transformed parsing) (event_of event)) events.now }
@@ -123,7 +123,7 @@ fn note_name(name: &ModName)
     let _name = name.as_str();
 }
 
-/// Each is the name of a module. It takes time in their number, and no memory.
+/// Each is the name of a module. It takes time in their number.
 pub(crate) fn note_names(names: &[ModName])
     ensures { All IsName names.now }
 {

@@ -30,7 +30,7 @@ pub struct TcpNet<R: std::net::Net + Drop> {
 }
 
 impl<R: std::net::Net + RandomSource + Clock + Wait + Copy + Drop> TcpNet<R> {
-    /// A net that was asked nothing. It takes no memory.
+    /// A net that was asked nothing.
     pub fn new(rt: R) -> Self
         ensures unasked { (result.asked ≡ None) × (result.heard ≡ None) }
         ensures faults { result.faults ≡ 0 }

@@ -54,7 +54,7 @@ pub struct WsLink<S: Drop, R: Drop> {
 }
 
 impl<S: Read + Write + Drop, R: RandomSource + Wait + Copy + Drop> WsLink<S, R> {
-    /// A fresh link over this stream, as the server of it. It takes no memory.
+    /// A fresh link over this stream, as the server of it.
     pub fn server(rt: R, stream: S) -> Self
         ensures fresh { result.phase ≡ Phase.Fresh }
         ensures faults { result.faults ≡ 0 }
@@ -62,7 +62,7 @@ impl<S: Read + Write + Drop, R: RandomSource + Wait + Copy + Drop> WsLink<S, R> 
         WsLink::new(rt, Side::Server(stream))
     }
 
-    /// A fresh link over this stream, as the client of it. It takes no memory.
+    /// A fresh link over this stream, as the client of it.
     pub fn client(rt: R, stream: S) -> Self
         ensures fresh { result.phase ≡ Phase.Fresh }
         ensures faults { result.faults ≡ 0 }
