@@ -2,9 +2,9 @@
 use Rattle.std.proofs.Common.{◌≡◌, inl, inr, ℕ, List, [], ◌∷◌, Option, refl, sym, ◌∙◌, subst}
 use Rattle.std.specs.Prelude.{Result, Ok, Err, IfErr, IsErrAnd}
 use Rattle.serde_json.specs.Data.{Data}
-use Rattle.outside_calls.specs.declared.out_fault.OutFault.{OutFault}
-use Rattle.outside_calls.specs.declared.out_fault.OutFault.TheVariants.{Failed, NoMemory as OutOfMemory}
-use Rattle.links.specs.Told.{told_and, told_front, IsNoneLeft}
+use Rattle.hmr_base.specs.declared.out_fault.OutFault.{OutFault}
+use Rattle.hmr_base.specs.declared.out_fault.OutFault.TheVariants.{Failed, NoMemory as OutOfMemory}
+use Rattle.transport.specs.Told.{told_and, told_front, IsNoneLeft}
 use Rattle.update_msgs.specs.declared.message.ClientMsg.{ClientMsg}
 use Rattle.update_msgs.specs.declared.message.ServerMsg.{ServerMsg}
 use Rattle.message_text.specs.Values.{HasReading}

@@ -6,7 +6,7 @@ use Rattle.std.proofs.lemmas.List.{append-nil, map-append, length-append}
 use Rattle.std.proofs.lemmas.Bool.{eq-eqb}
 use Rattle.std.proofs.lemmas.Bool.Decides.{eqb_tells}
 use Rattle.output_lines.specs.declared.out_line.OutLine.{OutLine}
-use Rattle.links.specs.Told.{told_and, told_front}
+use Rattle.transport.specs.Told.{told_and, told_front}
 use Rattle.update_msgs.specs.declared.message.ClientMsg.{ClientMsg}
 use Rattle.update_msgs.specs.declared.message.ClientMsg.TheVariants.{Bye}
 use Rattle.update_msgs.specs.declared.message.ServerMsg.{ServerMsg}
@@ -19,7 +19,7 @@ use Rattle.sessions.specs.Course.{IsAllButLast}
 use Rattle.sessions.specs.declared.ended.Ended.{Ended}
 use Rattle.sessions.specs.declared.ended.Ended.TheVariants.{Closed, LinkFault, BadMessage, Stopped, NoMemory, Unexpected, InstancesFull}
 use Rattle.sessions.proofs.Told.{front_none, and_none, front_more, and_more}
-use Rattle.outside_calls.specs.declared.out_fault.OutFault.{OutFault}
+use Rattle.hmr_base.specs.declared.out_fault.OutFault.{OutFault}
 use Rattle.sessions.specs.Endings.{ended_at}
 use Rattle.client_model.specs.Taking.{Taken, took}
 use Rattle.client_sessions.specs.Asking.{AllTaken, IsTook, asked_after, taken_after, past_after, requests, lines_by, lines_of, next_asked}

@@ -6,7 +6,7 @@ use Rattle.std.specs.List.{AllZip}
 use Rattle.output_lines.specs.declared.out_line.OutLine.{OutLine}
 use Rattle.update_msgs.specs.declared.message.ServerMsg.{ServerMsg}
 use Rattle.message_text.specs.ClientText.{client_text}
-use Rattle.links.specs.Told.{told_and, told_front, IsNoneLeft}
+use Rattle.transport.specs.Told.{told_and, told_front, IsNoneLeft}
 use Rattle.client_model.specs.Past.{Past, message}
 use Rattle.client_model.specs.Runtime.{Opening}
 use Rattle.client_model.specs.Taking.{took}

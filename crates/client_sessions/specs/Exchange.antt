@@ -11,7 +11,7 @@ use Rattle.message_json.specs.declared.fault.MsgFault.{MsgFault}
 use Rattle.message_json.specs.declared.fault.MsgFault.TheVariants as faults
 use Rattle.message_json.specs.Reading.{Fails}
 use Rattle.message_json.specs.ServerReading.{server_of}
-use Rattle.links.specs.Told.{told_and, told_front, IsNoneLeft}
+use Rattle.transport.specs.Told.{told_and, told_front, IsNoneLeft}
 use Rattle.client_model.specs.Past.{Past}
 use Rattle.client_model.specs.Runtime.{Opening}
 use Rattle.client_model.specs.Taking.{unexpected, instances_full}

@@ -1,12 +1,12 @@
 // One request and its answer over a link.
 ghost use Rattle.std.specs.Prelude.{◌≡◌, ◌≤◌, IfOk, IfErr, Err};
 ghost use Rattle.hmr_base.specs.Causes.{Rose};
-ghost use Rattle.links.specs.declared.link.Phase.{Phase};
+ghost use Rattle.transport.specs.declared.link.Phase.{Phase};
 ghost use Rattle.update_msgs.specs.Writable.{IsFormat, IsSayable, IsWritable};
 ghost use Rattle.sessions.specs.declared.ended.Ended.{Ended};
 ghost use Rattle.client_sessions.specs.Exchange.{Exchanged, Ends, takes_none};
 
-use links::Link;
+use transport::Link;
 use message_json::{decode, encode_client};
 use sessions::Ended;
 use std::alloc::Global;

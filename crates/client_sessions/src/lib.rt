@@ -1,6 +1,6 @@
 //! A session of a client with its server: hello, so many requests of a client runtime, and bye.
 //!
-//! Stands on the client runtime (`hot_runtime`), on messages as JSON (`message_json`), on links (`links`)
+//! Stands on the client runtime (`hot_runtime`), on messages as JSON (`message_json`), on links (`transport`)
 //! and on the endings of sessions (`sessions`). Keeps: each request is that of the runtime after the answers
 //! before it, each answer is taken before the next request is sent, and the link is shut at every way out.
 //! [`turn`] and [`bye`] are its parts, for who wants the lines of an answer before the next request. Knows

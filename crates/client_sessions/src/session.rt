@@ -2,7 +2,7 @@
 // last comes the bye, whose answer the runtime doesn't see.
 ghost use Rattle.std.specs.Prelude.{◌≡◌, ◌≢◌, ◌≤◌, [], false, Err, OnOk};
 ghost use Rattle.hmr_base.specs.Causes.{Rose};
-ghost use Rattle.links.specs.declared.link.Phase.{Phase};
+ghost use Rattle.transport.specs.declared.link.Phase.{Phase};
 ghost use Rattle.update_msgs.specs.Writable.{IsFormat};
 ghost use Rattle.update_msgs.specs.declared.message.ClientMsg.TheVariants.{Bye};
 ghost use Rattle.client_model.specs.Past.{Past};
@@ -16,7 +16,7 @@ ghost use Rattle.client_sessions.specs.Exchange.{Ends, takes_bye};
 use crate::exchange::exchange;
 use const_eval::Ran;
 use hot_runtime::{HotRuntime, RuntimeFault};
-use links::Link;
+use transport::Link;
 use output_lines::OutLine;
 use retained_data::Bag;
 use sessions::Ended;

@@ -3,7 +3,7 @@ use Rattle.std.specs.Prelude.{◌≡◌, ◌<◌, ℕ, List, length, None, Optio
 use Rattle.std.specs.Global.{Vec}
 use Rattle.http_heads.specs.Cutting.{Cuts}
 use Rattle.http_heads.specs.declared.cutting.Cut.TheVariants as cut
-use Rattle.links.specs.Told.{told_front}
+use Rattle.transport.specs.Told.{told_front}
 use Rattle.doors.specs.declared.visitor.Coming.{Coming}
 use Rattle.doors.specs.declared.visitor.Coming.TheVariants as coming
 

@@ -1,6 +1,6 @@
 -- How the job of a door ends.
 use Rattle.std.specs.Prelude.{◌≡◌, ◌≤◌, ◌↔◌, ℕ, List, Option, Some, None, Bool, true, false}
-use Rattle.links.specs.Told.{IsNoneLeft}
+use Rattle.transport.specs.Told.{IsNoneLeft}
 use Rattle.doors.specs.declared.serving.DoorEnd.{DoorEnd}
 use Rattle.doors.specs.declared.serving.DoorEnd.TheVariants.{Shut, Done}
 use Rattle.doors.specs.declared.job.DoorOut.{DoorOut}

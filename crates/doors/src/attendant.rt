@@ -1,10 +1,10 @@
 // What serves visitors, one at a time.
 ghost use Rattle.std.specs.Prelude.{◌≡◌, ◌≤◌, ℕ, Bool, false};
-ghost use Rattle.links.specs.declared.link.Phase.{Phase};
+ghost use Rattle.transport.specs.declared.link.Phase.{Phase};
 ghost use Rattle.doors.specs.Accepting.{one_more};
 
 use crate::Visitor;
-use links::Link;
+use transport::Link;
 use std::alloc::Global;
 use std::sync::Wait;
 

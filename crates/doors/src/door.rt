@@ -4,13 +4,13 @@
 ghost use Rattle.std.specs.Prelude.{◌≡◌, ◌≢◌, ◌≤◌, ℕ, List, Option, None, Bool, true, false};
 ghost use Rattle.std.specs.Prelude.{IfOk, IfSome, OnErr};
 ghost use Rattle.hmr_base.specs.Causes.{Rose};
-ghost use Rattle.outside_calls.specs.Causes.{HasOutCause};
-ghost use Rattle.links.specs.declared.link.Phase.{Phase};
-ghost use Rattle.links.specs.Told.{IsNoneLeft};
+ghost use Rattle.hmr_base.specs.OutCauses.{HasOutCause};
+ghost use Rattle.transport.specs.declared.link.Phase.{Phase};
+ghost use Rattle.transport.specs.Told.{IsNoneLeft};
 ghost use Rattle.doors.specs.Accepting.{Enters, is_given, is_last, visits_after};
 
 use crate::{OutFault, Visitor};
-use links::Link;
+use transport::Link;
 use std::alloc::Global;
 
 /// A share of what listens, which one thread has. It gives one end at a time: the next only once the last was

@@ -2,7 +2,7 @@
 // whether it was shut.
 ghost use Rattle.std.specs.Prelude.{◌≡◌, ◌≢◌, ◌≤◌, ◌+◌, ◌-◌, ℕ, Bool, true, false, IfOk, OnOk, OnErr};
 ghost use Rattle.hmr_base.specs.Causes.{Rose};
-ghost use Rattle.outside_calls.specs.Causes.{HasOutCause};
+ghost use Rattle.hmr_base.specs.OutCauses.{HasOutCause};
 
 use crate::{Door, OutFault};
 use std::alloc::Global;

@@ -1,6 +1,6 @@
 // Heads and bodies are taken from the front of bytes.
 ghost use Rattle.std.specs.Prelude.{◌≡◌, ◌≤◌, ◌++◌, IfErr, OnErr, Some, IfOk, drop, take, vec_len};
-ghost use Rattle.outside_calls.specs.declared.out_fault.OutFault.{OutFault};
+ghost use Rattle.hmr_base.specs.declared.out_fault.OutFault.{OutFault};
 ghost use Rattle.doors.specs.Coming.{IsBody, IsHead, IsNext};
 ghost use Rattle.http_heads.specs.Cutting.{Cuts};
 ghost use Rattle.http_heads.specs.declared.cutting.Cut.TheVariants as cut;

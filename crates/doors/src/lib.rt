@@ -6,7 +6,7 @@
 //! back, again and again, until the door is shut or the attendant is done, and [`DoorJob`] does this in a
 //! thread. In memory a [`MemDoor`] gives the ends of any net with bytes that are there from the start.
 //!
-//! Stands on `links`, whose ends visitors are, on `http_heads` for where a head ends, and on `jobs`. Keeps:
+//! Stands on `transport`, whose ends visitors are, on `http_heads` for where a head ends, and on `jobs`. Keeps:
 //! each end that was accepted is served once, shut and given back before the next is accepted; after a door
 //! has answered that no more come it is asked for none; a count rises wherever a call fails. A call takes
 //! memory only where its result can say that memory ran out, but for [`serve_door`] and a [`DoorJob`] at
@@ -31,6 +31,6 @@ pub use heads::{take_body, take_front};
 pub use job::{DoorJob, DoorOut};
 pub use mem_door::MemDoor;
 pub use mem_visitor::MemVisitor;
-pub use outside_calls::OutFault;
+pub use hmr_base::OutFault;
 pub use serving::{DoorEnd, serve_door};
 pub use visitor::{Coming, Visitor};

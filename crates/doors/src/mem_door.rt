@@ -3,7 +3,7 @@
 ghost use Rattle.std.specs.Prelude.{◌≡◌, ◌≤◌, Some, IsSome, false, map};
 
 use crate::{Door, MemVisitor, OutFault};
-use links::{Link, Net};
+use transport::{Link, Net};
 use std::alloc::Global;
 use std::collections::VecDeque;
 

@@ -1,12 +1,12 @@
 // A visitor in memory: what it sends before an upgrade is there from the start, and its messages are those of
 // a link.
 ghost use Rattle.std.specs.Prelude.{◌≡◌, ◌≤◌, ◌++◌, [], Some, IfOk, OnOk, OnErr, drop, vec_len};
-ghost use Rattle.links.specs.declared.link.Phase.{Phase};
+ghost use Rattle.transport.specs.declared.link.Phase.{Phase};
 ghost use Rattle.doors.specs.Coming.{IsNext};
 
 use crate::heads::{take_body, take_head};
 use crate::{Coming, OutFault, Visitor};
-use links::Link;
+use transport::Link;
 use std::alloc::Global;
 
 /// A link with bytes before its messages: those that are left to read, and those that were written.

@@ -1,7 +1,7 @@
 // One visitor after another, until the door is shut or the attendant has enough.
 ghost use Rattle.std.specs.Prelude.{◌≡◌, ◌≤◌, ◌↔◌, true, false};
-ghost use Rattle.links.specs.declared.link.Phase.{Phase};
-ghost use Rattle.links.specs.Told.{IsNoneLeft};
+ghost use Rattle.transport.specs.declared.link.Phase.{Phase};
+ghost use Rattle.transport.specs.Told.{IsNoneLeft};
 ghost use Rattle.doors.specs.Accepting.{one_more};
 
 use crate::{Attendant, Door};

@@ -2,14 +2,14 @@
 // it was opened as a link it carries messages, and what came behind the last head is the first of them.
 // Contracts see what is left to read and what was written before it was opened, where the end tells it.
 ghost use Rattle.std.specs.Prelude.{◌≡◌, ℕ, List, Option, IfOk, OnOk, OnErr};
-ghost use Rattle.outside_calls.specs.Causes.{HasOutCause};
-ghost use Rattle.links.specs.declared.link.Phase.{Phase};
-ghost use Rattle.links.specs.Told.{told_and};
+ghost use Rattle.hmr_base.specs.OutCauses.{HasOutCause};
+ghost use Rattle.transport.specs.declared.link.Phase.{Phase};
+ghost use Rattle.transport.specs.Told.{told_and};
 ghost use Rattle.doors.specs.Coming.{IsBody, IsNext};
 ghost use Rattle.doors.specs.Told.{TellsFront};
 
 use crate::OutFault;
-use links::Link;
+use transport::Link;
 use std::alloc::Global;
 
 /// What came next of a visitor.

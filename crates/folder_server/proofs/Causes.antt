@@ -14,8 +14,8 @@ use Rattle.hub_moves.proofs.Fullness.{nearly_full_moved}
 use Rattle.hub_editor.specs.Causes as editing
 use Rattle.hub_editor.specs.declared.stop.EditStop.{EditStop}
 use Rattle.hub_editor.specs.declared.stop.EditStop.TheVariants as edits
-use Rattle.serve_crew.specs.declared.cause.Cause.{Cause}
-use Rattle.serve_crew.specs.declared.cause.Cause.TheVariants as causes
+use Rattle.server_threads.specs.declared.cause.Cause.{Cause}
+use Rattle.server_threads.specs.declared.cause.Cause.TheVariants as causes
 use Rattle.folder_server.specs.declared.stop.Limit.{Limit}
 use Rattle.folder_server.specs.declared.stop.Limit.TheVariants as limits
 use Rattle.folder_server.specs.declared.stop.ServeStop.{ServeStop}

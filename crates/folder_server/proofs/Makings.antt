@@ -23,8 +23,8 @@ use Rattle.hub_editor.specs.Results.{HasOwnResults}
 use Rattle.hub_editor.specs.declared.stop.EditStop.{EditStop}
 use Rattle.hub_editor.specs.declared.stop.EditStop.TheVariants as edits
 use Rattle.hub_editor.proofs.Calls.{sources_stay}
-use Rattle.serve_crew.specs.declared.cause.Cause.{Cause}
-use Rattle.serve_crew.specs.declared.cause.Cause.TheVariants as causes
+use Rattle.server_threads.specs.declared.cause.Cause.{Cause}
+use Rattle.server_threads.specs.declared.cause.Cause.TheVariants as causes
 use Rattle.folder_server.specs.declared.stop.ServeStop.{ServeStop}
 use Rattle.folder_server.specs.declared.stop.ServeStop.TheVariants.{NoMemory}
 use Rattle.folder_server.specs.Rounds.{AreRounds, AtScan, EndsEdits, Files, IsRound, MakesEach, MakesEdits, MakesFront, Reply, ScanStops, StopsAt, StopsEdits, after_scans, edits_of, told}

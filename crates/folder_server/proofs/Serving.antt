@@ -28,8 +28,8 @@ use Rattle.hub_editor.specs.Editing.{AreAnswered, HaveLastResults, entries_of}
 use Rattle.hub_editor.specs.Openings.{jobs_after, opening}
 use Rattle.hub_editor.specs.Results.{HasOwnResults, result_entry}
 use Rattle.hub_editor.proofs.Steps.{answers_moved, edited_none, own_moved, result_moved}
-use Rattle.serve_crew.specs.declared.gathered.Gathered.{Gathered}
-use Rattle.serve_crew.specs.Gathers.{SomeFull}
+use Rattle.server_threads.specs.declared.gathered.Gathered.{Gathered}
+use Rattle.server_threads.specs.Gathers.{SomeFull}
 use Rattle.serve_reports.specs.Within.{IsWithin}
 use Rattle.serve_reports.specs.declared.log.Log.{Log}
 use Rattle.serve_reports.specs.Logs.{log_lines}
@@ -41,9 +41,9 @@ use Rattle.folder_server.specs.declared.stop.Limit.TheVariants.{Transcript}
 use Rattle.folder_server.specs.declared.stop.ServeStop.{ServeStop}
 use Rattle.folder_server.specs.declared.stop.ServeStop.TheVariants.{Unwritten, Tree, Fault, NoMemory}
 use Rattle.folder_server.specs.declared.stop.ServeStop.TheVariants.{Limit as AtLimit}
-use Rattle.outside_calls.specs.declared.out_fault.OutFault.{OutFault}
-use Rattle.outside_calls.specs.declared.out_fault.OutFault.TheVariants as outside
-use Rattle.serve_crew.specs.declared.cause.Cause.TheVariants as causes
+use Rattle.hmr_base.specs.declared.out_fault.OutFault.{OutFault}
+use Rattle.hmr_base.specs.declared.out_fault.OutFault.TheVariants as outside
+use Rattle.server_threads.specs.declared.cause.Cause.TheVariants as causes
 use Rattle.folder_server.specs.Causes.{IsCause, IsEarlyEnd, IsFirstCause, IsWorkCause}
 use Rattle.folder_server.specs.Openings.{Opens}
 use Rattle.folder_server.specs.Rounds.{Files}

@@ -8,12 +8,12 @@ use Rattle.hub_moves.specs.Moves.{Moved}
 use Rattle.hub_editor.specs.Edits.{Edit, Made}
 use Rattle.hub_editor.specs.Editing.{Edited, HaveLastResults, SameEdits}
 use Rattle.hub_editor.specs.declared.stop.EditStop.TheVariants as edits
-use Rattle.serve_crew.specs.declared.cause.Cause.{Cause}
-use Rattle.serve_crew.specs.declared.cause.Cause.TheVariants as causes
-use Rattle.serve_crew.specs.declared.gathered.Gathered.{Gathered}
-use Rattle.serve_crew.specs.Gathers.{Gathers}
-use Rattle.serve_crew.specs.Lendings.{Lends}
-use Rattle.serve_crew.specs.Splits.{IsSpentBy}
+use Rattle.server_threads.specs.declared.cause.Cause.{Cause}
+use Rattle.server_threads.specs.declared.cause.Cause.TheVariants as causes
+use Rattle.server_threads.specs.declared.gathered.Gathered.{Gathered}
+use Rattle.server_threads.specs.Gathers.{Gathers}
+use Rattle.server_threads.specs.Lendings.{Lends}
+use Rattle.server_threads.specs.Splits.{IsSpentBy}
 use Rattle.folder_server.specs.declared.stop.ServeStop.{ServeStop}
 use Rattle.folder_server.specs.declared.stop.Limit.TheVariants as limits
 use Rattle.folder_server.specs.declared.stop.ServeStop.TheVariants.{Unwritten, Tree, Fault, NoMemory}

@@ -4,7 +4,7 @@ use Rattle.hmr_base.specs.Causes.{Rose}
 use Rattle.hmr_hub.specs.declared.pass.Pass.{Pass}
 use Rattle.hub_editor.specs.Edits.{Edit, Made}
 use Rattle.hub_editor.specs.Editing.{Edited, HaveLastResults}
-use Rattle.serve_crew.specs.declared.gathered.Gathered.{Gathered}
+use Rattle.server_threads.specs.declared.gathered.Gathered.{Gathered}
 use Rattle.folder_server.specs.declared.stop.ServeStop.{ServeStop}
 use Rattle.folder_server.specs.declared.stop.ServeStop.TheVariants.{Fault}
 use Rattle.folder_server.specs.Rounds.{Files, MakesEdits}

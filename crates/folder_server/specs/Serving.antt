@@ -28,7 +28,7 @@ use Rattle.record_laws.specs.Course.{verdict_of}
 use Rattle.record_laws.specs.Sound.{rests_behind}
 use Rattle.record_laws.specs.Written.{lines_told, record_told}
 use Rattle.record_laws.specs.declared.verdict.Verdict.TheVariants.{Yes}
-use Rattle.serve_crew.specs.declared.gathered.Gathered.{Gathered}
+use Rattle.server_threads.specs.declared.gathered.Gathered.{Gathered}
 use Rattle.serve_reports.specs.declared.log.Log.{Log}
 use Rattle.serve_reports.specs.Logs.{log_lines}
 use Rattle.serve_reports.specs.Texts.{report_text}

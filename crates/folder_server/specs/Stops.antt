@@ -7,10 +7,10 @@ use Rattle.hub_editor.specs.declared.stop.EditStop.TheVariants as edits
 use Rattle.folder_server.specs.declared.stop.Limit.{Limit}
 use Rattle.folder_server.specs.declared.stop.Limit.TheVariants as limits
 use Rattle.folder_server.specs.declared.stop.ServeStop.{ServeStop}
-use Rattle.outside_calls.specs.declared.out_fault.OutFault.{OutFault}
-use Rattle.outside_calls.specs.declared.out_fault.OutFault.TheVariants as outside
-use Rattle.serve_crew.specs.declared.cause.Cause.{Cause}
-use Rattle.serve_crew.specs.declared.cause.Cause.TheVariants as causes
+use Rattle.hmr_base.specs.declared.out_fault.OutFault.{OutFault}
+use Rattle.hmr_base.specs.declared.out_fault.OutFault.TheVariants as outside
+use Rattle.server_threads.specs.declared.cause.Cause.{Cause}
+use Rattle.server_threads.specs.declared.cause.Cause.TheVariants as causes
 use Rattle.folder_server.specs.declared.stop.ServeStop.TheVariants.{Unwritten, Tree, Fault, NoMemory}
 use Rattle.folder_server.specs.declared.stop.ServeStop.TheVariants.{Limit as AtLimit}
 

@@ -5,7 +5,7 @@ ghost use Rattle.hmr_hub.specs.Passes.{HasTranscript, IsPassOf, roots_of, seen_o
 ghost use Rattle.hmr_hub.specs.declared.report_line.ReportLine.{ReportLine};
 ghost use Rattle.hmr_hub.specs.declared.report_line.ReportLine.TheVariants.{Steps};
 ghost use Rattle.hub_moves.specs.Moves.{KnowsOwn};
-ghost use Rattle.serve_crew.specs.Gathers.{IsGathered};
+ghost use Rattle.server_threads.specs.Gathers.{IsGathered};
 ghost use Rattle.serve_reports.specs.Texts.{report_text};
 ghost use Rattle.folder_server.specs.Serving.{EndsReported, IsConfirmedPart, record_part, status_after};
 
@@ -15,7 +15,7 @@ use crate::stop::{Limit, ServeStop};
 use hmr_base::{Sink, write_all};
 use hmr_hub::{Hub, Pass, ReportLine};
 use hmr_types::ModName;
-use serve_crew::Gathered;
+use server_threads::Gathered;
 use serve_reports::{put_report_line, wind_up};
 use std::alloc::{AllocError, Global};
 use std::sync::Wait;

@@ -2,7 +2,7 @@
 //! clients over a net, and workers transform the texts.
 //!
 //! [`serve`] is the whole of it, from the first scan to the report. Stands on `folder_watch` for folders, on
-//! `hub_editor` for edits, on `serve_crew` for the jobs in threads, and on `serve_reports` for the end.
+//! `hub_editor` for edits, on `server_threads` for the jobs in threads, and on `serve_reports` for the end.
 //! Keeps: what is written is the report of one transcript, which begins with the first scan and has each
 //! later edit once and in order; a status of failure comes only where the count of what failed rose. A call
 //! takes memory only where its result can say that memory ran out. Knows nothing of the command line, nor of

@@ -5,8 +5,8 @@ ghost use Rattle.folder_server.specs.Stops.{limit_text, stop_by, stop_of_edit, s
 use folder_watch::ScanStop;
 use hmr_base::WriteFault;
 use hub_editor::EditStop;
-use links::OutFault;
-use serve_crew::Cause;
+use transport::OutFault;
+use server_threads::Cause;
 use std::alloc::{AllocError, AllocFailed};
 
 /// A limit of a server that was passed.

@@ -5,9 +5,9 @@ use Rattle.std.specs.List.{list_any}
 use Rattle.folders.specs.declared.tree.Entry.{Entry}
 use Rattle.folders.specs.Entries.{has_slash, is_there, path_of}
 use Rattle.folders.specs.Files.{below, has_file, rest_after, text_at}
-use Rattle.outside_calls.specs.declared.out_fault.OutFault.{OutFault}
-use Rattle.outside_calls.specs.declared.out_fault.OutFault.TheVariants.{Failed}
-use Rattle.outside_calls.specs.declared.out_fault.OutFault.TheVariants as Faults
+use Rattle.hmr_base.specs.declared.out_fault.OutFault.{OutFault}
+use Rattle.hmr_base.specs.declared.out_fault.OutFault.TheVariants.{Failed}
+use Rattle.hmr_base.specs.declared.out_fault.OutFault.TheVariants as Faults
 use Rattle.folder_watch.specs.declared.scan_stop.ScanStop.{ScanStop}
 use Rattle.folder_watch.specs.declared.scan_stop.ScanStop.TheVariants.{TreeFault, TooManyNames}
 use Rattle.folder_watch.specs.declared.scan_stop.ScanStop.TheVariants.{TextTooLong, NoMemory}

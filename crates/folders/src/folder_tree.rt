@@ -3,8 +3,8 @@
 ghost use Rattle.std.specs.Prelude.{◌≡◌, ◌≤◌, [], None, string_bytes};
 ghost use Rattle.std.specs.Option.{option_map};
 ghost use Rattle.hmr_base.specs.Causes.{Rose};
-ghost use Rattle.outside_calls.specs.Causes.{HasOutCause, is_failed};
-ghost use Rattle.outside_calls.specs.declared.out_fault.OutFault.{OutFault};
+ghost use Rattle.hmr_base.specs.OutCauses.{HasOutCause, is_failed};
+ghost use Rattle.hmr_base.specs.declared.out_fault.OutFault.{OutFault};
 
 use crate::{Entry, Node, OutFault, Reading, Tree};
 use hmr_base::{ReadFault, StdSource, read_all};

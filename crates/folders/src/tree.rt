@@ -3,7 +3,7 @@
 ghost use Rattle.std.specs.Prelude.{◌≡◌, ◌≤◌, [], List, ℕ, Option, Some, false};
 ghost use Rattle.std.specs.Prelude.{IfOk, IfSome, OnOk, OnErr, MatchOption, IfNone};
 ghost use Rattle.std.specs.Option.{option_map};
-ghost use Rattle.outside_calls.specs.Causes.{HasOutCause, is_failed};
+ghost use Rattle.hmr_base.specs.OutCauses.{HasOutCause, is_failed};
 ghost use Rattle.hmr_base.specs.Plans.{AsPlanned, Plan};
 ghost use Rattle.folders.specs.Entries.{IsListed};
 ghost use Rattle.folders.specs.Files.{MayOpen, files_after, is_gone, next_files};

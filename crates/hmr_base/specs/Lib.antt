@@ -3,3 +3,4 @@ pub mod Fronts
 pub mod Plans
 pub mod Pieces
 pub mod Memory
+pub mod OutCauses

@@ -16,7 +16,7 @@ use Rattle.client_model.specs.Requesting.{abort_message, apply_or_abort, ask_or_
 use Rattle.client_model.specs.Runtime as model
 use Rattle.client_model.specs.Runtime.{Invalidation, Runtime}
 use Rattle.module_language.specs.ModuleLanguage.{module_language}
-use Rattle.plan_under_way.specs.UnderWay.{untold}
+use Rattle.client_plan.specs.UnderWay.{untold}
 use Rattle.hot_runtime.specs.Standing.{IsSound, Keeps}
 use Rattle.hot_runtime.specs.declared.runtime.HotRuntime.{HotRuntime}
 

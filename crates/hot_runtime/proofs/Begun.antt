@@ -10,9 +10,9 @@ use Rattle.client_model.specs.Journal.{lines_of_all}
 use Rattle.client_model.specs.Runtime.{Runtime, Did, and_then, for_each, nothing, write}
 use Rattle.hmr_types.specs.declared.words.PlanKind.{PlanKind}
 use Rattle.core_model.specs.Page.{new_plan}
-use Rattle.page_deeds.proofs.Following.{lines_then}
-use Rattle.plan_under_way.specs.declared.under_way.UnderWay.{UnderWay}
-use Rattle.plan_under_way.specs.Telling.{accept_lines, batch_lines}
+use Rattle.page_lifecycle.proofs.Following.{lines_then}
+use Rattle.client_plan.specs.declared.under_way.UnderWay.{UnderWay}
+use Rattle.client_plan.specs.Telling.{accept_lines, batch_lines}
 use Rattle.hot_runtime.specs.Standing.{IsPlan, Keeps}
 use Rattle.hot_runtime.specs.declared.runtime.HotRuntime.{HotRuntime}
 use Rattle.hot_runtime.proofs.Keeping.{plan_kept, with_under_way}

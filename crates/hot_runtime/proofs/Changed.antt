@@ -13,12 +13,12 @@ use Rattle.client_model.specs.Requesting.{carry_on, cause_by, hello, request, re
 use Rattle.client_model.specs.Runtime as model
 use Rattle.client_model.specs.Runtime.{Runtime}
 use Rattle.module_language.specs.ModuleLanguage.{module_language}
-use Rattle.plan_under_way.specs.Planned.{IsPlanned}
-use Rattle.plan_under_way.specs.Telling.{cause_lines}
-use Rattle.plan_under_way.specs.UnderWay.{IsUnderWay, cause_of, is_aborted, with_cause_of}
-use Rattle.plan_under_way.specs.declared.cause.Cause.{Cause}
-use Rattle.plan_under_way.proofs.Caused.{caused}
-use Rattle.plan_under_way.specs.declared.under_way.UnderWay.{UnderWay}
+use Rattle.client_plan.specs.Planned.{IsPlanned}
+use Rattle.client_plan.specs.Telling.{cause_lines}
+use Rattle.client_plan.specs.UnderWay.{IsUnderWay, cause_of, is_aborted, with_cause_of}
+use Rattle.client_plan.specs.declared.cause.Cause.{Cause}
+use Rattle.client_plan.proofs.Caused.{caused}
+use Rattle.client_plan.specs.declared.under_way.UnderWay.{UnderWay}
 use Rattle.hot_runtime.specs.Becoming.{Becomes}
 use Rattle.hot_runtime.specs.Standing.{IsPlan, IsPlannedWell, IsSound, Keeps}
 use Rattle.hot_runtime.specs.declared.runtime.HotRuntime.{HotRuntime}

@@ -20,9 +20,9 @@ use Rattle.client_model.specs.Requesting.{abort_message, apply_or_abort, carry_o
 use Rattle.client_model.specs.Runtime as model
 use Rattle.client_model.specs.Runtime.{Runtime, broken}
 use Rattle.module_language.specs.ModuleLanguage.{module_language}
-use Rattle.plan_under_way.specs.Planned.{IsPlanned}
-use Rattle.plan_under_way.specs.UnderWay.{IsFetched, IsUnderWay, plan_with, with_cause_of}
-use Rattle.plan_under_way.specs.declared.under_way.UnderWay.{UnderWay}
+use Rattle.client_plan.specs.Planned.{IsPlanned}
+use Rattle.client_plan.specs.UnderWay.{IsFetched, IsUnderWay, plan_with, with_cause_of}
+use Rattle.client_plan.specs.declared.under_way.UnderWay.{UnderWay}
 use Rattle.hot_runtime.specs.Becoming.{Becomes}
 use Rattle.hot_runtime.specs.Fetching.{IsStaged, IsStagedIn}
 use Rattle.hot_runtime.specs.Standing.{IsPlan, IsPlannedWell, IsSound, Keeps}

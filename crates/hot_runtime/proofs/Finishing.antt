@@ -22,21 +22,21 @@ use Rattle.client_model.specs.Requesting.{abort_message, ask_or_invalidate, carr
 use Rattle.client_model.specs.Runtime as model
 use Rattle.client_model.specs.Runtime.{Runtime, Did, Invalidation}
 use Rattle.module_language.specs.ModuleLanguage.{module_language}
-use Rattle.page_deeds.specs.declared.page.Page.{Page}
-use Rattle.page_deeds.specs.Live.{number_of}
-use Rattle.page_deeds.proofs.Following.{lines_then}
+use Rattle.page_lifecycle.specs.declared.page.Page.{Page}
+use Rattle.page_lifecycle.specs.Live.{number_of}
+use Rattle.page_lifecycle.proofs.Following.{lines_then}
 use Rattle.hmr_types.specs.declared.words.PlanKind.{PlanKind}
-use Rattle.plan_under_way.specs.Changing.{AreCountedIn, HasChanged, page_done}
-use Rattle.plan_under_way.specs.Finding.{IsFound, IsFoundFor, IsPageOf, IsToApply}
-use Rattle.plan_under_way.specs.Planned.{AreCounted, IsPlanned}
-use Rattle.plan_under_way.specs.UnderWay.{IsNext, IsReady, IsUnderWay, is_applied_told}
-use Rattle.plan_under_way.specs.Whole.{IsWhole}
-use Rattle.plan_under_way.specs.declared.finding.Found.{Found}
-use Rattle.plan_under_way.specs.declared.under_way.Next.{Next}
-use Rattle.plan_under_way.specs.declared.under_way.Next.TheVariants.{Fetch, Finish}
-use Rattle.plan_under_way.specs.declared.under_way.Ready.{Ready}
-use Rattle.plan_under_way.specs.declared.under_way.UnderWay.{UnderWay}
-use Rattle.plan_under_way.proofs.Paging.{entries_counted, new_paged, new_there, page_counted}
+use Rattle.client_plan.specs.Changing.{AreCountedIn, HasChanged, page_done}
+use Rattle.client_plan.specs.Finding.{IsFound, IsFoundFor, IsPageOf, IsToApply}
+use Rattle.client_plan.specs.Planned.{AreCounted, IsPlanned}
+use Rattle.client_plan.specs.UnderWay.{IsNext, IsReady, IsUnderWay, is_applied_told}
+use Rattle.client_plan.specs.Whole.{IsWhole}
+use Rattle.client_plan.specs.declared.finding.Found.{Found}
+use Rattle.client_plan.specs.declared.under_way.Next.{Next}
+use Rattle.client_plan.specs.declared.under_way.Next.TheVariants.{Fetch, Finish}
+use Rattle.client_plan.specs.declared.under_way.Ready.{Ready}
+use Rattle.client_plan.specs.declared.under_way.UnderWay.{UnderWay}
+use Rattle.client_plan.proofs.Paging.{entries_counted, new_paged, new_there, page_counted}
 use Rattle.hot_runtime.specs.Applying.{IsApplied, IsTurned}
 use Rattle.hot_runtime.specs.Becoming.{Becomes}
 use Rattle.hot_runtime.specs.Standing.{HasRoom, count_of, IsPlan, IsPlannedWell, IsSound, Keeps}

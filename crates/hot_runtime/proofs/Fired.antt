@@ -13,7 +13,7 @@ use Rattle.client_model.specs.Firing.{Firing, fire, heard, hear_all}
 use Rattle.client_model.specs.Past.{Past, event, runtime_after}
 use Rattle.client_model.specs.Runtime.{Runtime, Opening}
 use Rattle.module_language.specs.ModuleLanguage.{module_language}
-use Rattle.plan_under_way.specs.declared.under_way.UnderWay.{UnderWay}
+use Rattle.client_plan.specs.declared.under_way.UnderWay.{UnderWay}
 use Rattle.hot_runtime.specs.Answers.{IsFired, UnlessNoMemory}
 use Rattle.hot_runtime.specs.Becoming.{Becomes, Stands}
 use Rattle.hot_runtime.specs.Standing.{IsPlan, IsSound, Keeps, StandsFor}

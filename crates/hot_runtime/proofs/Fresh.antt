@@ -10,9 +10,9 @@ use Rattle.handler_table.specs.Held.{Answers, IsHost}
 use Rattle.handler_table.specs.Shelf.{marks_of}
 use Rattle.retained_data.specs.Bags as kept
 use Rattle.handler_table.specs.Handlers.{KeepTheirWord}
-use Rattle.page_deeds.specs.Live.{number_of}
-use Rattle.page_deeds.specs.Standing.{StandsFor, BothOrNone, KeepWords, invalidation_as}
-use Rattle.page_deeds.specs.declared.page.Page.{Page}
+use Rattle.page_lifecycle.specs.Live.{number_of}
+use Rattle.page_lifecycle.specs.Standing.{StandsFor, BothOrNone, KeepWords, invalidation_as}
+use Rattle.page_lifecycle.specs.declared.page.Page.{Page}
 use Rattle.page_instances.specs.Scopes.{kept_at}
 
 none_kept : (F : Type 0) (k : ℕ) → BothOrNone None (kept_at {F = F} [] k)

@@ -13,8 +13,8 @@ use Rattle.client_model.specs.Requesting.{carry_on, hello, request, request_by}
 use Rattle.client_model.specs.Runtime.{Runtime}
 use Rattle.client_model.specs.Taking.{is_applied, made_by_plan}
 use Rattle.module_language.specs.ModuleLanguage.{module_language}
-use Rattle.plan_under_way.specs.UnderWay.{IsUnderWay, is_applied_told}
-use Rattle.plan_under_way.specs.declared.under_way.UnderWay.{UnderWay}
+use Rattle.client_plan.specs.UnderWay.{IsUnderWay, is_applied_told}
+use Rattle.client_plan.specs.declared.under_way.UnderWay.{UnderWay}
 use Rattle.hot_runtime.specs.Standing.{IsPlan, Keeps}
 use Rattle.hot_runtime.specs.declared.runtime.HotRuntime.{HotRuntime}
 

@@ -10,9 +10,9 @@ use Rattle.core_model.specs.Page.{Plan}
 use Rattle.client_model.specs.Journal.{lines_of_all}
 use Rattle.client_model.specs.Runtime.{Runtime, Cause, Did}
 use Rattle.handler_table.specs.Held.{Answers}
-use Rattle.page_deeds.specs.Standing as deeds
-use Rattle.page_deeds.specs.declared.page.Page.{Page}
-use Rattle.plan_under_way.specs.declared.under_way.UnderWay.{UnderWay}
+use Rattle.page_lifecycle.specs.Standing as deeds
+use Rattle.page_lifecycle.specs.declared.page.Page.{Page}
+use Rattle.client_plan.specs.declared.under_way.UnderWay.{UnderWay}
 use Rattle.hot_runtime.specs.Becoming.{Becomes}
 use Rattle.hot_runtime.specs.Standing.{IsPlan, IsPlannedWell, IsSound, Keeps, KeepsWords}
 use Rattle.hot_runtime.specs.declared.runtime.HotRuntime.{HotRuntime}

@@ -16,8 +16,8 @@ use Rattle.client_model.specs.Running.{drop_each, end_instance, give_up_bag, no_
 use Rattle.client_model.specs.Runtime.{Did, Runtime}
 use Rattle.client_model.proofs.Acts.{handled_hear, handled_run_each}
 use Rattle.module_language.specs.ModuleLanguage.{module_language}
-use Rattle.page_deeds.specs.Live.{without_number}
-use Rattle.page_deeds.proofs.Gone.{KeepsLive, Loses, drop_keeps, end_loses, handled_keeps}
+use Rattle.page_lifecycle.specs.Live.{without_number}
+use Rattle.page_lifecycle.proofs.Gone.{KeepsLive, Loses, drop_keeps, end_loses, handled_keeps}
 
 -- what hears an event stays live
 pub heard_live : (event : Name) (value : Value) (r : Runtime) (n : Name) → number_in (live_at (hear_all module_language event value r).0.instances n) ≡ number_in (live_at r.instances n)

@@ -7,14 +7,14 @@ use Rattle.core_model.specs.Page.{Plan}
 use Rattle.client_model.specs.Instance.{Instance}
 use Rattle.client_model.specs.Language.{Bag}
 use Rattle.client_model.specs.Runtime.{Runtime, Invalidation}
-use Rattle.plan_under_way.specs.UnderWay.{AreModules, IsNext, IsUnderWay, IsWalk}
-use Rattle.plan_under_way.specs.declared.under_way.Modules.{Modules}
-use Rattle.plan_under_way.specs.declared.under_way.Modules.TheVariants.{Anew, Renewed}
-use Rattle.plan_under_way.specs.declared.under_way.Next.{Next}
-use Rattle.plan_under_way.specs.declared.under_way.Next.TheVariants.{Fetch, Finish}
-use Rattle.plan_under_way.specs.declared.under_way.UnderWay.{UnderWay}
-use Rattle.plan_under_way.specs.declared.under_way.Walk.{Walk}
-use Rattle.plan_under_way.specs.declared.under_way.Walk.TheVariants.{Begun, Spared}
+use Rattle.client_plan.specs.UnderWay.{AreModules, IsNext, IsUnderWay, IsWalk}
+use Rattle.client_plan.specs.declared.under_way.Modules.{Modules}
+use Rattle.client_plan.specs.declared.under_way.Modules.TheVariants.{Anew, Renewed}
+use Rattle.client_plan.specs.declared.under_way.Next.{Next}
+use Rattle.client_plan.specs.declared.under_way.Next.TheVariants.{Fetch, Finish}
+use Rattle.client_plan.specs.declared.under_way.UnderWay.{UnderWay}
+use Rattle.client_plan.specs.declared.under_way.Walk.{Walk}
+use Rattle.client_plan.specs.declared.under_way.Walk.TheVariants.{Begun, Spared}
 use Rattle.hot_runtime.specs.Standing.{IsPlan}
 
 module _ (r : Runtime) (loaded : Bool) (forced : List Name) (plan : Option Plan) (instances : List Instance) (bags : List (Name × Bag)) (unsent : List Invalidation) (shelf : List (Text × ℕ)) (stopped : Bool) where

@@ -11,9 +11,9 @@ use Rattle.core_model.specs.Page.{Plan}
 use Rattle.client_model.specs.Requesting.{ask_or_invalidate, request, request_by, carry_on, hello}
 use Rattle.client_model.specs.Runtime.{Invalidation, Runtime}
 use Rattle.module_language.specs.ModuleLanguage.{module_language}
-use Rattle.page_deeds.specs.Standing.{invalidation_as}
-use Rattle.plan_under_way.specs.UnderWay.{IsUnderWay, untold}
-use Rattle.plan_under_way.specs.declared.under_way.UnderWay.{UnderWay}
+use Rattle.page_lifecycle.specs.Standing.{invalidation_as}
+use Rattle.client_plan.specs.UnderWay.{IsUnderWay, untold}
+use Rattle.client_plan.specs.declared.under_way.UnderWay.{UnderWay}
 use Rattle.hot_runtime.specs.Standing.{Keeps, IsPlan}
 use Rattle.hot_runtime.specs.declared.runtime.HotRuntime.{HotRuntime}
 

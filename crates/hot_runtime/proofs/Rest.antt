@@ -3,7 +3,7 @@ use Rattle.std.proofs.Common.{◌≡◌, ap, sym}
 use Rattle.std.specs.Prelude.{OnOk, Option, Result, Ok, Err}
 use Rattle.std.proofs.Math.Path.{subst}
 use Rattle.handler_table.specs.Held.{Answers}
-use Rattle.plan_under_way.specs.declared.under_way.UnderWay.{UnderWay}
+use Rattle.client_plan.specs.declared.under_way.UnderWay.{UnderWay}
 use Rattle.hot_runtime.specs.Standing.{KeepsWords}
 use Rattle.hot_runtime.specs.declared.runtime.HotRuntime.{HotRuntime}
 use Rattle.hot_runtime.proofs.Keeping.{with_under_way}

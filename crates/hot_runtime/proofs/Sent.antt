@@ -11,8 +11,8 @@ use Rattle.core_model.specs.Names.{Name, put_name}
 use Rattle.core_model.specs.Sources.{Text}
 use Rattle.client_model.specs.Answering.{ignored, invalidated, without_first}
 use Rattle.client_model.specs.Runtime.{Runtime}
-use Rattle.page_deeds.specs.declared.page.Invalidation.{Invalidation}
-use Rattle.page_deeds.specs.Standing.{invalidation_as}
+use Rattle.page_lifecycle.specs.declared.page.Invalidation.{Invalidation}
+use Rattle.page_lifecycle.specs.Standing.{invalidation_as}
 use Rattle.hot_runtime.specs.Becoming.{Becomes}
 use Rattle.hot_runtime.specs.Standing.{IsSound, Keeps}
 use Rattle.hot_runtime.specs.declared.runtime.HotRuntime.{HotRuntime}

@@ -12,10 +12,10 @@ use Rattle.core_model.specs.Names.{Name, in_order}
 use Rattle.core_model.specs.Page.{new_plan}
 use Rattle.client_model.specs.Answering.{begin, connect, start_reload, start_update, write_batch}
 use Rattle.client_model.specs.Runtime.{Runtime, and_then}
-use Rattle.plan_under_way.specs.Planned.{IsPlanned}
-use Rattle.plan_under_way.specs.Telling.{accept_lines, batch_lines}
-use Rattle.plan_under_way.specs.UnderWay.{IsUnderWay}
-use Rattle.plan_under_way.specs.declared.under_way.UnderWay.{UnderWay}
+use Rattle.client_plan.specs.Planned.{IsPlanned}
+use Rattle.client_plan.specs.Telling.{accept_lines, batch_lines}
+use Rattle.client_plan.specs.UnderWay.{IsUnderWay}
+use Rattle.client_plan.specs.declared.under_way.UnderWay.{UnderWay}
 use Rattle.hot_runtime.specs.Becoming.{Becomes}
 use Rattle.hot_runtime.specs.Standing.{IsPlan, IsPlannedWell, IsSound, Keeps}
 use Rattle.hot_runtime.specs.declared.runtime.HotRuntime.{HotRuntime}

@@ -17,7 +17,7 @@ use Rattle.module_language.specs.ModuleLanguage.{module_language}
 use Rattle.hot_runtime.specs.Answers.{UnlessNoMemory}
 use Rattle.hot_runtime.specs.Becoming.{Becomes, IsTaking}
 use Rattle.hot_runtime.specs.Standing.{IsSound, Keeps, StandsFor}
-use Rattle.plan_under_way.specs.UnderWay.{untold}
+use Rattle.client_plan.specs.UnderWay.{untold}
 use Rattle.hot_runtime.proofs.Moving.{plan_moved}
 use Rattle.hot_runtime.proofs.Untold.{untold_answer, untold_answered, untold_many, untold_place}
 use Rattle.hot_runtime.specs.declared.fault.RuntimeFault.{RuntimeFault}

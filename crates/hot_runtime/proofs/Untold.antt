@@ -12,7 +12,7 @@ use Rattle.client_model.specs.Expecting.{is_answer, request_place}
 use Rattle.client_model.specs.Runtime.{Runtime}
 use Rattle.client_model.specs.Taking.{is_applied, is_too_many, made_by_plan}
 use Rattle.module_language.specs.ModuleLanguage.{module_language}
-use Rattle.plan_under_way.specs.UnderWay.{is_aborted, is_applied_told, untold}
+use Rattle.client_plan.specs.UnderWay.{is_aborted, is_applied_told, untold}
 
 pub untold_answer : (asked : ClientMsg) (loaded : Bool) (m : ServerMsg) → is_answer loaded asked m ≡ is_answer loaded (untold asked) m
 untold_answer (asks.Hello format roots) loaded m = refl

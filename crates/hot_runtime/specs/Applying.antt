@@ -8,14 +8,14 @@ use Rattle.core_model.specs.Page.{Plan, new_view}
 use Rattle.core_model.specs.View.{View}
 use Rattle.client_model.specs.Runtime.{Runtime}
 use Rattle.page_plan.specs.Plans.{IsSamePlan}
-use Rattle.page_deeds.specs.declared.page.Page.{Page}
-use Rattle.plan_under_way.specs.Changing.{HasChanged, page_done}
-use Rattle.plan_under_way.specs.Finding.{IsFoundIn, IsPageOf, IsToApply}
-use Rattle.plan_under_way.specs.UnderWay.{IsReady}
-use Rattle.plan_under_way.specs.declared.finding.Found.{Found}
-use Rattle.plan_under_way.specs.declared.under_way.Next.TheVariants.{Finish}
-use Rattle.plan_under_way.specs.declared.under_way.Ready.{Ready}
-use Rattle.plan_under_way.specs.declared.under_way.UnderWay.{UnderWay}
+use Rattle.page_lifecycle.specs.declared.page.Page.{Page}
+use Rattle.client_plan.specs.Changing.{HasChanged, page_done}
+use Rattle.client_plan.specs.Finding.{IsFoundIn, IsPageOf, IsToApply}
+use Rattle.client_plan.specs.UnderWay.{IsReady}
+use Rattle.client_plan.specs.declared.finding.Found.{Found}
+use Rattle.client_plan.specs.declared.under_way.Next.TheVariants.{Finish}
+use Rattle.client_plan.specs.declared.under_way.Ready.{Ready}
+use Rattle.client_plan.specs.declared.under_way.UnderWay.{UnderWay}
 
 -- what is found for the plan that the code has is found for that of the definitions, and the page's modules
 -- are then those that it makes

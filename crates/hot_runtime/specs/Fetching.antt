@@ -9,9 +9,9 @@ use Rattle.core_model.specs.View.{View}
 use Rattle.client_model.specs.Linking.{next_needed}
 use Rattle.client_model.specs.Runtime.{Runtime}
 use Rattle.module_language.specs.ModuleLanguage.{module_language}
-use Rattle.plan_under_way.specs.Planned.{IsPlanned}
-use Rattle.plan_under_way.specs.UnderWay.{IsFetched, IsUnderWay}
-use Rattle.plan_under_way.specs.declared.under_way.UnderWay.{UnderWay}
+use Rattle.client_plan.specs.Planned.{IsPlanned}
+use Rattle.client_plan.specs.UnderWay.{IsFetched, IsUnderWay}
+use Rattle.client_plan.specs.declared.under_way.UnderWay.{UnderWay}
 
 -- the plan with the text that came: it is the plan of the definitions with that text, and is planned as
 -- well as before

@@ -10,13 +10,13 @@ use Rattle.client_model.specs.Past.{Past, runtime_after}
 use Rattle.client_model.specs.Runtime.{Runtime, Opening}
 use Rattle.module_language.specs.ModuleLanguage.{module_language}
 use Rattle.handler_table.specs.Held.{Answers}
-use Rattle.page_deeds.specs.Live.{number_of}
-use Rattle.page_deeds.specs.Standing as deeds
-use Rattle.page_deeds.specs.Standing.{KeepWords}
-use Rattle.plan_under_way.specs.Planned.{AreCounted, IsPlanned, count_in}
-use Rattle.plan_under_way.specs.UnderWay.{IsUnderWay}
-use Rattle.plan_under_way.specs.Whole.{IsWhole}
-use Rattle.plan_under_way.specs.declared.under_way.UnderWay.{UnderWay}
+use Rattle.page_lifecycle.specs.Live.{number_of}
+use Rattle.page_lifecycle.specs.Standing as deeds
+use Rattle.page_lifecycle.specs.Standing.{KeepWords}
+use Rattle.client_plan.specs.Planned.{AreCounted, IsPlanned, count_in}
+use Rattle.client_plan.specs.UnderWay.{IsUnderWay}
+use Rattle.client_plan.specs.Whole.{IsWhole}
+use Rattle.client_plan.specs.declared.under_way.UnderWay.{UnderWay}
 use Rattle.hot_runtime.specs.declared.runtime.HotRuntime.{HotRuntime}
 
 -- both have a plan, and it is the same; or neither has one

@@ -8,7 +8,7 @@ ghost use Rattle.client_model.specs.Expecting.{is_answer};
 ghost use Rattle.client_model.specs.Requesting.{request};
 ghost use Rattle.client_model.specs.Runtime.{Runtime};
 ghost use Rattle.module_language.specs.ModuleLanguage.{module_language};
-ghost use Rattle.plan_under_way.specs.declared.under_way.UnderWay.{UnderWay};
+ghost use Rattle.client_plan.specs.declared.under_way.UnderWay.{UnderWay};
 ghost use Rattle.hot_runtime.specs.Becoming.{Becomes};
 ghost use Rattle.hot_runtime.specs.Fetching.{IsStagedIn};
 ghost use Rattle.hot_runtime.specs.Standing.{IsSound, Keeps};
@@ -18,7 +18,7 @@ use const_eval::Ran;
 use hmr_types::{ModName, Text, Ver};
 use module_graph::View;
 use output_lines::OutLine;
-use plan_under_way::UnderWay;
+use client_plan::UnderWay;
 use retained_data::Bag;
 use std::alloc::{AllocError, Global};
 

@@ -7,14 +7,14 @@ ghost use Rattle.client_model.specs.Past.{Past, runtime_after};
 ghost use Rattle.client_model.specs.Requesting.{ask_or_invalidate, request};
 ghost use Rattle.client_model.specs.Runtime.{Opening, Runtime};
 ghost use Rattle.module_language.specs.ModuleLanguage.{module_language};
-ghost use Rattle.page_deeds.specs.Standing.{invalidation_as};
-ghost use Rattle.plan_under_way.specs.UnderWay.{untold};
+ghost use Rattle.page_lifecycle.specs.Standing.{invalidation_as};
+ghost use Rattle.client_plan.specs.UnderWay.{untold};
 ghost use Rattle.hot_runtime.specs.Standing.{Keeps, StandsFor};
 
 use crate::runtime::HotRuntime;
 use hmr_types::{Sequence, Text};
 use module_graph::{copy_name, copy_of};
-use page_deeds::Invalidation;
+use page_lifecycle::Invalidation;
 use std::alloc::AllocError;
 use update_msgs::ClientMsg;
 

@@ -1,4 +1,4 @@
-// What a client keeps. The page's instances, data and closures are kept by `page_deeds`; here stand its
+// What a client keeps. The page's instances, data and closures are kept by `page_lifecycle`; here stand its
 // modules and the plan under way.
 ghost use Rattle.std.specs.Prelude.{◌≡◌, [], false, OnOk};
 ghost use Rattle.std.specs.List.{All};
@@ -15,8 +15,8 @@ use const_eval::Ran;
 use handler_table::Shelf;
 use hmr_types::{ClientId, ModName, Sequence};
 use module_graph::View;
-use page_deeds::Page;
-use plan_under_way::UnderWay;
+use page_lifecycle::Page;
+use client_plan::UnderWay;
 use retained_data::Bag;
 use std::alloc::{AllocError, Global};
 

@@ -6,7 +6,7 @@ ghost use Rattle.client_model.specs.Printing.{fate_lines, table, value_lines};
 ghost use Rattle.client_model.specs.Runtime.{Opening, Runtime};
 ghost use Rattle.client_model.specs.Stale.{stale_of};
 ghost use Rattle.module_language.specs.ModuleLanguage.{module_language};
-ghost use Rattle.page_deeds.specs.Standing as deeds;
+ghost use Rattle.page_lifecycle.specs.Standing as deeds;
 ghost use Rattle.hot_runtime.specs.Showing.{stale_row};
 ghost use Rattle.hot_runtime.specs.Standing.{StandsFor};
 
@@ -14,7 +14,7 @@ use crate::runtime::HotRuntime;
 use hmr_types::{ModName, Table};
 use module_graph::{copy_of, rising};
 use output_lines::OutLine;
-use plan_under_way::table_of;
+use client_plan::table_of;
 use std::alloc::AllocError;
 
 impl<F> HotRuntime<F> {

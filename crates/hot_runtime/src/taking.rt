@@ -7,7 +7,7 @@ ghost use Rattle.client_model.specs.Requesting.{request};
 ghost use Rattle.client_model.specs.Runtime.{Opening, Runtime};
 ghost use Rattle.client_model.specs.Taking.{is_applied, is_too_many, made_by_plan, take};
 ghost use Rattle.module_language.specs.ModuleLanguage.{module_language};
-ghost use Rattle.plan_under_way.specs.UnderWay.{is_applied_told, untold};
+ghost use Rattle.client_plan.specs.UnderWay.{is_applied_told, untold};
 ghost use Rattle.hot_runtime.specs.declared.fault.RuntimeFault.TheVariants.{Stopped};
 ghost use Rattle.hot_runtime.specs.Answers.{IsTaken, OnRefusal, OnStop, UnlessNoMemory};
 ghost use Rattle.hot_runtime.specs.Becoming.{IsTaking};

@@ -6,8 +6,8 @@ ghost use Rattle.hmr_hub.specs.Passes.{IsPassOf};
 
 use hmr_hub::{Hub, Pass};
 use hmr_types::ClientId;
-use hub_desks::HubDesk;
-use links::{MemLink, Net, TellNet};
+use session_desks::HubDesk;
+use transport::{MemLink, Net, TellNet};
 use sessions::{Ended, serve_session};
 use std::alloc::{AllocError, Global};
 use std::collections::VecDeque;

@@ -7,7 +7,7 @@ use Rattle.std.proofs.lemmas.Grind.{flat_map-append}
 use Rattle.std.proofs.lemmas.List.{append-nil}
 use Rattle.hmr_base.specs.Fronts.{WritesFront}
 use Rattle.hmr_base.proofs.Fronts.{front_more}
-use Rattle.outside_calls.specs.declared.out_fault.OutFault.{OutFault}
+use Rattle.hmr_base.specs.declared.out_fault.OutFault.{OutFault}
 use Rattle.output_lines.specs.declared.out_line.OutLine.{OutLine}
 use Rattle.play_text.specs.Lines.{line_text}
 use Rattle.update_msgs.specs.declared.message.ClientMsg.TheVariants.{Bye}
@@ -21,7 +21,7 @@ use Rattle.client_sessions.specs.Course.{ClientCourse, Talked, TurnEnded, TurnTa
 use Rattle.client_sessions.specs.Exchange.{Ends, takes_bye}
 use Rattle.client_sessions.proofs.Talking.{ended_at_bye, ended_in_turn, talked_more, talked_none, unopened}
 use Rattle.join_command.specs.declared.stop.JoinStop.{JoinStop}
-use Rattle.links.specs.Told.{told_front, told_none, told_of}
+use Rattle.transport.specs.Told.{told_front, told_none, told_of}
 use Rattle.join_command.specs.Joining.{Bytes, IsWriteStop, Joins, JoinsAt, JoinsBy, JoinsOver, Words, ends_as, lines_text}
 
 -- so many requests of a new runtime were answered, and the lines of their answers are written

@@ -4,12 +4,12 @@ use Prim.{⊥}
 use Rattle.std.specs.List.{AllZip, flat_map}
 use Rattle.std.specs.Io.KnownBytes.{Appends}
 use Rattle.hmr_base.specs.Fronts.{WritesFront}
-use Rattle.outside_calls.specs.declared.out_fault.OutFault.{OutFault}
-use Rattle.outside_calls.specs.declared.out_fault.OutFault.TheVariants as faults
+use Rattle.hmr_base.specs.declared.out_fault.OutFault.{OutFault}
+use Rattle.hmr_base.specs.declared.out_fault.OutFault.TheVariants as faults
 use Rattle.output_lines.specs.declared.out_line.OutLine.{OutLine}
 use Rattle.play_text.specs.Lines.{line_text}
 use Rattle.update_msgs.specs.declared.message.ServerMsg.{ServerMsg}
-use Rattle.links.specs.Told.{told_and, told_front, told_none}
+use Rattle.transport.specs.Told.{told_and, told_front, told_none}
 use Rattle.client_model.specs.Runtime.{Opening}
 use Rattle.sessions.specs.declared.ended.Ended.{Ended}
 use Rattle.sessions.specs.declared.ended.Ended.TheVariants as ends

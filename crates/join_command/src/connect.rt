@@ -4,7 +4,7 @@ ghost use Rattle.std.specs.List.{All};
 ghost use Rattle.handler_table.specs.Held.{IsHost};
 ghost use Rattle.handler_table.specs.Shelf.{marks_of};
 ghost use Rattle.hmr_base.specs.Causes.{Rose};
-ghost use Rattle.links.specs.declared.net.Asked.{Asked};
+ghost use Rattle.transport.specs.declared.net.Asked.{Asked};
 ghost use Rattle.join_command.specs.Joining.{JoinsAt, JoinsBy};
 
 use crate::session::run;
@@ -14,7 +14,7 @@ use handler_table::Shelf;
 use hmr_base::Sink;
 use hmr_types::ModName;
 use hot_runtime::HotRuntime;
-use links::Net;
+use transport::Net;
 use retained_data::Bag;
 use std::alloc::{AllocError, Global};
 

@@ -1,7 +1,7 @@
 // A client's session whose lines are written answer by answer, before the next request is sent.
 ghost use Rattle.std.specs.Prelude.{◌≡◌, ◌≤◌, [], Err};
 ghost use Rattle.hmr_base.specs.Causes.{Rose};
-ghost use Rattle.links.specs.declared.link.Phase.{Phase};
+ghost use Rattle.transport.specs.declared.link.Phase.{Phase};
 ghost use Rattle.client_model.specs.Runtime.{Opening};
 ghost use Rattle.hot_runtime.specs.Standing.{KeepsWords, StandsFor};
 ghost use Rattle.client_sessions.specs.Asking.{IsNew};
@@ -13,7 +13,7 @@ use client_sessions::{Ended, bye, turn};
 use const_eval::Ran;
 use hmr_base::Sink;
 use hot_runtime::HotRuntime;
-use links::Link;
+use transport::Link;
 use retained_data::Bag;
 use std::alloc::{AllocError, Global};
 

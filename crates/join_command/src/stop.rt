@@ -5,7 +5,7 @@ ghost use Rattle.join_command.specs.Joining.{ends_as};
 
 use client_sessions::Ended;
 use hmr_base::WriteFault;
-use links::OutFault;
+use transport::OutFault;
 use std::alloc::AllocError;
 
 /// Why [`join`](crate::join) stopped otherwise than by a bye or a server that closed.

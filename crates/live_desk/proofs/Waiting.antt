@@ -11,8 +11,8 @@ use Rattle.update_msgs.specs.declared.message.ServerMsg.TheVariants.{Idle}
 use Rattle.core_model.specs.declared.refusal.Refusal.{Refusal}
 use Rattle.server_core.specs.declared.event.Reply.{Reply}
 use Rattle.transform_pool.specs.Boards.{full_after}
-use Rattle.hub_desks.specs.declared.desk.HubDesk.{HubDesk}
-use Rattle.hub_desks.specs.Desks.{Dealt, DealtBy, IsAnswer, Left, LeftBy, SameDesk, refusal_of}
+use Rattle.session_desks.specs.declared.desk.HubDesk.{HubDesk}
+use Rattle.session_desks.specs.Desks.{Dealt, DealtBy, IsAnswer, Left, LeftBy, SameDesk, refusal_of}
 use Rattle.live_desk.specs.Waiting.{Answered, Asked}
 
 or_none : (b : Bool) → b ≡ (b || false)

@@ -1,6 +1,6 @@
 -- What is kept of a live board.
 use Rattle.std.specs.Prelude.{Bool}
-use Rattle.hub_desks.specs.Boards.{SameBoard, has_ended}
+use Rattle.session_desks.specs.Boards.{SameBoard, has_ended}
 use Rattle.live_desk.specs.declared.board.LiveBoard.{LiveBoard}
 
 -- the same hub and queue, and a pass of the same number

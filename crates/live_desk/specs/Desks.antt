@@ -3,7 +3,7 @@ use Rattle.std.specs.Prelude.{◌≡◌, Bool, List}
 use Rattle.update_msgs.specs.declared.message.ClientMsg.{ClientMsg}
 use Rattle.update_msgs.specs.declared.message.ServerMsg.{ServerMsg}
 use Rattle.hmr_hub.specs.Passes.{number_of}
-use Rattle.hub_desks.specs.declared.desk.HubDesk.{HubDesk}
+use Rattle.session_desks.specs.declared.desk.HubDesk.{HubDesk}
 use Rattle.live_desk.specs.declared.desk.LiveDesk.{LiveDesk}
 use Rattle.live_desk.specs.Dealings.{deals_of}
 use Rattle.live_desk.specs.Sessions.{HasDealt}

@@ -10,8 +10,8 @@ use Rattle.core_model.specs.declared.refusal.Refusal.{Refusal}
 use Rattle.core_model.specs.Core.{disconnect}
 use Rattle.core_model.specs.Exchange.{event_of, refusal_message}
 use Rattle.server_core.specs.declared.event.Reply.{Reply}
-use Rattle.hub_desks.specs.declared.desk.HubDesk.{HubDesk}
-use Rattle.hub_desks.specs.Desks.{IsAnswer, client_with, refusal_of}
+use Rattle.session_desks.specs.declared.desk.HubDesk.{HubDesk}
+use Rattle.session_desks.specs.Desks.{IsAnswer, client_with, refusal_of}
 use Rattle.live_desk.specs.Calls.{Call, HasCalled}
 
 -- a message that a desk was handed, the answer, and the calls that came of it

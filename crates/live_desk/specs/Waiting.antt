@@ -5,8 +5,8 @@ use Rattle.update_msgs.specs.declared.message.ClientMsg.{ClientMsg}
 use Rattle.update_msgs.specs.declared.message.ClientMsg.TheVariants as told
 use Rattle.update_msgs.specs.declared.message.ServerMsg.{ServerMsg}
 use Rattle.update_msgs.specs.declared.message.ServerMsg.TheVariants.{Idle}
-use Rattle.hub_desks.specs.declared.desk.HubDesk.{HubDesk}
-use Rattle.hub_desks.specs.Desks.{Dealt}
+use Rattle.session_desks.specs.declared.desk.HubDesk.{HubDesk}
+use Rattle.session_desks.specs.Desks.{Dealt}
 
 -- an ask to which there is something to say, or no answer
 pub record AskedOnce {R : Type 0} (x y : HubDesk R) (result : Result ServerMsg HubStop) : Type 0 where

@@ -5,13 +5,13 @@ ghost use Rattle.hmr_types.specs.declared.limits.TheConstants.{MESSAGE_BYTES};
 ghost use Rattle.std.specs.Arc.{arc_value};
 ghost use Rattle.hmr_hub.specs.Passes.{IsPassOf, seen_of};
 ghost use Rattle.hub_moves.specs.Fullness.{IsNearlyFull};
-ghost use Rattle.hub_desks.specs.Boards.{has_ended};
+ghost use Rattle.session_desks.specs.Boards.{has_ended};
 
 use crate::bell::Bell;
 use crate::news_board::NewsBoard;
 use hmr_hub::Pass;
 use hmr_types::{Outcome, Ver};
-use hub_desks::HubBoard;
+use session_desks::HubBoard;
 use import_scan::Transformed;
 use live_lines::{News, line_at};
 use std::alloc::{AllocError, Global};

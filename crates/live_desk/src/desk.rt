@@ -14,7 +14,7 @@ use crate::exchange::{is_ask, is_change, is_idle};
 use crate::news_board::NewsBoard;
 use hmr_hub::{Hub, Pass};
 use hmr_types::ClientId;
-use hub_desks::HubDesk;
+use session_desks::HubDesk;
 use live_lines::{Asked, ImportedName, News, PageLog, PageNews};
 use live_site::Site;
 use std::alloc::Global;
@@ -99,7 +99,7 @@ impl<R: Drop, S: Drop> LiveDesk<R, S> {
 }
 
 impl<R: Wait + Drop, S: Site + Drop> LiveDesk<R, S> {
-    ghost use Rattle.hub_desks.specs.Desks.{Left, SameDesk};
+    ghost use Rattle.session_desks.specs.Desks.{Left, SameDesk};
     ghost use Rattle.live_desk.specs.Waiting.{Answered, Asked as IsAsked};
 
     /// Answers a message whose names and texts have at most 16,777,216 bytes together, and tells what the

@@ -5,7 +5,7 @@
 //! [`NewsBoard`], from which one thread takes it. A [`LiveBoard`] stands round a board of the hub: it waits
 //! until there is a job for it, and rings for each result.
 //!
-//! Stands on `hub_desks` for desks and boards, on `live_lines` for what an exchange shows, and on
+//! Stands on `session_desks` for desks and boards, on `live_lines` for what an exchange shows, and on
 //! `live_site` for the names that a text imports. Keeps: each answer is one that the hub's desk dealt, the
 //! last where an ask was dealt twice, and the first of the two was idle; over any number of answers a desk's
 //! pass goes on by just the events of the messages that were dealt; the pass and the hub are those of the desk

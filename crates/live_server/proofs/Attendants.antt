@@ -5,12 +5,12 @@ use Rattle.std.specs.Option.{option_map}
 use Rattle.std.proofs.lemmas.Bool.{false≢true}
 use Rattle.hmr_hub.specs.declared.pass.Pass.{Pass}
 use Rattle.hmr_hub.specs.Passes.{number_of}
-use Rattle.hub_desks.specs.Desks.{Left, SameDesk}
+use Rattle.session_desks.specs.Desks.{Left, SameDesk}
 use Rattle.live_desk.specs.declared.desk.LiveDesk.{LiveDesk}
 use Rattle.live_desk.specs.Desks.{GoesOn, told_by}
 use Rattle.live_desk.specs.Sessions.{HasDealt, Session}
 use Rattle.live_desk.proofs.Sessions.{dealt_none, session_held}
-use Rattle.links.specs.Told.{told_and}
+use Rattle.transport.specs.Told.{told_and}
 use Rattle.sessions.specs.Course.{Comes, Course}
 use Rattle.sessions.specs.declared.ended.Ended.{Ended}
 use Rattle.live_server.specs.Held.{HasHeld, IsServed}

@@ -6,7 +6,7 @@ use Rattle.std.proofs.lemmas.List.Elements.{All-nil}
 use Rattle.core_model.specs.Names.{Name}
 use Rattle.doors.specs.declared.door.Door as Door
 use Rattle.doors.specs.declared.visitor.Visitor as Visitor
-use Rattle.links.specs.declared.link.Link as Link
+use Rattle.transport.specs.declared.link.Link as Link
 use Rattle.jobs.specs.declared.running.Running.{Running}
 use Rattle.jobs.specs.Begun.{none_begun, one_more}
 use Rattle.jobs.specs.Runs.{Runs}

@@ -4,7 +4,7 @@ use Rattle.std.specs.Arc.{arc_value}
 use Rattle.atomic_table.specs.Seated.{TableId}
 use Rattle.doors.specs.declared.door.Door as Door
 use Rattle.doors.specs.declared.visitor.Visitor as Visitor
-use Rattle.links.specs.declared.link.Link as Link
+use Rattle.transport.specs.declared.link.Link as Link
 use Rattle.jobs.specs.Ends.{Finished}
 use Rattle.hmr_hub.specs.Passes.{hub_mark}
 use Rattle.live_server.specs.declared.job.LiveJob.{LiveJob}

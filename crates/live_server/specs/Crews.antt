@@ -4,7 +4,7 @@ use Rattle.std.specs.List.{All}
 use Rattle.std.specs.Global.{Vec}
 use Rattle.doors.specs.declared.door.Door as Door
 use Rattle.doors.specs.declared.visitor.Visitor as Visitor
-use Rattle.links.specs.declared.link.Link as Link
+use Rattle.transport.specs.declared.link.Link as Link
 use Rattle.jobs.specs.declared.running.Running.{Running}
 use Rattle.jobs.specs.Runs.{Runs}
 use Rattle.hmr_hub.specs.declared.pass.Hub.{Hub}

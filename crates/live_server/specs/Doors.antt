@@ -3,7 +3,7 @@ use Rattle.std.specs.Prelude.{◌≡◌, ◌≤◌, ◌+◌, ℕ, ⊤, List, All
 use Rattle.core_model.specs.Names.{Name}
 use Rattle.doors.specs.declared.door.Door as Door
 use Rattle.doors.specs.declared.visitor.Visitor as Visitor
-use Rattle.links.specs.declared.link.Link as Link
+use Rattle.transport.specs.declared.link.Link as Link
 use Rattle.jobs.specs.declared.running.Running.{Running}
 use Rattle.jobs.specs.Runs.{promise_of}
 use Rattle.hmr_hub.specs.declared.pass.Pass.{Pass}

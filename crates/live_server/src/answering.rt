@@ -1,11 +1,11 @@
 // Heads of HTTP are answered one after another, until a visitor asks for a WebSocket or is to go.
 ghost use Rattle.std.specs.Prelude.{◌≡◌, ◌≤◌};
-ghost use Rattle.links.specs.declared.link.Phase.{Phase};
+ghost use Rattle.transport.specs.declared.link.Phase.{Phase};
 
 use crate::shared::Shared;
 use doors::{Coming, Visitor};
 use hmr_types::Text;
-use links::Link;
+use transport::Link;
 use live_answers::{Answer, Next, answer_to_long, foreign_text};
 use live_lines::{Foreign, News};
 use live_site::Site;

@@ -3,14 +3,14 @@ ghost use Rattle.std.specs.Prelude.{◌≡◌, ◌≤◌, ◌||◌, Some, false,
 ghost use Rattle.std.specs.Option.{ForSome};
 ghost use Rattle.std.proofs.Common.{◌∙◌};
 ghost use Rattle.std.specs.Arc.{arc_value};
-ghost use Rattle.links.specs.declared.link.Phase.{Phase};
+ghost use Rattle.transport.specs.declared.link.Phase.{Phase};
 ghost use Rattle.hmr_hub.specs.Passes.{IsPassOf};
 
 use crate::answering::answer_heads;
 use crate::shared::Shared;
 use doors::{Attendant, Visitor};
 use hmr_hub::{Hub, Pass};
-use links::Link;
+use transport::Link;
 use live_desk::LiveDesk;
 use live_site::Site;
 use sessions::serve_session;

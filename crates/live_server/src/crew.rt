@@ -22,7 +22,7 @@ use crate::shared::Shared;
 use crate::taking::{hand_back, take_in};
 use doors::{Door, Entrance};
 use hmr_hub::{Hub, Pass};
-use hub_desks::HubBoard;
+use session_desks::HubBoard;
 use jobs::{Running, Spawner, start};
 use live_desk::LiveBoard;
 use live_site::Site;

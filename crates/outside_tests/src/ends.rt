@@ -1,8 +1,8 @@
 // The two sides of a connection: one asks and is answered, the other is asked and answers.
 ghost use Rattle.std.specs.Prelude.{◌≡◌, None, IsSome};
-ghost use Rattle.links.specs.declared.link.Phase.{Phase};
+ghost use Rattle.transport.specs.declared.link.Phase.{Phase};
 
-use links::{Link, Net, OutFault};
+use transport::{Link, Net, OutFault};
 use std::alloc::{AllocError, Global};
 
 /// Sends messages, in order.

@@ -2,8 +2,8 @@
 //! them.
 //!
 //! Each file is an area: the two sides of a connection, calls that are planned to fail, what a folder shows,
-//! when an `open` of it waits, and scans of folders that are deep or full. Stands on `links`, `folders`,
-//! `folder_watch` and `outside_calls`, and no crate stands on it. Keeps: what is expected is written by
+//! when an `open` of it waits, and scans of folders that are deep or full. Stands on `transport`, `folders`,
+//! `folder_watch` and `hmr_base`, and no crate stands on it. Keeps: what is expected is written by
 //! hand, and is the same whatever the schedule. Knows nothing of what is private in the crates below.
 #![tactic(auto)]
 

@@ -2,7 +2,7 @@
 ghost use Rattle.std.specs.Prelude.{◌≡◌, None};
 
 use crate::{ask, receive, send_all, serve};
-use links::{Link, MemNet, Net, OutFault, TellNet};
+use transport::{Link, MemNet, Net, OutFault, TellNet};
 use std::alloc::Global;
 use std::collections::VecDeque;
 use std::test::Fail;

@@ -1,7 +1,7 @@
 // Calls fail exactly where the plan says.
 use crate::{end_trial, net_trial};
 use hmr_base::{Failed, FaultPlan};
-use links::{Net, TellNet};
+use transport::{Net, TellNet};
 use std::alloc::{AllocError, Global};
 use std::collections::VecDeque;
 use std::test::Fail;

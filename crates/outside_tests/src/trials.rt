@@ -1,8 +1,8 @@
 // Which calls of a net and of an end fail, one after another.
 ghost use Rattle.std.specs.Prelude.{◌≡◌, None, Some, IsSome};
-ghost use Rattle.links.specs.declared.link.Phase.{Phase};
+ghost use Rattle.transport.specs.declared.link.Phase.{Phase};
 
-use links::{Link, Net};
+use transport::{Link, Net};
 use std::alloc::Global;
 
 /// Which calls fail of a net that listens, connects to itself and accepts. Where it doesn't listen, the

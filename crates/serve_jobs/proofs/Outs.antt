@@ -3,17 +3,17 @@ use Rattle.std.proofs.Common.{◌≡◌, Bool, true, false, refl, ap, sym, ◌�
 use Rattle.std.specs.Prelude.{◌==◌, Some, Result, Ok, Err}
 use Rattle.std.specs.Arc.{arc_value}
 use Rattle.atomic_table.specs.Seated.{TableId}
-use Rattle.links.specs.declared.link.Link as Link
+use Rattle.transport.specs.declared.link.Link as Link
 use Rattle.sessions.specs.declared.ended.Ended.{Ended}
 use Rattle.sessions.specs.declared.ended.Ended.TheVariants.{Stopped}
 use Rattle.update_msgs.specs.declared.desk.HubStop.{HubStop}
 use Rattle.update_msgs.specs.declared.desk.HubStop.TheVariants.{TranscriptFull, NoMemory}
 use Rattle.transform_pool.specs.Boards.{full_after}
 use Rattle.hmr_hub.specs.Passes.{hub_mark, mark_of, number_of}
-use Rattle.hub_desks.specs.declared.board.HubBoard.{HubBoard}
-use Rattle.hub_desks.specs.declared.desk.HubDesk.{HubDesk}
-use Rattle.hub_desks.specs.Boards.{SameBoard}
-use Rattle.hub_desks.specs.Desks.{Left, LeftBy, SameDesk}
+use Rattle.session_desks.specs.declared.board.HubBoard.{HubBoard}
+use Rattle.session_desks.specs.declared.desk.HubDesk.{HubDesk}
+use Rattle.session_desks.specs.Boards.{SameBoard}
+use Rattle.session_desks.specs.Desks.{Left, LeftBy, SameDesk}
 use Rattle.serve_jobs.specs.declared.job.SessionJob.{SessionJob}
 use Rattle.serve_jobs.specs.declared.job.ServeJob.{ServeJob}
 use Rattle.serve_jobs.specs.declared.job.ServeJob.TheVariants.{Worker, Session}

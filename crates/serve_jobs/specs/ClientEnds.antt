@@ -1,7 +1,7 @@
 -- How the job of a client ends.
 use Rattle.std.specs.Prelude.{◌≡◌, ◌≢◌, ℕ, Bool, Option, Some, is_some, option_map}
-use Rattle.links.specs.declared.link.Phase.{Phase}
-use Rattle.links.specs.declared.link.Phase.TheVariants.{Shut}
+use Rattle.transport.specs.declared.link.Phase.{Phase}
+use Rattle.transport.specs.declared.link.Phase.TheVariants.{Shut}
 use Rattle.sessions.specs.declared.ended.Ended.{Ended}
 use Rattle.sessions.specs.declared.ended.Ended.TheVariants.{LinkFault, Stopped}
 

@@ -3,7 +3,7 @@ use Rattle.std.specs.Prelude.{◌≡◌, ◌≤◌, ℕ, Bool, List, Option, Som
 use Rattle.std.specs.Global.{Vec}
 use Rattle.hmr_base.specs.Causes.{Rose}
 use Rattle.output_lines.specs.declared.out_line.OutLine.{OutLine}
-use Rattle.links.specs.declared.link.Link as Link
+use Rattle.transport.specs.declared.link.Link as Link
 use Rattle.client_model.specs.Runtime.{Opening}
 use Rattle.handler_table.specs.Shelf.{marks_of}
 use Rattle.sessions.specs.declared.ended.Ended.{Ended}

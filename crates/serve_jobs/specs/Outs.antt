@@ -3,16 +3,16 @@ use Rattle.std.specs.Prelude.{◌≡◌, ◌≢◌, ◌≤◌, ◌↔◌, ℕ, B
 use Prim.{⊥}
 use Rattle.atomic_table.specs.Seated.{TableId}
 use Rattle.hmr_base.specs.Causes.{Rose}
-use Rattle.links.specs.declared.link.Link as Link
-use Rattle.links.specs.declared.link.Phase.TheVariants.{Shut}
+use Rattle.transport.specs.declared.link.Link as Link
+use Rattle.transport.specs.declared.link.Phase.TheVariants.{Shut}
 use Rattle.sessions.specs.Course.{Course}
 use Rattle.sessions.specs.declared.ended.Ended.{Ended}
 use Rattle.sessions.specs.declared.ended.Ended.TheVariants.{LinkFault, Stopped}
 use Rattle.update_msgs.specs.declared.desk.HubStop.TheVariants.{TranscriptFull}
 use Rattle.hmr_hub.specs.Passes.{mark_of}
-use Rattle.hub_desks.specs.Boards.{SameBoard}
-use Rattle.hub_desks.specs.Desks.{Left, SameDesk}
-use Rattle.hub_desks.specs.declared.desk.HubDesk.{HubDesk}
+use Rattle.session_desks.specs.Boards.{SameBoard}
+use Rattle.session_desks.specs.Desks.{Left, SameDesk}
+use Rattle.session_desks.specs.declared.desk.HubDesk.{HubDesk}
 use Rattle.serve_jobs.specs.declared.job.ServeJob.{ServeJob}
 use Rattle.serve_jobs.specs.declared.job.ServeJob.TheVariants.{Worker, Session}
 use Rattle.serve_jobs.specs.declared.job.ServeOut.{ServeOut}

@@ -1,6 +1,6 @@
 -- Which client a started one is.
 use Rattle.std.specs.Prelude.{◌≡◌}
-use Rattle.links.specs.declared.link.Link as Link
+use Rattle.transport.specs.declared.link.Link as Link
 use Rattle.jobs.specs.Runs.{promise_of}
 use Rattle.serve_jobs.specs.declared.client.ClientJob.{ClientJob}
 use Rattle.serve_jobs.specs.declared.client_threads.RunningClient.{RunningClient}

@@ -1,7 +1,7 @@
 // A client of the program's own. It is no `Job`: what is known of its closures can stand in clauses alone,
 // and a trait's `work` has none for them.
 ghost use Rattle.std.specs.Prelude.{◌≡◌, All, [], false, true};
-ghost use Rattle.links.specs.declared.link.Phase.TheVariants.{Fresh};
+ghost use Rattle.transport.specs.declared.link.Phase.TheVariants.{Fresh};
 ghost use Rattle.update_msgs.specs.Writable.{IsFormat};
 ghost use Rattle.handler_table.specs.Held.{IsHost};
 ghost use Rattle.hot_runtime.specs.Standing.{KeepsWords, StandsFor};
@@ -12,7 +12,7 @@ use const_eval::Ran;
 use handler_table::Shelf;
 use hmr_types::{ClientId, ModName};
 use hot_runtime::HotRuntime;
-use links::Link;
+use transport::Link;
 use output_lines::OutLine;
 use retained_data::Bag;
 use sessions::Ended;

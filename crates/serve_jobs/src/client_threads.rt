@@ -11,7 +11,7 @@ ghost use Rattle.serve_jobs.specs.RunningClients.{RunsClient};
 use crate::client::{ClientEnd, ClientJob};
 use const_eval::Ran;
 use jobs::{Spawner, Thread, finish_thread, start_thread};
-use links::Link;
+use transport::Link;
 use retained_data::Bag;
 use std::alloc::{AllocError, Global};
 use std::snapshot::Snapshot;

@@ -1,10 +1,10 @@
 // The jobs of a server, and what each ends in, as types.
 ghost use Rattle.std.specs.Prelude.{◌≡◌, false};
-ghost use Rattle.links.specs.declared.link.Phase.TheVariants.{Fresh};
-ghost use Rattle.hub_desks.specs.Boards.{has_ended};
+ghost use Rattle.transport.specs.declared.link.Phase.TheVariants.{Fresh};
+ghost use Rattle.session_desks.specs.Boards.{has_ended};
 
-use hub_desks::{HubBoard, HubDesk};
-use links::Link;
+use session_desks::{HubBoard, HubDesk};
+use transport::Link;
 use sessions::Ended;
 use update_msgs::HubStop;
 

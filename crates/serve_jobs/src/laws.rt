@@ -2,7 +2,7 @@
 ghost use Rattle.serve_jobs.specs.Outs.{JobOf, OutIsGood, OutOf};
 
 use crate::job::ServeJob;
-use links::Link;
+use transport::Link;
 
 /// An Out of a job has a pass of the job's hub.
 pub fn an_out_is_of_its_jobs_hub<R: Drop, L: Link + Drop, G: Drop>()

@@ -2,7 +2,7 @@
 //!
 //! A [`ServeJob`] is a worker or a session; worked or given up, it ends in a [`ServeOut`]. A [`ClientJob`]
 //! is a client of the program's own, which [`start_client`] begins in a thread and [`finish_client`] waits
-//! for; it ends in a [`ClientEnd`]. Stands on `hub_desks` for desks and boards, on `transform_pool`,
+//! for; it ends in a [`ClientEnd`]. Stands on `session_desks` for desks and boards, on `transform_pool`,
 //! `sessions` and `client_sessions` for the work itself, and on `jobs` for what a job is and what counts its
 //! start. Keeps: an Out is of its job's kind, with the job's hub and passes; its link is shut; an ending by
 //! a fault of the link or by a full transcript stands in it only where the link, or the desk or board, shows

@@ -3,7 +3,7 @@ ghost use Rattle.std.specs.Prelude.{◌≡◌, false, true};
 
 use crate::job::{ServeJob, ServeOut, SessionJob, WorkerJob};
 use jobs::{Gate, Job};
-use links::Link;
+use transport::Link;
 use sessions::serve_session;
 use std::alloc::Global;
 use std::sync::Wait;

@@ -1,7 +1,7 @@
 // A net that counts the ends that it gives and takes back.
 ghost use Rattle.std.specs.Prelude.{◌≡◌};
 
-use links::{Net, OutFault};
+use transport::{Net, OutFault};
 use std::alloc::Global;
 
 /// Hands each call on to another net, and counts the ends that this gives and takes back.

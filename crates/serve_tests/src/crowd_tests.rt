@@ -5,7 +5,7 @@ use const_eval::Ran;
 use folder_server::Plan;
 use handler_table::host_run;
 use jobs::OpenGate;
-use links::MemNet;
+use transport::MemNet;
 use retained_data::Bag;
 use std::alloc::{AllocError, Global};
 use std::collections::{BTreeMap, VecDeque};

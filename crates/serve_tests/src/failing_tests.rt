@@ -6,7 +6,7 @@ use const_eval::Ran;
 use folder_server::ServeStop;
 use handler_table::host_run;
 use jobs::OpenGate;
-use links::MemNet;
+use transport::MemNet;
 use retained_data::Bag;
 use std::alloc::{AllocError, Global};
 use std::collections::VecDeque;

@@ -4,7 +4,7 @@ use crate::site::{Site, files};
 use crate::turning_gate::TurningGate;
 use const_eval::Ran;
 use handler_table::host_run;
-use links::MemNet;
+use transport::MemNet;
 use retained_data::Bag;
 use std::alloc::{AllocError, Global};
 use std::collections::VecDeque;

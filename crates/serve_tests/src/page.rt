@@ -9,7 +9,7 @@ use folders::MemTree;
 use handler_table::Shelf;
 use hmr_base::MemSink;
 use jobs::{CutSpawner, Gate, ThreadSpawner};
-use links::Net;
+use transport::Net;
 use retained_data::Bag;
 use std::alloc::{AllocError, Global};
 use std::slice;

@@ -8,7 +8,7 @@ use handler_table::{Shelf, host_run};
 use hmr_base::MemSink;
 use jobs::OpenGate;
 use join_command::{JoinStop, join};
-use links::{MemNet, Net};
+use transport::{MemNet, Net};
 use retained_data::Bag;
 use std::alloc::{AllocError, Global};
 use std::collections::VecDeque;

@@ -7,7 +7,7 @@ use client_sessions::{Ended, client_session};
 use const_eval::Ran;
 use handler_table::{Shelf, host_run};
 use hot_runtime::HotRuntime;
-use links::{MemLink, Net, TellNet};
+use transport::{MemLink, Net, TellNet};
 use message_json::MsgFault;
 use output_lines::OutLine;
 use play_text::render;

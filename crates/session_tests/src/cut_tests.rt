@@ -1,6 +1,6 @@
 // Connections that are cut, at each place of a session: the k-th call of the server's end fails.
 use crate::ends::{ask_one, serve_one};
-use links::{MemNet, Net};
+use transport::{MemNet, Net};
 use sessions::Ended;
 use std::alloc::Global;
 use std::collections::VecDeque;

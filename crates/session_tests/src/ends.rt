@@ -1,10 +1,10 @@
 // The two ends of a connection of any net: one that serves a session, and one that asks.
 ghost use Rattle.std.specs.Prelude.{◌≡◌, IsSome};
-ghost use Rattle.links.specs.Asks.{MayConnect};
-ghost use Rattle.links.specs.declared.link.Phase.{Phase};
+ghost use Rattle.transport.specs.Asks.{MayConnect};
+ghost use Rattle.transport.specs.declared.link.Phase.{Phase};
 
 use crate::page_desk::PageDesk;
-use links::{Link, Net};
+use transport::{Link, Net};
 use sessions::{Ended, serve_session};
 use std::alloc::Global;
 use std::sync::Wait;

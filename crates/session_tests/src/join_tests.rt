@@ -6,7 +6,7 @@ use const_eval::Ran;
 use handler_table::{Shelf, host_run};
 use hmr_base::MemSink;
 use join_command::{JoinStop, join};
-use links::TellNet;
+use transport::TellNet;
 use retained_data::Bag;
 use std::alloc::{AllocError, Global};
 use std::collections::VecDeque;

@@ -1,6 +1,6 @@
 // A session over a WebSocket on loopback.
 use crate::ends::{ask_one, serve_one};
-use links::Net;
+use transport::Net;
 use sessions::Ended;
 use std::test::Fail;
 use std::thread;

@@ -1,7 +1,7 @@
 // What a server sends for what it is told.
 use crate::page_desk::PageDesk;
 use hmr_types::Text;
-use links::{MemLink, Net, TellNet};
+use transport::{MemLink, Net, TellNet};
 use message_json::MsgFault;
 use sessions::{Ended, serve_session};
 use std::alloc::{AllocError, Global};

@@ -4,9 +4,9 @@ use Rattle.std.specs.Prelude.{Result, Ok, Err, IsErrAnd}
 use Rattle.serde_json.specs.Data.{Data}
 use Rattle.std.specs.List.{AllZip}
 use Rattle.std.proofs.lemmas.List.Elements.{All-append, All-cons, All-nil}
-use Rattle.links.specs.Told.{told_and, told_front, IsNoneLeft}
-use Rattle.outside_calls.specs.declared.out_fault.OutFault.{OutFault}
-use Rattle.outside_calls.specs.declared.out_fault.OutFault.TheVariants.{Failed, NoMemory as OutOfMemory}
+use Rattle.transport.specs.Told.{told_and, told_front, IsNoneLeft}
+use Rattle.hmr_base.specs.declared.out_fault.OutFault.{OutFault}
+use Rattle.hmr_base.specs.declared.out_fault.OutFault.TheVariants.{Failed, NoMemory as OutOfMemory}
 use Rattle.update_msgs.specs.declared.message.ClientMsg.{ClientMsg}
 use Rattle.update_msgs.specs.declared.message.ClientMsg.TheVariants.{Bye}
 use Rattle.update_msgs.specs.declared.message.ServerMsg.{ServerMsg}

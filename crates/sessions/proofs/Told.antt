@@ -2,7 +2,7 @@
 use Rattle.std.proofs.Common.{◌≡◌, ℕ, List, [], ◌∷◌, ◌++◌, Option, Some, None, refl, sym, ap, append_assoc}
 use Rattle.std.specs.Prelude.{Result, Ok, Err}
 use Rattle.std.proofs.lemmas.List.{append-nil}
-use Rattle.links.specs.Told.{told_and, told_front}
+use Rattle.transport.specs.Told.{told_and, told_front}
 use Rattle.update_msgs.specs.Desk.{told_after}
 use Rattle.update_msgs.specs.declared.desk.HubStop.{HubStop}
 use Rattle.update_msgs.specs.declared.message.ClientMsg.{ClientMsg}

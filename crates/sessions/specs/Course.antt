@@ -14,7 +14,7 @@ use Rattle.message_json.specs.declared.fault.MsgFault.{MsgFault}
 use Rattle.message_json.specs.declared.fault.MsgFault.TheVariants as faults
 use Rattle.message_json.specs.Reading.{Fails}
 use Rattle.message_json.specs.ClientReading.{client_of}
-use Rattle.links.specs.Told.{told_and, told_front, IsNoneLeft}
+use Rattle.transport.specs.Told.{told_and, told_front, IsNoneLeft}
 use Rattle.sessions.specs.declared.ended.Ended.{Ended}
 use Rattle.sessions.specs.declared.ended.Ended.TheVariants.{Closed, LinkFault, BadMessage, Stopped}
 use Rattle.sessions.specs.declared.ended.Ended.TheVariants.{NoMemory, Unexpected, InstancesFull}

@@ -3,7 +3,7 @@ ghost use Rattle.std.specs.Prelude.{◌≡◌};
 ghost use Rattle.sessions.specs.declared.ended.Ended.TheVariants.{NoMemory};
 ghost use Rattle.sessions.specs.Endings.{ended_at, ended_by, ended_for};
 
-use links::OutFault;
+use transport::OutFault;
 use message_json::MsgFault;
 use std::alloc::AllocError;
 use update_msgs::HubStop;

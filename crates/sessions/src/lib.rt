@@ -2,7 +2,7 @@
 //! answer sent.
 //!
 //! Stands on the messages and the desk that answers them (`update_msgs`), on their JSON (`message_json`) and
-//! on links (`links`). Keeps: the messages of a session are handed to the desk in their order, each answer
+//! on links (`transport`). Keeps: the messages of a session are handed to the desk in their order, each answer
 //! is sent before the next message is taken, and the link is shut at every way out. Knows nothing of
 //! sources, of hubs, of threads or of what carries a link.
 #![tactic(auto)]

@@ -2,13 +2,13 @@
 // format of the last hello that came, and in the first format before any.
 ghost use Rattle.std.specs.Prelude.{◌≡◌, ◌≤◌, ◌↔◌, IfOk, Result, Ok, Err, true, false};
 ghost use Rattle.hmr_base.specs.Causes.{Rose};
-ghost use Rattle.links.specs.declared.link.Phase.{Phase};
+ghost use Rattle.transport.specs.declared.link.Phase.{Phase};
 ghost use Rattle.update_msgs.specs.Writable.{IsFormat, IsSayable};
 ghost use Rattle.update_msgs.specs.declared.message.ClientMsg.TheVariants.{Bye};
 ghost use Rattle.sessions.specs.Course.{Course, format_after};
 
 use crate::ended::Ended;
-use links::Link;
+use transport::Link;
 use message_json::{decode_client, encode};
 use std::alloc::Global;
 use std::sync::Wait;

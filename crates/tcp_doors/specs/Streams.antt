@@ -1,6 +1,6 @@
 -- What is left to read of a stream with bytes that were read ahead.
 use Rattle.std.specs.Prelude.{ℕ, List, Option, drop}
-use Rattle.links.specs.Told.{told_front}
+use Rattle.transport.specs.Told.{told_front}
 use Rattle.tcp_doors.specs.declared.patient_stream.PatientStream.{PatientStream}
 
 -- those that were read ahead, and then those of the stream

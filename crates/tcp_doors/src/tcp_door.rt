@@ -1,7 +1,7 @@
 // A share of a listener.
 ghost use Rattle.std.specs.Prelude.{◌≡◌, ◌≤◌, None, false, true};
 ghost use Rattle.hmr_base.specs.Causes.{Rose};
-ghost use Rattle.outside_calls.specs.declared.out_fault.OutFault.{OutFault};
+ghost use Rattle.hmr_base.specs.declared.out_fault.OutFault.{OutFault};
 
 use crate::tcp_visitor::TcpVisitor;
 use doors::{Door, OutFault};

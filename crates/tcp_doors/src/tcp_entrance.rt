@@ -1,7 +1,7 @@
 // What listens at the loopback addresses. A door that waits is woken by a connection of the entrance's own.
 ghost use Rattle.std.specs.Prelude.{◌≡◌, ◌≤◌, ◌<◌, ◌+◌, ◌^◌, false, true, IfOk};
 ghost use Rattle.hmr_base.specs.Causes.{Rose};
-ghost use Rattle.outside_calls.specs.declared.out_fault.OutFault.{OutFault};
+ghost use Rattle.hmr_base.specs.declared.out_fault.OutFault.{OutFault};
 
 use crate::tcp_door::TcpDoor;
 use doors::{Door, Entrance, OutFault};

@@ -2,13 +2,13 @@
 ghost use Rattle.std.specs.Prelude.{◌≡◌, ◌≤◌, None, IfErr, IfOk};
 ghost use Rattle.std.specs.Option.{ForSome};
 ghost use Rattle.hmr_base.specs.Causes.{Rose};
-ghost use Rattle.outside_calls.specs.declared.out_fault.OutFault.{OutFault};
-ghost use Rattle.links.specs.declared.link.Phase.{Phase};
+ghost use Rattle.hmr_base.specs.declared.out_fault.OutFault.{OutFault};
+ghost use Rattle.transport.specs.declared.link.Phase.{Phase};
 
 use crate::http_stream::HttpStream;
 use crate::patient_stream::PatientStream;
 use doors::{Coming, OutFault, Visitor};
-use links::{Link, Phase};
+use transport::{Link, Phase};
 use std::alloc::Global;
 use std::io::{Read, Write};
 use std::mem;

@@ -14,8 +14,8 @@ use Rattle.command_words.specs.declared.command.Command.{Command}
 use Rattle.command_words.specs.declared.command.Command.TheVariants as commands
 use Rattle.command_words.specs.declared.command.ServePlan.{ServePlan}
 use Rattle.folders.specs.Files.{MayOpen}
-use Rattle.links.specs.declared.net.Asked.{Asked}
-use Rattle.links.specs.declared.net.Asked.TheVariants.{Listen, Connect}
+use Rattle.transport.specs.declared.net.Asked.{Asked}
+use Rattle.transport.specs.declared.net.Asked.TheVariants.{Listen, Connect}
 use Rattle.hmr_hub.specs.declared.pass.Pass.{Pass}
 use Rattle.join_command.specs.declared.stop.JoinStop.{JoinStop}
 use Rattle.join_command.specs.declared.stop.JoinStop.TheVariants as joins

@@ -6,7 +6,7 @@ ghost use Rattle.handler_table.specs.Shelf.{marks_of};
 ghost use Rattle.hmr_base.specs.Causes.{Rose};
 ghost use Rattle.hmr_base.specs.Fronts.{WritesFront};
 ghost use Rattle.hmr_world.specs.Shelves.{AreHosts};
-ghost use Rattle.links.specs.declared.net.Asked.{Asked};
+ghost use Rattle.transport.specs.declared.net.Asked.{Asked};
 ghost use Rattle.top_call.specs.Outside.{IsJoinStatus, IsJoined, first_shelf, last_of_join};
 ghost use Rattle.top_call.specs.Outside.{opening_of, status_of_join};
 
@@ -16,7 +16,7 @@ use hmr_base::{Sink, write_all};
 use hmr_types::ModName;
 use input_commands::discard;
 use join_command::{JoinStop, join};
-use links::Net;
+use transport::Net;
 use retained_data::Bag;
 use std::alloc::{AllocError, Global};
 

@@ -24,7 +24,7 @@ use handler_table::Shelf;
 use hmr_base::{Sink, Source};
 use input_commands::{discard, run_alone};
 use jobs::{Gate, Spawner};
-use links::Net;
+use transport::Net;
 use retained_data::Bag;
 use std::alloc::{AllocError, Global};
 use std::sync::Wait;

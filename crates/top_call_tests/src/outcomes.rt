@@ -7,7 +7,7 @@ use handler_table::host_run;
 use hmr_base::{MemSink, MemSource};
 use input_commands::host_shelves;
 use jobs::{CutSpawner, OpenGate, ThreadSpawner};
-use links::{MemNet, Net, TellNet};
+use transport::{MemNet, Net, TellNet};
 use retained_data::Bag;
 use std::alloc::{AllocError, Global};
 use std::collections::VecDeque;

@@ -2,14 +2,14 @@
 ghost use Rattle.std.specs.Prelude.{◌≡◌, ◌≢◌, ◌≤◌, ◌-◌, Option, Some, None};
 ghost use Rattle.std.specs.Prelude.{false, IfErr, IfOk, IsSome, OnErr, OnOk};
 ghost use Rattle.hmr_base.specs.Causes.{Rose};
-ghost use Rattle.links.specs.declared.link.Phase.{Phase};
-ghost use Rattle.outside_calls.specs.declared.out_fault.OutFault.{OutFault};
-ghost use Rattle.links.specs.declared.net.Asked.{Asked};
-ghost use Rattle.links.specs.Lending.{HasGiven, HasRefused};
-ghost use Rattle.links.specs.Told.{told_none, told_of};
+ghost use Rattle.transport.specs.declared.link.Phase.{Phase};
+ghost use Rattle.hmr_base.specs.declared.out_fault.OutFault.{OutFault};
+ghost use Rattle.transport.specs.declared.net.Asked.{Asked};
+ghost use Rattle.transport.specs.Lending.{HasGiven, HasRefused};
+ghost use Rattle.transport.specs.Told.{told_none, told_of};
 
 use crate::ws_link::WsLink;
-use links::{Asked, Net, OutFault};
+use transport::{Asked, Net, OutFault};
 use std::alloc::Global;
 use std::net::{IpAddr, Ipv4Addr, OpenListener, SocketAddr, TcpListener, TcpStream};
 use std::random::RandomSource;

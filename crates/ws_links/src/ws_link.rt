@@ -3,12 +3,12 @@
 // where the stream was cut.
 ghost use Rattle.std.specs.Prelude.{◌≡◌, ◌≤◌, ℕ, None, length, IfOk, IfSome};
 ghost use Rattle.hmr_base.specs.Causes.{Rose};
-ghost use Rattle.outside_calls.specs.declared.out_fault.OutFault.{OutFault};
-ghost use Rattle.links.specs.declared.link.Phase.{Phase};
-ghost use Rattle.links.specs.Messages.{message_bytes};
+ghost use Rattle.hmr_base.specs.declared.out_fault.OutFault.{OutFault};
+ghost use Rattle.transport.specs.declared.link.Phase.{Phase};
+ghost use Rattle.transport.specs.Messages.{message_bytes};
 
 use hmr_types::limits::MESSAGE_BYTES;
-use links::{Link, OutFault, Phase};
+use transport::{Link, OutFault, Phase};
 use std::alloc::Global;
 use std::io::{Read, Write};
 use std::random::RandomSource;

@@ -1,5 +1,5 @@
 use Rattle.std.proofs.Common.{[], ◌∷◌, sym, ap, ◌∙◌, subst}
-use Rattle.links.specs.Told.{told_and}
+use Rattle.transport.specs.Told.{told_and}
 use Rattle.message_text.specs.Values.{HasReading}
 use Rattle.client_sessions.proofs.Exchanges.{if_err, no_memory, unsent, unanswered, peer_closed, refused, reads_of}
 use Rattle.client_sessions.proofs.exchange.exchange.Goals as goal

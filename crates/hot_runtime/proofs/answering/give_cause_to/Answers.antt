@@ -1,7 +1,7 @@
 use Rattle.std.proofs.Common.{ap, sym, ◌∙◌}
 use Rattle.std.specs.Prelude.{Some}
 use Rattle.std.proofs.lemmas.Option.{none-some, same_Some}
-use Rattle.plan_under_way.specs.declared.under_way.UnderWay.{UnderWay}
+use Rattle.client_plan.specs.declared.under_way.UnderWay.{UnderWay}
 use Rattle.hot_runtime.proofs.answering.give_cause_to.Goals as goal
 
 pub returns-in-Some-clause-none : goal.returns-in-Some-clause-none

@@ -1,7 +1,7 @@
 use Rattle.std.proofs.Common.{sym, ◌∙◌}
 use Rattle.std.proofs.Math.Path.{subst}
 use Rattle.std.proofs.lemmas.Option.{none-some, same_Some}
-use Rattle.plan_under_way.specs.UnderWay.{IsUnderWay}
+use Rattle.client_plan.specs.UnderWay.{IsUnderWay}
 use Rattle.hot_runtime.proofs.answering.take_cause_of.Goals as goal
 
 pub returns-in-Some-clause-none : goal.returns-in-Some-clause-none

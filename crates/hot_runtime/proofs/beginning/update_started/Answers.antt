@@ -6,8 +6,8 @@ use Rattle.output_lines.specs.declared.out_line.OutLine.TheVariants as line
 use Rattle.core_model.specs.Names.{in_order}
 use Rattle.core_model.specs.Page.{new_plan}
 use Rattle.client_model.specs.Answering.{begin, pair_of}
-use Rattle.plan_under_way.specs.Telling.{accept_lines, batch_lines}
-use Rattle.plan_under_way.specs.UnderWay.{IsUnderWay}
+use Rattle.client_plan.specs.Telling.{accept_lines, batch_lines}
+use Rattle.client_plan.specs.UnderWay.{IsUnderWay}
 use Rattle.hot_runtime.specs.Standing.{IsPlan, IsPlannedWell}
 use Rattle.hot_runtime.proofs.Rest.{on_ok}
 use Rattle.hot_runtime.proofs.beginning.update_started.Goals as goal

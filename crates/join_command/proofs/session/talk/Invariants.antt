@@ -1,5 +1,5 @@
 use Rattle.std.proofs.Common.{◌≡◌, ◌≤◌, [], false}
-use Rattle.links.specs.declared.link.Phase.TheVariants.{Open}
+use Rattle.transport.specs.declared.link.Phase.TheVariants.{Open}
 use Rattle.client_model.specs.Runtime.{Opening}
 use Rattle.hot_runtime.specs.Standing.{KeepsWords, StandsFor}
 use Rattle.client_sessions.specs.Asking.{IsNew}

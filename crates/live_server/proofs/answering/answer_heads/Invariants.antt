@@ -1,5 +1,5 @@
 use Rattle.std.proofs.Common.{◌≡◌, ◌≤◌}
-use Rattle.links.specs.declared.link.Phase.TheVariants.{Fresh}
+use Rattle.transport.specs.declared.link.Phase.TheVariants.{Fresh}
 use Rattle.live_server.proofs.answering.answer_heads.Given as goal
 
 -- the visitor isn't opened

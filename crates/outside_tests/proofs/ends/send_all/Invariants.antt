@@ -1,5 +1,5 @@
 use Rattle.std.proofs.Common.{◌≡◌}
-use Rattle.links.specs.declared.link.Phase.TheVariants.{Open}
+use Rattle.transport.specs.declared.link.Phase.TheVariants.{Open}
 use Rattle.outside_tests.proofs.ends.send_all.Given as goal
 
 abbrev pub invariant-loop-message : goal.invariant-loop-message

@@ -1,6 +1,6 @@
 use Rattle.std.proofs.Common.{◌≡◌, ◌≤◌, false}
 use Rattle.std.specs.Prelude.{Ok}
-use Rattle.links.specs.declared.link.Phase.TheVariants.{Open}
+use Rattle.transport.specs.declared.link.Phase.TheVariants.{Open}
 use Rattle.update_msgs.specs.Writable.{IsFormat}
 use Rattle.sessions.specs.Course.{Course}
 use Rattle.sessions.proofs.serving.talk.Given as goal

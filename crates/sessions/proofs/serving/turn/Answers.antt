@@ -1,7 +1,7 @@
 use Rattle.std.proofs.Common.{rules, ◌≡◌, ℕ, List, [], ◌∷◌, refl, sym, ap, ◌∙◌, subst}
 use Rattle.std.proofs.lemmas.Bool.{false≢true}
-use Rattle.links.specs.Told.{told_and, told_front}
-use Rattle.outside_calls.specs.declared.out_fault.OutFault.TheVariants.{NoMemory}
+use Rattle.transport.specs.Told.{told_and, told_front}
+use Rattle.hmr_base.specs.declared.out_fault.OutFault.TheVariants.{NoMemory}
 use Rattle.message_text.specs.Values.{HasReading}
 use Rattle.message_json.specs.Reading.{Fails}
 use Rattle.message_json.specs.ClientReading.{client_of}

@@ -5,8 +5,8 @@ use Rattle.std.proofs.lemmas.Result.{IfOk-weaker}
 use Rattle.output_lines.specs.declared.out_line.OutLine.{OutLine}
 use Rattle.client_model.specs.Answering.{abort_in}
 use Rattle.module_language.specs.ModuleLanguage.{module_language}
-use Rattle.plan_under_way.specs.Telling.{cause_lines}
-use Rattle.plan_under_way.specs.UnderWay.{cause_of}
+use Rattle.client_plan.specs.Telling.{cause_lines}
+use Rattle.client_plan.specs.UnderWay.{cause_of}
 use Rattle.hot_runtime.specs.Becoming.{Becomes}
 use Rattle.hot_runtime.proofs.Changed.{all_given_up}
 use Rattle.hot_runtime.proofs.Keeping.{with_under_way}

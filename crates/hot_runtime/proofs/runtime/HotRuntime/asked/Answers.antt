@@ -2,8 +2,8 @@ use Rattle.std.proofs.Common.{◌≡◌}
 use Rattle.std.specs.Prelude.{IfOk, map}
 use Rattle.std.proofs.Math.Path.{subst}
 use Rattle.client_model.specs.Requesting.{ask_or_invalidate}
-use Rattle.page_deeds.specs.Standing.{invalidation_as}
-use Rattle.plan_under_way.specs.UnderWay.{untold}
+use Rattle.page_lifecycle.specs.Standing.{invalidation_as}
+use Rattle.client_plan.specs.UnderWay.{untold}
 use Rattle.hot_runtime.proofs.Requests.{asked_hello, asked_none, plan_request}
 use Rattle.hot_runtime.proofs.runtime.HotRuntime.asked.Goals as goal
 

@@ -3,7 +3,7 @@ use Rattle.std.specs.Prelude.{IfOk}
 use Rattle.std.proofs.Math.Path.{subst}
 use Rattle.client_model.specs.Answering.{done}
 use Rattle.module_language.specs.ModuleLanguage.{module_language}
-use Rattle.plan_under_way.specs.UnderWay.{is_aborted, is_applied_told}
+use Rattle.client_plan.specs.UnderWay.{is_aborted, is_applied_told}
 use Rattle.client_model.specs.Requesting.{request}
 use Rattle.hot_runtime.specs.Becoming.{Becomes}
 use Rattle.hot_runtime.proofs.Untold.{untold_aborted, untold_told}

@@ -1,7 +1,7 @@
 use Rattle.std.proofs.Math.Path.{subst}
 use Rattle.client_model.specs.Firing.{hear_all}
 use Rattle.module_language.specs.ModuleLanguage.{module_language}
-use Rattle.page_deeds.specs.Standing.{Follows}
+use Rattle.page_lifecycle.specs.Standing.{Follows}
 use Rattle.hot_runtime.proofs.Deeds.{all_heard}
 use Rattle.hot_runtime.proofs.runtime.HotRuntime.hear.Goals as goal
 

@@ -3,7 +3,7 @@ use Rattle.std.specs.Prelude.{◌&&◌, nat_lt}
 use Rattle.std.proofs.lemmas.Bool.{false≢true}
 use Rattle.hmr_types.specs.declared.limits.TheConstants.{INSTANCES}
 use Rattle.client_model.specs.Taking.{is_applied, made_by_plan}
-use Rattle.plan_under_way.specs.UnderWay.{is_applied_told}
+use Rattle.client_plan.specs.UnderWay.{is_applied_told}
 use Rattle.client_model.specs.Requesting.{request}
 use Rattle.module_language.specs.ModuleLanguage.{module_language}
 use Rattle.hot_runtime.proofs.Full.{applied_told}

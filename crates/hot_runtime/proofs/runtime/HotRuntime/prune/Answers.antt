@@ -5,7 +5,7 @@ use Rattle.core_model.specs.Names.{has, without_all}
 use Rattle.client_model.specs.Applying.{live_of, prune_instance}
 use Rattle.client_model.specs.Runtime.{for_each}
 use Rattle.module_language.specs.ModuleLanguage.{module_language}
-use Rattle.page_deeds.specs.Standing.{Follows}
+use Rattle.page_lifecycle.specs.Standing.{Follows}
 use Rattle.hot_runtime.proofs.Asked.{ask_plan}
 use Rattle.hot_runtime.proofs.Deeds.{all_pruned}
 use Rattle.hot_runtime.proofs.runtime.HotRuntime.prune.Goals as goal

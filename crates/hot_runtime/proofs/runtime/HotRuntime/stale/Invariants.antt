@@ -1,7 +1,7 @@
 use Rattle.std.proofs.Common.{◌≡◌, take, Some}
 use Rattle.std.specs.Prelude.{flat_map}
 use Rattle.client_model.specs.Runtime.{Runtime}
-use Rattle.page_deeds.specs.Standing as deeds
+use Rattle.page_lifecycle.specs.Standing as deeds
 use Rattle.hot_runtime.specs.Showing.{stale_row}
 use Rattle.hot_runtime.proofs.runtime.HotRuntime.stale.Given as goal
 

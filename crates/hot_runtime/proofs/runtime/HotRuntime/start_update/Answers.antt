@@ -1,7 +1,7 @@
 use Rattle.std.proofs.Common.{map, sym, ◌∙◌}
 use Rattle.std.proofs.Math.Path.{subst}
 use Rattle.client_model.specs.Answering.{pair_of}
-use Rattle.plan_under_way.specs.Whole.{IsWhole}
+use Rattle.client_plan.specs.Whole.{IsWhole}
 use Rattle.hot_runtime.proofs.Started.{update_becomes}
 use Rattle.hot_runtime.proofs.runtime.HotRuntime.start_update.Goals as goal
 

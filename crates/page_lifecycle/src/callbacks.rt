@@ -1,0 +1,136 @@
+// The held callbacks of an instance on its dependencies that list a name are run, one turn after another.
+// They stay held, so each turn is that of a place in the table.
+ghost use Rattle.std.specs.Prelude.{◌≡◌, ◌<◌, suc, true, Some, length, slice_get, OnOk};
+ghost use Rattle.core_model.specs.Names.{has};
+ghost use Rattle.output_lines.specs.declared.words.FaultPlace.TheVariants as fault_place;
+ghost use Rattle.client_model.specs.Instance.{accepts_dep};
+ghost use Rattle.client_model.specs.Running.{run_each};
+ghost use Rattle.module_language.specs.ModuleLanguage.{module_language};
+ghost use Rattle.page_lifecycle.specs.Standing.{Follows, KeepWords};
+ghost use Rattle.page_lifecycle.specs.Telling.{Begins, arguments_in, deps_at, run_listing};
+
+use crate::given::{Given, lists};
+use crate::page::Page;
+use const_eval::{Ran, run_body};
+use handler_table::Dep;
+use hmr_types::ModName;
+use output_lines::{FaultPlace, OutLine};
+use page_instances::{Instance, imports_in};
+use retained_data::Bag;
+use std::alloc::{AllocError, Global};
+
+impl<F> Page<F> {
+    /// How many callbacks on dependencies the instance at a place holds.
+    fn callback_count(&self, place: usize) -> usize
+        requires place { place < length self.now.instances.items }
+        ensures { result ≡ length (deps_at self.now place) }
+    {
+        self.instances[place].held.dep_count()
+    }
+
+    /// The callback on dependencies of this turn.
+    fn callback(&self, place: usize, turn: usize) -> &Dep
+        requires place { place < length self.now.instances.items }
+        requires turn { turn < length (deps_at self.now place) }
+        ensures { slice_get (deps_at self.now place) turn ≡ Some result.now }
+    {
+        dep_of(&self.instances[place], turn)
+    }
+}
+
+/// The callback on dependencies that an instance holds for this turn.
+fn dep_of<F>(instance: &Instance<F>, turn: usize) -> &Dep
+    requires { turn < length instance.now.held.deps }
+    ensures { slice_get instance.now.held.deps turn ≡ Some result.now }
+{
+    match instance.held.dep(turn) {
+        Some(dep) => dep,
+        None => unreachable!(),
+    }
+}
+
+impl<F: FnOnce(Bag) -> Result<Ran, AllocError> + Drop> Page<F> {
+    /// The callback of this turn is run; it lists the name.
+    fn run_callback(
+        &mut self,
+        alloc: Global,
+        place: usize,
+        turn: usize,
+        name: &ModName,
+        given: &Given,
+        lines: &mut Vec<OutLine>,
+    ) -> Result<(), AllocError>
+        requires place { place < length self.old.instances.items }
+        requires turn { turn < length (deps_at self.old place) }
+        requires lists { (d : Dep) → slice_get (deps_at self.old place) turn ≡ Some d
+            → has d.deps name.now ≡ true }
+        requires words { KeepWords F.post self.old }
+        ensures count { OnOk result (length self.new.instances.items ≡ length self.old.instances.items) }
+        ensures words { OnOk result (KeepWords F.post self.new) }
+        ensures deps { OnOk result (deps_at self.new place ≡ deps_at self.old place) }
+        ensures runs { OnOk result (Begins (run_listing name.now given.now turn place)
+            (run_listing name.now given.now (suc turn) place)
+            self.old self.new lines.old.items lines.new.items) }
+    {
+        let imports = imports_in(alloc, &self.instances, &self.instances[place])?;
+        let deps = self.callback(place, turn).deps.as_slice();
+        let mods = self.arguments_given(alloc, name, given, deps)?;
+        let bag = self.bags.take(alloc, &self.instances[place].name);
+        let instance = &self.instances[place];
+        let code = &dep_of(instance, turn).code;
+        let own = instance.values.as_slice();
+        let ran = run_body(alloc, code, own, &imports, &mods, bag)?;
+        self.settle(place, FaultPlace::Dep, ran, lines)?;
+        Ok(())
+    }
+
+    /// The callback of this turn is run where it lists the name.
+    fn run_turn(
+        &mut self,
+        alloc: Global,
+        place: usize,
+        turn: usize,
+        name: &ModName,
+        given: &Given,
+        lines: &mut Vec<OutLine>,
+    ) -> Result<(), AllocError>
+        requires place { place < length self.old.instances.items }
+        requires turn { turn < length (deps_at self.old place) }
+        requires words { KeepWords F.post self.old }
+        ensures count { OnOk result (length self.new.instances.items ≡ length self.old.instances.items) }
+        ensures words { OnOk result (KeepWords F.post self.new) }
+        ensures deps { OnOk result (deps_at self.new place ≡ deps_at self.old place) }
+        ensures runs { OnOk result (Begins (run_listing name.now given.now turn place)
+            (run_listing name.now given.now (suc turn) place)
+            self.old self.new lines.old.items lines.new.items) }
+    {
+        if lists(self.callback(place, turn).deps.as_slice(), name) {
+            self.run_callback(alloc, place, turn, name, given, lines)?;
+        }
+        Ok(())
+    }
+
+    /// The callbacks on dependencies that list the name are run, in the order in which they came.
+    pub(crate) fn run_listing(
+        &mut self,
+        alloc: Global,
+        place: usize,
+        name: &ModName,
+        given: &Given,
+        lines: &mut Vec<OutLine>,
+    ) -> Result<(), AllocError>
+        requires place { place < length self.old.instances.items }
+        requires words { KeepWords F.post self.old }
+        ensures count { OnOk result (length self.new.instances.items ≡ length self.old.instances.items) }
+        ensures words { OnOk result (KeepWords F.post self.new) }
+        ensures follows { OnOk result (Follows
+            (run_each module_language fault_place.Dep (arguments_in name.now given.now)
+            (accepts_dep name.now) (suc place))
+            self.old self.new lines.old.items lines.new.items) }
+    {
+        for turn in 0..self.callback_count(place) {
+            self.run_turn(alloc, place, turn, name, given, lines)?;
+        }
+        Ok(())
+    }
+}

@@ -1,5 +1,0 @@
-use Rattle.plan_under_way.proofs.Staged.{at_inserted}
-use Rattle.plan_under_way.proofs.fetching.keep_tree.Goals as goal
-
-pub returns : goal.returns
-returns c = λ n. at_inserted c.args.name.now c.in_ok-copy_name.field-0 c.args.tree c.args.trees.now c.insert.new.self c.in_ok-copy_name.ensures c.in_ok-insert.ensures.updates n

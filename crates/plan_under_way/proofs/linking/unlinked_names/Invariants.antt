@@ -1,9 +1,0 @@
-use Rattle.std.proofs.Common.{◌≡◌, drop, map}
-use Rattle.core_model.specs.Names.{first_of}
-use Rattle.module_language.specs.ModuleLanguage.{binding_to}
-use Rattle.plan_under_way.specs.Unlinked.{unlinked_among}
-use Rattle.plan_under_way.proofs.linking.unlinked_names.Given as goal
-
--- those before are exported
-abbrev pub invariant-loop-name : goal.invariant-loop-name
-invariant-loop-name l = first_of (unlinked_among l.plan l.view l.base (map (binding_to l.dependency) (drop l.name-index l.names))) ≡ first_of (unlinked_among l.plan l.view l.base (map (binding_to l.dependency) l.names))

@@ -1,6 +1,0 @@
-use Rattle.std.proofs.Common.{◌≡◌, ◌++◌, drop, map}
-use Rattle.client_model.specs.Answering.{pair_of}
-use Rattle.plan_under_way.proofs.telling.pairs_of.Given as goal
-
-abbrev pub invariant-loop-update : goal.invariant-loop-update
-invariant-loop-update l = l.pairs.items ++ map pair_of (drop l.update-index l.updates) ≡ map pair_of l.updates

@@ -1,0 +1,42 @@
+use Rattle.std.proofs.Common.{◌≡◌, ◌≤◌, ◌+◌, ℕ, false, length, sum}
+use Rattle.std.specs.List.{All}
+use Rattle.std.specs.Arc.{arc_value}
+use Rattle.transform_pool.specs.Passes as queues
+use Rattle.transform_pool.specs.Passes.{role_of}
+use Rattle.transform_pool.specs.Roles.{taking}
+use Rattle.hmr_hub.specs.Passes.{IsPassOf, all_given}
+use Rattle.server_threads.specs.Begun.{HasBegun}
+use Rattle.server_threads.specs.Crews.{IsCrew, ends_due, logs_due, passes_due}
+use Rattle.server_threads.specs.Gathers.{Gathers}
+use Rattle.server_threads.specs.Lendings.{Lends}
+use Rattle.server_threads.specs.Splits.{Divided}
+use Rattle.server_threads.proofs.crew.Crew.begin_workers.Given as goal
+
+-- workers were begun for the passes that are gone
+abbrev pub invariant-loop-jobs : goal.invariant-loop-jobs
+invariant-loop-jobs g l =
+    let faults = g.N.Net.faults in
+    let starts = g.P.Spawner.faults in
+    let count = g.P.Spawner.begun in
+    record {
+      hub : l.self.hub ≡ l.fn.self.hub;
+      crew : IsCrew g.N.End.Link (arc_value l.self.hub) l.self.running l.self.clients l.self.gathered;
+      of : IsPassOf (arc_value l.self.hub) l.pass;
+      divided : Divided l.fn.pass l.pass;
+      gathers : Gathers l.fn.self.gathered l.self.gathered (faults l.fn.net) (faults l.net) (starts l.fn.spawner) (starts l.spawner);
+      asked : (g.N.Net.asked l.net ≡ g.N.Net.asked l.fn.net) × (g.N.Net.heard l.net ≡ g.N.Net.heard l.fn.net);
+      given : all_given l.fn.pass ≡ false → all_given l.pass ≡ false;
+      takers : All (λ p. queues.IsPassOf (arc_value l.queue) p) l.takers.items;
+      take : All (λ p. role_of p ≡ taking) l.takers.items;
+      made : ℕ;
+      all : made + length l.takers.items ≡ length l.fn.workers.takers.items;
+      begun : l.self.gathered.fault ≡ false → HasBegun made 0 0 (count l.fn.spawner) (count l.spawner);
+      few : sum (count l.spawner) ≤ sum (count l.fn.spawner) + made;
+      kept : passes_due l.self.running l.self.gathered ≡ passes_due l.fn.self.running l.fn.self.gathered + made;
+      logs : logs_due l.self.clients l.self.gathered ≡ logs_due l.fn.self.clients l.fn.self.gathered;
+      ends : Lends (ends_due l.fn.self.running l.fn.self.clients) (ends_due l.self.running l.self.clients) (g.N.Net.lent l.fn.net) (g.N.Net.lent l.net);
+      unasked : (g.N.Net.refused l.net ≡ g.N.Net.refused l.fn.net) × (g.N.Net.late l.net ≡ g.N.Net.late l.fn.net);
+    }
+
+abbrev pub decreases-loop-jobs : goal.decreases-loop-jobs
+decreases-loop-jobs g l = length l.takers.items
