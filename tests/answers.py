@@ -67,7 +67,9 @@ def turns():
     yield page(head("GET /m.js HTTP/1.0") + GET_M, answer(200, True, M))
     yield page(head("GET /m.js HTTP/1.0", "Connection: keep-alive") + GET_M, answer(200, True, M))
     yield page(head("GET /m.js HTTP/1.1", "CONNECTION: Close") + GET_M, answer(200, True, M))
+    yield page(head("GET /m.js HTTP/1.1", "CONNECTION:  Close ") + GET_M, answer(200, True, M))
     yield page(head("GET /m.js HTTP/1.1", "Connection: keep-alive, close") + GET_M, ON_M, ON_M)
+    yield page(b"\r\n" + GET_M, ON_M)
     yield page(head("HEAD /m.js HTTP/1.1") + GET_M, answer(200, False, M, bare=True), ON_M)
     yield page(head("HEAD /x.js HTTP/1.1"), answer(404, False, bare=True))
     yield page(GET_M + b"\r\n" + GET_M, ON_M, ON_M)
@@ -88,12 +90,16 @@ def refused():
     """Heads that ask for a body, or that are no heads."""
     yield page(head("GET /m.js HTTP/1.1", "Content-Length: 0") * 2, ON_M, ON_M)
     yield page(head("GET /m.js HTTP/1.1", "Content-Length: 0", "Content-Length: 0"), ON_M)
+    yield page(head("GET /m.js HTTP/1.1", "Content-Length: 0", "Content-Length: 1"), BAD)
     for field in ["Content-Length: 00", "Content-Length: 0, 0", "Content-Length: 1", "transfer-ENCODING: identity"]:
         yield page(head("GET /m.js HTTP/1.1", field) + GET_M, BAD)
     yield page(head("HEAD /m.js HTTP/1.1", "Content-Length: 1") + GET_M, answer(400, True, bare=True))
     yield page(head("POST /m.js HTTP/1.1", "Content-Length: 1") + b"x", BAD)
     yield page(b"GET /m.js HTTP/1.1\nHost: x\n\r\n\r\n", BAD)
-    yield page(head("GET /m.js HTTP/2.0"), BAD)
+    yield page(b"GET /m.js HTTP/1.1\n\n\r\n\r\n", BAD)
+    yield page(b"GET /m.js HTTP/1.1\na: b\r\n\r\n", ON_M)
+    for version in ["2.0", "1.2"]:
+        yield page(head(f"GET /m.js HTTP/{version}"), BAD)
     yield page(head("GET /m.js HTTP/1.1", *["a: b"] * 64), ON_M)
     yield page(head("GET /m.js HTTP/1.1", *["a: b"] * 65), BAD)
     yield page(b"GET /\xff.js HTTP/1.1\r\n\r\n", BAD)
@@ -102,7 +108,7 @@ def refused():
 def targets():
     """Names and what isn't served under one."""
     yield page(head("GET /m.js?v=1 HTTP/1.1") + head("GET /m.js? HTTP/1.1"), ON_M, ON_M)
-    for target in ["/", "?/m.js", "/m.js/", "/%6d.js", "//m.js", "http://x/m.js", "*"]:
+    for target in ["/", "?/m.js", "/m.js/", "/%6d.js", "/a%20b.js", "//m.js", "http://x/m.js", "*"]:
         yield page(head(f"GET {target} HTTP/1.1"), answer(404, False))
     yield page(head(f"GET /{'x' * 1023} HTTP/1.1"), answer(404, False))
     yield page(head(f"GET /{'x' * 1024} HTTP/1.1"), answer(414, False))

@@ -313,6 +313,19 @@ COURSES = [
     ("yes steps 1 rests 0", "root /m.js\nedit /m.js\n= job 1\n"),
 ]
 
+# A line of the page, what stands in its place, and what is said of that.
+OTHERS = [
+    ("= served", "= late", "7 reply"),
+    ("= job 1", "= job 2", "4 reply"),
+    ("= job 1", "= jobs 1", "4 bad-line"),
+    ("rest 1 /m.js 1", "rest 1 /m.js 2", "14 rest"),
+    ("rest 1 /m.js 1", "rest 2 /m.js 1", "14 rest"),
+    ("rest 1 /m.js 1", "rest 1", "14 rest"),
+    (f"= {DONE}", '= {"type":"idle"}', "13 reply"),
+    ("root /m.js", "root /m.js /m.js", "1 bad-line"),
+    ("settle /m.js 1", "settle /m.js 2", "7 reply"),
+]
+
 
 def audited(record, line):
     """The audit of a record, of which this has to be said; the second check has to say it too."""
@@ -328,6 +341,9 @@ def tables():
         yield audited(record, line)
     for line, lines in FORMS:
         yield audited("root /m.js\n" + lines, line)
+    for old, new, said in OTHERS:
+        assert f"{old}\n" in PAGE, f"the page has no line {old!r}"
+        yield audited(PAGE.replace(f"{old}\n", f"{new}\n"), f"no line {said}")
     whole = PAGE.splitlines(True)
     for word, reply in REPLIES:
         yield audited("".join([*whole[:3], reply + "\n", *whole[4:]]), f"no line 4 {word}")
@@ -453,6 +469,7 @@ def scripts():
         ("root /m.js\n", "root /m.js\n"),
         ("root /m.js\nroot /n.js\n# no more\n", "root /m.js\nroot /n.js\n"),
         ("root /m.js\nquiet\nturn 9\nshow 1\nclose 2\nfresh\nsettle\nsettle /m.js 1\n", "root /m.js\n"),
+        ("root /m.js\nopen\nclose 1\n", f"root /m.js\nconnect\n= {CONNECTED}\ndisconnect 1\n= gone\n"),
         ("root /m.js\nremove /m.js\nedit /m.js\nremove /m.js\n",
          "root /m.js\nremove /m.js\n= same\nedit /m.js\n= job 1\nremove /m.js\n= removed 2\n"),
     ]:

@@ -152,4 +152,5 @@ def runs():
     yield from events()
     # An input has at most 16,777,216 bytes.
     yield Run(["play"], b"#" * 16_777_217, 8, b"limit input 16777216\n")
+    yield Run(["play"], b"#" * 16_777_216, 3, b"script fault at line 1: line-too-long\n")
     yield fault("#" * 16_777_216, 1, "line-too-long")

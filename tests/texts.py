@@ -3,6 +3,8 @@
 In the tables `~` stands for LF. The places of faults, the canonical texts and the analyses were worked out by hand
 from docs/LANGUAGE.md.
 """
+import re
+
 from rows import Run, check, encoded, rows_of
 
 # The first fault of a text, as its line, its column and its word, and the text behind the first `=`.
@@ -262,7 +264,52 @@ def limits():
         yield check(text, text + f"imports {name}\n" if report else "fault 0:0 specifier-too-long\n")
 
 
+# What specifiers mean in `/a/b.js`: a name, or the word of their fault.
+MEANINGS = """
+./c.js /a/c.js
+../c.js /c.js
+/x/./y.js /x/y.js
+./. /a
+./x/../y /a/y
+/x/y/../../z /z
+../../c.js climbs
+/.. climbs
+react bare
+.. bare
+. bare
+.x/y bare
+ empty
+../. empty
+/. empty
+./c.js?v=1 bad-segment
+./c/ bad-segment
+./ bad-segment
+/ bad-segment
+/x//y bad-segment
+/x?/../.. bad-segment
+"""
+
+# Texts that are no names of modules, and names.
+NO_NAMES = ["/", "m.js", "/a/", "//a", "/a//b", "/.", "/a/..", "/a b", "/a?", "a/b", "", "/" + "a" * 255]
+NAMES = ["/m.js", "/a/b.js", "/-_.Z09", "/...", "/.a/a.b", "/" + "a" * 254]
+
+
+def names():
+    """Which texts are names, and what specifiers mean."""
+    for line in MEANINGS.strip("\n").split("\n"):
+        spec, _, meant = line.rpartition(" ")
+        text = f'import "{spec}";\n'
+        told = text + f"imports {meant}\n" if meant.startswith("/") else f"fault 0:0 specifier-{meant}\n"
+        yield check(text, told)
+    for name in NAMES:
+        yield check("", "", name)
+    usage = re.compile(rb"usage: .*\n")
+    for name in NO_NAMES:
+        yield Run(["check", name], b"", 2, usage)
+
+
 def runs():
     yield from reports()
+    yield from names()
     yield from tokens()
     yield from limits()

@@ -1,8 +1,7 @@
-// The modules of a version map, served over HTTP.
-use hmr_base::{MemSink, MemSource};
+// The modules of a version map, served over HTTP while their sources change.
 use hmr_types::ModName;
 use hmr_types::limits::TEXT_BYTES;
-use http_modules::{HttpEnd, answer_to, serve_http};
+use http_modules::answer_to;
 use import_scan::transform;
 use std::alloc::{AllocError, Global};
 use std::test::Fail;
@@ -35,28 +34,6 @@ fn body(alloc: Global, map: &VersionMap, target: &[u8]) -> Result<Vec<u8>, Alloc
     head.extend_from_slice(b" HTTP/1.1\r\n\r\n")?;
     let reply = answer_to(alloc, &head, map)?;
     Ok(reply.body)
-}
-
-#[test]
-fn imports_have_versions(rt: HostRuntime) -> Result<(), Fail> {
-    let alloc = rt.alloc();
-    let mut map = VersionMap::new(alloc);
-    give(alloc, &mut map, "/a.js", b"export const n = 1;")?;
-    give(alloc, &mut map, "/m.js", b"import \"./a.js\";")?;
-    for piece in [1, 4096] {
-        let bytes = Vec::from_slice(alloc, b"GET /m.js HTTP/1.1\r\nHost: x\r\n\r\n")?;
-        let mut source = MemSource::new(bytes, piece, Vec::new(alloc));
-        let mut sink = MemSink::new(alloc, 4096, 4096, Vec::new(alloc))?;
-        assert_eq!(rt;
-            serve_http(alloc, &mut source, &mut sink, &map),
-            HttpEnd::Closed
-        );
-        assert_eq!(rt;
-            sink.bytes(),
-            b"HTTP/1.1 200 OK\r\nContent-Type: text/javascript\r\nContent-Length: 20\r\nConnection: keep-alive\r\n\r\nimport \"/a.js?v=1\";\n".as_slice()
-        );
-    }
-    Ok(())
 }
 
 #[test]

@@ -2,18 +2,19 @@
 ghost use Rattle.std.specs.Prelude.{◌≡◌, None};
 
 use const_eval::Ran;
+use folder_server::Outside;
 use folders::{MemFile, MemTree};
 use handler_table::host_run;
 use hmr_base::{MemSink, MemSource};
 use input_commands::host_shelves;
 use jobs::{CutSpawner, OpenGate, ThreadSpawner};
-use transport::{MemNet, Net, TellNet};
 use retained_data::Bag;
 use std::alloc::{AllocError, Global};
 use std::collections::VecDeque;
 use std::sync::Wait;
 use std::thread::Threads;
-use top_call::run;
+use top_call::{Embedding, run};
+use transport::{MemNet, Net, TellNet};
 
 /// The text of the one module of most folders.
 pub(crate) const MODULE: &str = "export const n = 1;\n";
@@ -77,7 +78,12 @@ pub(crate) fn outcome_at<R: Threads + Wait + Sync + Copy + Drop + Send + 'static
 ) -> Result<(u8, Vec<u8>), AllocError> {
     let ends = ends_of(alloc, faults)?;
     let net = MemNet::new(alloc, rt, one(alloc, faults.net)?, ends)?;
-    outcome_over(rt, alloc, words, text, looks, faults, net)
+    let given = Given {
+        words,
+        text,
+        faults,
+    };
+    outcome_over(rt, alloc, given, looks, net)
 }
 
 /// What `join` comes to at a server that tells these messages.
@@ -93,25 +99,40 @@ pub(crate) fn joined<R: Threads + Wait + Sync + Copy + Drop + Send + 'static>(
     }
     let ends = ends_of(alloc, faults)?;
     let net = TellNet::new(rt, coming, one(alloc, faults.net)?, ends);
-    let words = "join 5173 --turns 3";
-    outcome_over(rt, alloc, words, b"", VecDeque::new(alloc), faults, net)
+    let given = Given {
+        words: "join 5173 --turns 3",
+        text: b"",
+        faults,
+    };
+    outcome_over(rt, alloc, given, VecDeque::new(alloc), net)
 }
 
-// The same over a net.
+// What a run is given: its words, parted by spaces, its input, and which calls fail.
+#[derive(Clone, Copy)]
+struct Given<'a> {
+    words: &'a str,
+    text: &'a [u8],
+    faults: &'a Faults,
+}
+
+// What a run comes to over looks at a folder and over a net.
 fn outcome_over<R: Threads + Wait + Sync + Copy + Drop + Send + 'static, N: Net + Drop>(
     rt: R,
     alloc: Global,
-    words: &str,
-    text: &[u8],
+    given: Given<'_>,
     looks: VecDeque<Vec<MemFile>>,
-    faults: &Faults,
-    mut net: N,
+    net: N,
 ) -> Result<(u8, Vec<u8>), AllocError>
 where
     N::End: Drop + Send + 'static,
     requires unasked { N.asked net ≡ None }
     requires unheard { N.heard net ≡ None }
 {
+    let Given {
+        words,
+        text,
+        faults,
+    } = given;
     let mut list = Vec::new(alloc);
     for word in words.split_whitespace() {
         list.push(String::from_str(alloc, word)?)?;
@@ -119,26 +140,21 @@ where
     let piece = PIECE.max(text.len() / 1000);
     let text = Vec::from_slice(alloc, text)?;
     let mut input = MemSource::new(text, piece, one(alloc, faults.read)?);
-    let mut out = MemSink::new(alloc, 4096, WRITTEN, one(alloc, faults.write)?)?;
-    let mut tree = MemTree::new(looks, one(alloc, faults.tree)?);
-    let mut spawner = CutSpawner::new(ThreadSpawner::new(), one(alloc, faults.start)?);
+    let mut outside = Outside {
+        out: MemSink::new(alloc, 4096, WRITTEN, one(alloc, faults.write)?)?,
+        tree: MemTree::new(looks, one(alloc, faults.tree)?),
+        net,
+        spawner: CutSpawner::new(ThreadSpawner::new(), one(alloc, faults.start)?),
+    };
     let make = |number: u32| {
         move |bag: Bag| -> Result<Ran, AllocError> { host_run(alloc, "H", number, bag) }
     };
-    let shelves = host_shelves(alloc, make)?;
-    let status = run(
-        &rt,
-        alloc,
-        &list,
-        &mut input,
-        &mut out,
-        &mut tree,
-        &mut net,
-        &mut spawner,
-        OpenGate,
-        shelves,
-    );
-    Ok((status, Vec::from_slice(alloc, out.bytes())?))
+    let embedding = Embedding {
+        gate: OpenGate,
+        shelves: host_shelves(alloc, make)?,
+    };
+    let status = run(&rt, alloc, &list, &mut input, &mut outside, embedding);
+    Ok((status, Vec::from_slice(alloc, outside.out.bytes())?))
 }
 
 /// A look at a folder that finds a module, and beside it one with a text of its own where one is given.
