@@ -1,6 +1,7 @@
--- What holds of each outline: its parts lie in the text, module specifiers are string literals there, the lists rise, and
--- rows are rows of their lists.
-use Rattle.std.specs.Prelude.{◌≡◌, ◌<◌, ◌≤◌, ℕ, max, List, [], ◌∷◌, true, length, All, Option, Some, None, slice_index}
+-- What holds of each outline: its parts lie in the text, module specifiers are string literals there, the
+-- lists rise, and rows are rows of their lists.
+use Rattle.std.specs.Prelude.{◌≡◌, ◌<◌, ◌≤◌, ℕ, max, List, [], ◌∷◌, true, length, All, Option, Some, None}
+use Rattle.std.specs.Prelude.{slice_index}
 use Rattle.es_scan.specs.declared.outline.Accept.{Accept}
 use Rattle.es_scan.specs.declared.outline.Purpose.{Purpose}
 use Rattle.es_scan.specs.declared.outline.Purpose.TheVariants as purposes
@@ -130,7 +131,8 @@ pub record IsOutlineOf (text : List ℕ) (o : Outline) : Type 0 where
   pub exports : AreInOrder (IsExport text) name_of 0 o.exports.items
   pub names : HaveNames (length o.imports.items) (length o.exports.items) o.specifiers.items
   pub accepts : AreAccepts text (length o.specifiers.items) o.accepts.items
-  pub places : ArePlaces text o.declines.items o.computed.items o.unclear.items o.first_meta o.hashbang o.first_statement
+  pub places : ArePlaces text o.declines.items o.computed.items o.unclear.items o.first_meta o.hashbang
+      o.first_statement
 
 -- how far into the text its specifiers and names reach
 unfoldable pub reach : Outline → ℕ

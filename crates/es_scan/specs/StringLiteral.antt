@@ -1,6 +1,8 @@
--- What a StringLiteral of ECMA-262 is, byte by byte: a quote, bytes, and the first byte that is the same quote and that no
--- backslash escapes. Between the two stands no CR or LF that no backslash escapes; an escaped CR takes an LF with it.
-use Rattle.std.specs.Prelude.{ℕ, suc, List, [], ◌∷◌, Bool, ◌==◌, ◌||◌, if◌then◌else◌, Option, Some, None, drop}
+-- What a StringLiteral of ECMA-262 is, byte by byte: a quote, bytes, and the first byte that is the same
+-- quote and that no backslash escapes. Between the two stands no CR or LF that no backslash escapes; an
+-- escaped CR takes an LF with it.
+use Rattle.std.specs.Prelude.{ℕ, suc, List, [], ◌∷◌, Bool, ◌==◌, ◌||◌, if◌then◌else◌, Option, Some, None}
+use Rattle.std.specs.Prelude.{drop}
 use Rattle.es_scan.specs.declared.string_literal.Inside.{Inside}
 use Rattle.es_scan.specs.declared.string_literal.Inside.TheVariants.{Plain, Escaped, Returned}
 use Rattle.es_scan.specs.declared.string_literal.Move.{Move}

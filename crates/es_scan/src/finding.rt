@@ -3,7 +3,8 @@
 // `_text` is the text of the outline, an argument for the clauses alone. A part for which there is no memory
 // isn't put, and the outline stays as it was.
 ghost use Rattle.std.specs.Prelude.{◌≡◌, ◌+◌, ◌≤◌, ◌<◌, ◌^◌, [], ◌∷◌, ◌++◌, IfErr, IsSome, OnOk, length};
-ghost use Rattle.es_scan.specs.Outlines.{AreNamesIn, AreRows, IsExport, IsHashbang, IsImport, IsOutlineOf, IsSpecifier, reach};
+ghost use Rattle.es_scan.specs.Outlines.{AreNamesIn, AreRows, IsExport, IsHashbang, IsImport};
+ghost use Rattle.es_scan.specs.Outlines.{IsOutlineOf, IsSpecifier, reach};
 
 use crate::fault::{Fault, FaultKind, Reason, Stop};
 use crate::outline::{Accept, ExportedName, ImportBinding, ModuleSpecifier, Outline, Span};

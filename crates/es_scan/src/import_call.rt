@@ -1,5 +1,6 @@
 // ImportCalls, `import(..)`, and string literals as arguments.
-ghost use Rattle.std.specs.Prelude.{◌≡◌, ◌≤◌, ◌<◌, ◌+◌, ◌^◌, IfErr, IfOk, IfSome, OnOk, Some, length, slice_index, true};
+ghost use Rattle.std.specs.Prelude.{◌≡◌, ◌≤◌, ◌<◌, ◌+◌, ◌^◌, IfErr, IfOk, IfSome, OnOk, Some, length};
+ghost use Rattle.std.specs.Prelude.{slice_index, true};
 ghost use Rattle.es_scan.specs.StringLiteral.{is_quote, literal_at};
 ghost use Rattle.es_scan.specs.Outlines.{IsOutlineOf, reach};
 

@@ -1,9 +1,35 @@
-// The context at punctuators that are no brackets.
+// The context at punctuators: which of one byte does what, and what those do that are no brackets.
+ghost use Rattle.std.specs.Prelude.{◌<◌, ◌^◌};
+
 use crate::context::Context;
 use crate::frames::{Declares, FrameKind};
 use crate::state::State;
 
 impl Context {
+    /// A punctuator of one byte, or a `#` or `@` before a name. Another byte is no token.
+    #[inline(always)]
+    pub fn punctuator(&mut self, byte: u8, at: usize, line_ended: bool)
+        requires short { at < 2 ^ 32 }
+    {
+        match byte {
+            b',' => self.comma(),
+            b'(' => self.open_parenthesis(at),
+            b')' => self.close_parenthesis(at),
+            b'{' => self.open_brace(at, line_ended),
+            b'[' => self.open_square_bracket(at),
+            b']' => self.close_square_bracket(at),
+            b';' => self.semicolon(),
+            b':' => self.colon(),
+            b'!' | b'%' | b'&' | b'>' | b'^' | b'|' | b'~' => self.operator(),
+            b'*' => self.star(),
+            b'#' | b'@' => {
+                self.literal();
+                self.state = State::Dot;
+            }
+            _ => self.line_ended = line_ended,
+        }
+    }
+
     /// An operator before an operand, or between two.
     #[inline(always)]
     pub fn operator(&mut self) {

@@ -9,7 +9,6 @@ use crate::fault::Fault;
 use crate::from_clause::span;
 use crate::literals::number_end;
 use crate::outline::{Outline, Span};
-use crate::state::State;
 use crate::tokens::{
     closing_brace, dots, equals, less, question, sign, slash, spaces_end, string, template,
 };
@@ -108,39 +107,7 @@ fn step(text: &[u8], at: usize, context: &mut Context, found: &mut Outline) -> u
         b'A'..=b'Z' | b'_' | b'$' | b'\\' => name(text, at, line_ended, context, found),
         128..=255 => wide(text, at, line_ended, context, found),
         b'.' => dots(text, at, context),
-        b',' => {
-            context.comma();
-            at + 1
-        }
-        b'(' => {
-            context.open_parenthesis(at);
-            at + 1
-        }
-        b')' => {
-            context.close_parenthesis(at);
-            at + 1
-        }
-        b'{' => {
-            context.open_brace(at, line_ended);
-            at + 1
-        }
         b'}' => closing_brace(text, at, context),
-        b'[' => {
-            context.open_square_bracket(at);
-            at + 1
-        }
-        b']' => {
-            context.close_square_bracket(at);
-            at + 1
-        }
-        b';' => {
-            context.semicolon();
-            at + 1
-        }
-        b':' => {
-            context.colon();
-            at + 1
-        }
         b'=' => equals(text, at, context),
         b'"' | b'\'' => string(text, at, context),
         b'0'..=b'9' => {
@@ -150,26 +117,13 @@ fn step(text: &[u8], at: usize, context: &mut Context, found: &mut Outline) -> u
         b'/' => slash(text, at, line_ended, context),
         b'+' | b'-' => sign(text, at, byte, line_ended, context),
         b'<' => less(text, at, line_ended, context),
-        b'!' | b'%' | b'&' | b'>' | b'^' | b'|' | b'~' => {
-            context.operator();
-            at + 1
-        }
-        b'*' => {
-            context.star();
-            at + 1
-        }
         b'?' => question(text, at, context),
         b'`' => {
             context.begin_behind_body();
             template(text, at + 1, at, context)
         }
-        b'#' | b'@' => {
-            context.literal();
-            context.state = State::Dot;
-            at + 1
-        }
         _ => {
-            context.line_ended = line_ended;
+            context.punctuator(byte, at, line_ended);
             at + 1
         }
     }

@@ -58,29 +58,8 @@ impl Context {
             }
             return WordRole::Taken;
         }
-        match (self.state, word) {
-            (State::After | State::Bound, Keyword::Infix) => {
-                self.state = State::Operand;
-                return WordRole::Taken;
-            }
-            (State::After | State::Bound, Keyword::Of) if self.frame.kind == FrameKind::ForHead => {
-                self.state = State::Operand;
-                return WordRole::Taken;
-            }
-            // Behind `async` on the same line stands `function`, or the parameter of an arrow function.
-            (State::Async, Keyword::Function) => {
-                self.state = State::Function;
-                return WordRole::Taken;
-            }
-            (State::ExpressionAsync, Keyword::Function) => {
-                self.state = State::FunctionExpression;
-                return WordRole::Taken;
-            }
-            (State::Async | State::ExpressionAsync, _) => {
-                self.state = State::After;
-                return WordRole::Taken;
-            }
-            _ => {}
+        if self.goes_on(word) {
+            return WordRole::Taken;
         }
         self.begin_operand();
         if self.frame.kind.wants_key() {
@@ -88,6 +67,22 @@ impl Context {
             return WordRole::Taken;
         }
         self.keyword(word)
+    }
+
+    /// Whether a word goes on with what ended before it: an operand, or an `async` on the same line.
+    #[inline(always)]
+    fn goes_on(&mut self, word: Keyword) -> bool {
+        self.state = match (self.state, word) {
+            (State::After | State::Bound, Keyword::Infix) => State::Operand,
+            (State::After | State::Bound, Keyword::Of) if self.frame.kind == FrameKind::ForHead =>
+                State::Operand,
+            // Behind `async` on the same line stands `function`, or the parameter of an arrow function.
+            (State::Async, Keyword::Function) => State::Function,
+            (State::ExpressionAsync, Keyword::Function) => State::FunctionExpression,
+            (State::Async | State::ExpressionAsync, _) => State::After,
+            _ => return false,
+        };
+        true
     }
 
     /// What a name is that is declared here.

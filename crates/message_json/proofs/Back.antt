@@ -9,6 +9,7 @@ use Rattle.serde_json.specs.Data.{Data, string}
 use Rattle.serde_json.specs.View.{items_of}
 use Rattle.hmr_types.specs.ModName.{is_name}
 use Rattle.hmr_types.specs.Table.{is_version, rises}
+use Rattle.hmr_types.specs.declared.limits.TheConstants.{LARGEST_NUMBER}
 use Rattle.hmr_types.specs.declared.words.ReloadCause.TheVariants.{Root, Declined}
 use Rattle.hmr_types.specs.declared.analysis.FaultWord.{FaultWord}
 use Rattle.hmr_types.specs.declared.analysis.FaultWord.TheVariants as faults
@@ -24,7 +25,7 @@ use Rattle.update_msgs.specs.declared.message.ServerMsg.TheVariants as server
 use Rattle.update_msgs.specs.Writable.{IsBetween, IsFormat, IsSayable, IsWritable, IsAtMost}
 use Rattle.message_json.specs.declared.fault.MsgFault.{MsgFault}
 use Rattle.message_text.specs.Values.{or_null, row, number_or_null}
-use Rattle.message_json.specs.Reading.{Gives, HasName, field, field_or, only, name_in, number_in, wanted_in, items_in, list_in, some_names_in, rising_in, row_in, table_in, most}
+use Rattle.message_json.specs.Reading.{Gives, HasName, field, field_or, only, name_in, number_in, wanted_in, items_in, list_in, some_names_in, rising_in, row_in, table_in}
 use Rattle.message_json.specs.Words.{spelled, word_in, fault_kinds}
 use Rattle.message_text.specs.ClientText.{say}
 use Rattle.message_json.specs.ClientReading.{client_of}
@@ -38,8 +39,8 @@ use Rattle.message_json.specs.ServerReading as server_reading
 in_range : (low high n : ℕ) → IsBetween low high n → (nat_le low n && nat_le n high) ≡ true
 in_range low high n b = rw (le-leb low n b.least, le-leb n high b.most) refl
 
-from_zero : (n : ℕ) → n ≤ most → (nat_le 0 n && nat_le n most) ≡ true
-from_zero n le = in_range 0 most n (record { least = omega arith; most = le })
+from_zero : (n : ℕ) → n ≤ LARGEST_NUMBER → (nat_le 0 n && nat_le n LARGEST_NUMBER) ≡ true
+from_zero n le = in_range 0 LARGEST_NUMBER n (record { least = omega arith; most = le })
 
 -- ---- lists
 
@@ -56,13 +57,13 @@ rows_back (r ∷ rs) h v =
     let counted = and_parts (is_version r.1) (list_all (λ p. is_version p.1) rs) v in
     rw (named.0, counted.0, rows_back rs named.1 counted.1) refl
 
-updates_back : (us : List JsUpdate) → list_all is_named us ≡ true → All (λ u. u.timestamp ≤ most) us → items_in js_update_in (items_of (map js_update us)) ≡ Some us
+updates_back : (us : List JsUpdate) → list_all is_named us ≡ true → All (λ u. u.timestamp ≤ LARGEST_NUMBER) us → items_in js_update_in (items_of (map js_update us)) ≡ Some us
 unfolding items_in js_update_in field only further_member name_in number_in
 updates_back [] h t = refl
 updates_back (u ∷ us) h t =
     let all = and_parts (is_named u) (list_all is_named us) h in
     let named = and_parts (is_name u.path) (is_name u.accepted_path) all.0 in
-    rw (named.0, named.1, from_zero u.timestamp (All-head (λ u. u.timestamp ≤ most) u us t), updates_back us all.1 (All-tail (λ u. u.timestamp ≤ most) u us t)) refl
+    rw (named.0, named.1, from_zero u.timestamp (All-head (λ u. u.timestamp ≤ LARGEST_NUMBER) u us t), updates_back us all.1 (All-tail (λ u. u.timestamp ≤ LARGEST_NUMBER) u us t)) refl
 
 -- ---- what is there for some kinds alone
 
@@ -73,7 +74,7 @@ name_wanted false None e h = refl
 name_wanted true (Some n) e h = rw h refl
 name_wanted false (Some n) e h = absurd (false≢true (sym e))
 
-number_wanted : (b : Bool) (o : Option ℕ) → is_some o ≡ b → IsAtMost o → wanted_in b (number_in 0 most) (number_or_null o) ≡ Some o
+number_wanted : (b : Bool) (o : Option ℕ) → is_some o ≡ b → IsAtMost o → wanted_in b (number_in 0 LARGEST_NUMBER) (number_or_null o) ≡ Some o
 unfolding wanted_in number_in
 number_wanted true None e h = absurd (false≢true e)
 number_wanted false None e h = refl
@@ -118,7 +119,7 @@ client_back (client.Aborted Broken path (Some f) n) t s = absurd s
 client_back (client.Aborted Link path (Some f) (Some n)) t s = rw (t.0, t.1) refl
 client_back (client.Aborted Link path (Some f) None) t s = absurd s
 client_back (client.Aborted Link path None n) t s = absurd s
-client_back (client.Invalidate path version message) t s = rw (t, in_range 1 most version s) refl
+client_back (client.Invalidate path version message) t s = rw (t, in_range 1 LARGEST_NUMBER version s) refl
 client_back client.Bye t s = refl
 
 pub client_given_back : (d : Data) (m : ClientMsg) (r : Result ClientMsg MsgFault) → client_reading.IsTyped m → IsSayable m → d ≡ say m → Gives r (client_of d) → Gives r (Ok m)
@@ -142,7 +143,7 @@ update_first replaced updates batch triggered t w = rw (names_back replaced t.0,
 update_second : (replaced : List (List ℕ)) (updates : List JsUpdate) (batch : ℕ) (triggered : List (List ℕ)) → ComesBack (server.Update replaced updates batch triggered) 2
 unfolding server_of field only further_member list_in number_in rising_in
 update_second replaced updates batch triggered t w =
-    rw (names_back replaced t.0, updates_back updates t.1 w.timed, names_back triggered t.2, in_range 1 most batch (w.fits refl).counted, (w.fits refl).rising) refl
+    rw (names_back replaced t.0, updates_back updates t.1 w.timed, names_back triggered t.2, in_range 1 LARGEST_NUMBER batch (w.fits refl).counted, (w.fits refl).rising) refl
 
 reload_first : (path : List (List ℕ)) (batch : ℕ) (triggered : List (List ℕ)) → (ComesBack (server.FullReload Root path batch triggered) 1) × (ComesBack (server.FullReload Declined path batch triggered) 1)
 unfolding server_of field only further_member list_in some_names_in word_in spelled
@@ -153,8 +154,8 @@ reload_second : (path : List (List ℕ)) (batch : ℕ) (triggered : List (List �
 unfolding server_of field only further_member list_in some_names_in word_in spelled number_in rising_in
 reload_second [] batch triggered = ((λ t w. let never : ⊥ = omega (arith, w.some) in absurd never), (λ t w. let never : ⊥ = omega (arith, w.some) in absurd never))
 reload_second (n ∷ path) batch triggered = (
-  (λ t w. rw (names_back (n ∷ path) t.0, names_back triggered t.1, in_range 1 most batch (w.fits refl).counted, (w.fits refl).rising) refl),
-  (λ t w. rw (names_back (n ∷ path) t.0, names_back triggered t.1, in_range 1 most batch (w.fits refl).counted, (w.fits refl).rising) refl),
+  (λ t w. rw (names_back (n ∷ path) t.0, names_back triggered t.1, in_range 1 LARGEST_NUMBER batch (w.fits refl).counted, (w.fits refl).rising) refl),
+  (λ t w. rw (names_back (n ∷ path) t.0, names_back triggered t.1, in_range 1 LARGEST_NUMBER batch (w.fits refl).counted, (w.fits refl).rising) refl),
 )
 
 server_back : (format : ℕ) → IsFormat format → (m : ServerMsg) → ComesBack m format
@@ -168,7 +169,7 @@ server_back format f (server.Error path line column kind) t w = rw (t, from_zero
 server_back format f (server.Broken path line column kind) t w = rw (t, from_zero line w.row, from_zero column w.place, kind_back kind) refl
 server_back format f server.Idle t w = refl
 server_back format f server.Done t w = refl
-server_back format f (server.Text path version text) t w = rw (t, in_range 1 most version w.counted, le-leb (length text) 4_294_967_294 w.few) refl
+server_back format f (server.Text path version text) t w = rw (t, in_range 1 LARGEST_NUMBER version w.counted, le-leb (length text) 4_294_967_294 w.few) refl
 server_back format f (server.Missing path) t w = rw t refl
 server_back format f (server.NotYet path) t w = rw t refl
 server_back format f (server.Refused code path told kept) t w =

@@ -10,8 +10,8 @@ use Rattle.json_readings.specs.Object.{KeyValue, entries, keys, rises, HasMember
 use Rattle.json_readings.proofs.Objects.{same_object, ordered_get}
 use Rattle.hmr_types.specs.ModName.{is_name}
 use Rattle.hmr_types.specs.Table.{is_table}
-use Rattle.message_text.specs.Values.{whole, or_null, list, row, number_or_null}
-use Rattle.message_json.specs.Reading.{Fault, ◌>>=◌, found, field, if_none, only, kind_of, if_holds, name_in, number_in, wanted_in, items_in, list_in, is_some_list, some_names_in, two_items, both, row_in, table_in, rising_in}
+use Rattle.message_text.specs.Values.{alone, only_path, whole, or_null, list, row, number_or_null}
+use Rattle.message_json.specs.Reading.{Fault, ◌>>=◌, found, field, if_none, only, kind_of, if_holds, name_in, number_in, wanted_in, items_in, list_in, is_some_list, some_names_in, two_items, both, row_in, table_in, rising_in, plain_of, only_path_of, path_of}
 use Rattle.message_json.specs.ServerReading.{text_in, is_short}
 use Rattle.message_json.specs.Words.{spelled, word_in}
 use Rattle.update_msgs.specs.Names.{rise}
@@ -239,3 +239,24 @@ pub kind_exact : (t : List ℕ) (d : Data) → IsOrdered d → kind_of d ≡ Som
 kind_exact t d a h =
     let v = and_then_some as_str (get (codes "type") d) t h in
     v.1 ∙ ap Some (str_exact v.0 t (ordered_get (codes "type") d v.0 a v.1) v.2)
+
+-- ---- messages of few fields, of either side
+
+pub plain_exact : {M : Type 0} (written : M → Data) (t : List ℕ) (made m : M) (d : Data) → IsOrdered d → kind_of d ≡ Some t
+    → written made ≡ alone t → plain_of made d ≡ Ok m → d ≡ written m
+plain_exact written t made m d a kind is h =
+    let type = kind_exact t d a kind in
+    let none = bind_ok (only (codes "type" ∷ []) d) _ m h in
+    same_value ((codes "type", Some (string t)) ∷ []) (codes "type") _ d none.0 refl a type (type, tt) none.1
+    ∙ sym is ∙ ap written (ok_is _ _ none.2)
+
+pub path_exact : {M : Type 0} (written : M → Data) (t : List ℕ) (made : List ℕ → M) (m : M) (d : Data) → IsOrdered d → kind_of d ≡ Some t
+    → ((path : List ℕ) → written (made path) ≡ only_path t path) → path_of made d ≡ Ok m → d ≡ written m
+path_exact written t made m d a kind is h =
+    let type = kind_exact t d a kind in
+    let given = bind_ok (only_path_of d) _ m h in
+    let path = bind_ok (field name_in (codes "path") d) _ given.0 given.1 in
+    let none = bind_ok (only (codes "path" ∷ codes "type" ∷ []) d) _ given.0 path.2 in
+    same_value ((codes "path", Some (string path.0)) ∷ (codes "type", Some (string t)) ∷ []) (codes "type") _ d none.0 refl a type
+    (field_exact _ string name_exact (codes "path") d path.0 a path.1, (type, tt)) none.1
+    ∙ sym (is path.0) ∙ ap (λ p. written (made p)) (ok_is _ _ none.2) ∙ ap written (ok_is _ _ given.2)

@@ -5,6 +5,7 @@ use Rattle.std.proofs.lemmas.List.Sums.{sum_by-cons}
 use Rattle.serde_json.specs.Data.{Data, string}
 use Rattle.serde_json.specs.View.{items_of}
 use Rattle.serde_json.specs.Find.{get, as_str}
+use Rattle.hmr_types.specs.declared.limits.TheConstants.{LARGEST_NUMBER}
 use Rattle.json_readings.specs.Ordered.{IsOrdered}
 use Rattle.json_readings.specs.Size.{size, items_size}
 use Rattle.json_readings.proofs.Objects.{ordered_get}
@@ -15,12 +16,12 @@ use Rattle.update_msgs.specs.declared.message.ClientMsg.TheVariants as msg
 use Rattle.update_msgs.specs.Desk.{bytes_of}
 use Rattle.message_json.specs.declared.fault.MsgFault.{MsgFault}
 use Rattle.message_text.specs.Values.{HasReading, or_null, whole, list, row}
-use Rattle.message_json.specs.Reading.{Gives, found_or, field_or, kind_of, name_in, some_names_in, most}
+use Rattle.message_json.specs.Reading.{Gives, found_or, field_or, kind_of, name_in, some_names_in}
 use Rattle.message_text.specs.Words.{abort_word}
 use Rattle.message_json.specs.Words.{abort_causes}
 use Rattle.message_text.specs.ClientText.{unless_empty, say}
-use Rattle.message_json.specs.ClientReading.{hello_of, ask_of, fetch_of, applied_of, aborted_of, invalidate_of, bye_of, client_by, client_of}
-use Rattle.message_json.proofs.Fields.{bind_ok, ok_is, found_some, str_exact, name_exact, number_exact, wanted_exact, some_names_exact, table_exact, word_exact, field_exact, same_value, kind_exact, which, text_is}
+use Rattle.message_json.specs.ClientReading.{hello_of, applied_of, aborted_of, invalidate_of, client_by, client_of}
+use Rattle.message_json.proofs.Fields.{bind_ok, ok_is, found_some, str_exact, name_exact, number_exact, wanted_exact, some_names_exact, table_exact, word_exact, field_exact, same_value, kind_exact, plain_exact, path_exact, which, text_is}
 
 roots_at : (k : List ℕ) (xs : List (List ℕ)) (o : Option Data) → ((d : Data) → o ≡ Some d → IsOrdered d) → found_or [] some_names_in k o ≡ Ok xs → o ≡ unless_empty xs
 roots_at k [] None a h = refl
@@ -42,20 +43,6 @@ hello_exact d s a kind h =
     let none = bind_ok _ _ s roots.2 in
     same_value ((codes "format", Some (whole format.0)) ∷ (codes "roots", unless_empty roots.0) ∷ (codes "type", Some (string (codes "hello"))) ∷ []) (codes "type") _ d none.0 refl a type
     (field_exact _ whole (number_exact 1 2) (codes "format") d format.0 a format.1, (roots_exact (codes "roots") d roots.0 a roots.1, (type, tt))) none.1 ∙ ap say (ok_is _ _ none.2)
-
-ask_exact : (d : Data) (s : ClientMsg) → IsOrdered d → kind_of d ≡ Some (codes "ask") → ask_of d ≡ Ok s → d ≡ say s
-ask_exact d s a kind h =
-    let type = kind_exact (codes "ask") d a kind in
-    let none = bind_ok _ _ s h in
-    same_value ((codes "type", Some (string (codes "ask"))) ∷ []) (codes "type") _ d none.0 refl a type (type, tt) none.1 ∙ ap say (ok_is _ _ none.2)
-
-fetch_exact : (d : Data) (s : ClientMsg) → IsOrdered d → kind_of d ≡ Some (codes "fetch") → fetch_of d ≡ Ok s → d ≡ say s
-fetch_exact d s a kind h =
-    let type = kind_exact (codes "fetch") d a kind in
-    let path = bind_ok _ _ s h in
-    let none = bind_ok _ _ s path.2 in
-    same_value ((codes "path", Some (string path.0)) ∷ (codes "type", Some (string (codes "fetch"))) ∷ []) (codes "type") _ d none.0 refl a type
-    (field_exact _ string name_exact (codes "path") d path.0 a path.1, (type, tt)) none.1 ∙ ap say (ok_is _ _ none.2)
 
 applied_exact : (d : Data) (s : ClientMsg) → IsOrdered d → kind_of d ≡ Some (codes "applied") → applied_of d ≡ Ok s → d ≡ say s
 applied_exact d s a kind h =
@@ -96,27 +83,21 @@ invalidate_exact d s a kind h =
       field_exact _ string str_exact (codes "message") d message.0 a message.1,
       (
         field_exact _ string name_exact (codes "path") d path.0 a path.1,
-        (type, (field_exact _ whole (number_exact 1 most) (codes "version") d version.0 a version.1, tt)),
+        (type, (field_exact _ whole (number_exact 1 LARGEST_NUMBER) (codes "version") d version.0 a version.1, tt)),
       ),
     ) none.1 ∙ ap say (ok_is _ _ none.2)
-
-bye_exact : (d : Data) (s : ClientMsg) → IsOrdered d → kind_of d ≡ Some (codes "bye") → bye_of d ≡ Ok s → d ≡ say s
-bye_exact d s a kind h =
-    let type = kind_exact (codes "bye") d a kind in
-    let none = bind_ok _ _ s h in
-    same_value ((codes "type", Some (string (codes "bye"))) ∷ []) (codes "type") _ d none.0 refl a type (type, tt) none.1 ∙ ap say (ok_is _ _ none.2)
 
 by_text : (d : Data) (s : ClientMsg) → IsOrdered d → (o : Option (List ℕ)) → kind_of d ≡ o → client_by o d ≡ Ok s → d ≡ say s
 by_text d s a None is h = cc
 by_text d s a (Some t) is h =
     let at = λ (k : List ℕ) (e : bytes_eq t k ≡ true). is ∙ ap Some (text_is t k e) in
     which (bytes_eq t (codes "hello")) _ _ (λ e f. hello_exact d s a (at _ e) f) (λ e f.
-    which (bytes_eq t (codes "ask")) _ _ (λ e f. ask_exact d s a (at _ e) f) (λ e f.
-    which (bytes_eq t (codes "fetch")) _ _ (λ e f. fetch_exact d s a (at _ e) f) (λ e f.
+    which (bytes_eq t (codes "ask")) _ _ (λ e f. plain_exact say (codes "ask") msg.Ask s d a (at _ e) refl f) (λ e f.
+    which (bytes_eq t (codes "fetch")) _ _ (λ e f. path_exact say (codes "fetch") msg.Fetch s d a (at _ e) (λ p. refl) f) (λ e f.
     which (bytes_eq t (codes "applied")) _ _ (λ e f. applied_exact d s a (at _ e) f) (λ e f.
     which (bytes_eq t (codes "aborted")) _ _ (λ e f. aborted_exact d s a (at _ e) f) (λ e f.
     which (bytes_eq t (codes "invalidate")) _ _ (λ e f. invalidate_exact d s a (at _ e) f) (λ e f.
-    which (bytes_eq t (codes "bye")) _ _ (λ e f. bye_exact d s a (at _ e) f) (λ e f. cc) f) f) f) f) f) f) h
+    which (bytes_eq t (codes "bye")) _ _ (λ e f. plain_exact say (codes "bye") msg.Bye s d a (at _ e) refl f) (λ e f. cc) f) f) f) f) f) f) h
 
 pub client_exact : (d : Data) (s : ClientMsg) → IsOrdered d → client_of d ≡ Ok s → d ≡ say s
 unfolding client_of

@@ -21,6 +21,7 @@ use Rattle.json.proofs.Printed.Utf8.{IsUtf8-are_ascii}
 use Rattle.serde_json.specs.View.{items_of}
 use Rattle.serde_json.specs.Written.{comma_if, compact_text, items_outline, items_text, outline}
 use Rattle.serde_json.proofs.Texts.{print-outline}
+use Rattle.hmr_types.specs.declared.limits.TheConstants.{LARGEST_NUMBER}
 use Rattle.hmr_types.specs.ModName.{is_name, is_segment, is_segment_byte, parts, slash}
 use Rattle.hmr_types.specs.declared.mod_name.NameFault.{NameFault}
 use Rattle.hmr_types.specs.declared.mod_name.NameFault.TheVariants.{NotAName}
@@ -150,7 +151,7 @@ is_read n false h = absurd (not_refused n NotAName (h.1 refl))
 
 version_small : (v : ℕ) → is_version v ≡ true → v < 2 ^ 64
 version_small v h =
-    let most : v ≤ 9007199254740991 = leb-true v 9007199254740991 (and_parts (nat_le 1 v) _ h).1 in
+    let most : v ≤ LARGEST_NUMBER = leb-true v LARGEST_NUMBER (and_parts (nat_le 1 v) _ h).1 in
     omega (arith, most)
 
 rows_numbers : (rs : List (List ℕ × ℕ)) → list_all (λ r. is_version r.1) rs ≡ true → ItemsHaveNumbers (items_outline (items_of (map row rs)))

@@ -4,7 +4,7 @@ use Rattle.std.specs.Prelude.{IfOk, if◌then◌else◌, ⊤}
 use Rattle.serde_json.specs.Data.{Data, string}
 use Rattle.serde_json.specs.Find.{get}
 use Rattle.hmr_types.specs.declared.analysis.FaultWord.{FaultWord}
-use Rattle.hmr_types.specs.declared.limits.TheConstants.{LARGEST_CLIENT}
+use Rattle.hmr_types.specs.declared.limits.TheConstants.{LARGEST_CLIENT, LARGEST_NUMBER}
 use Rattle.json_readings.specs.Ordered.{IsOrdered}
 use Rattle.json_readings.specs.Object.{entries}
 use Rattle.json_readings.proofs.Ordered.{ordered-read}
@@ -15,11 +15,11 @@ use Rattle.update_msgs.specs.declared.message.ServerMsg.TheVariants as msg
 use Rattle.message_json.specs.declared.batch.Batch.{Batch}
 use Rattle.message_json.specs.declared.fault.MsgFault.{MsgFault}
 use Rattle.message_text.specs.Values.{HasReading, or_null, whole, list, number_or_null}
-use Rattle.message_json.specs.Reading.{Fault, Gives, only, kind_of, name_in, most}
+use Rattle.message_json.specs.Reading.{Fault, Gives, only, kind_of, name_in}
 use Rattle.message_json.specs.Words.{reload_causes, fault_kinds}
-use Rattle.message_text.specs.ServerText.{js_update, tell}
-use Rattle.message_json.specs.ServerReading.{ok_of, js_update_of, if_js_update, js_update_in, no_batch, second_batch, connected_of, update_of, prune_of, reload_of, fault_of, plain_of, text_of, path_of, refused_of, server_by, server_of}
-use Rattle.message_json.proofs.Fields.{bind_ok, ok_is, some_is, and_then_some, Exactly, name_exact, number_exact, list_exact, wanted_exact, wanted_number_exact, word_exact, text_exact, rising_exact, some_list_exact, field_exact, same_value, kind_exact, which, which_some, text_is}
+use Rattle.message_text.specs.ServerText.{js_update, tell, text_fault}
+use Rattle.message_json.specs.ServerReading.{ok_of, js_update_of, if_js_update, js_update_in, no_batch, second_batch, connected_of, update_of, prune_of, reload_of, fault_of, text_of, refused_of, server_by, server_of}
+use Rattle.message_json.proofs.Fields.{bind_ok, ok_is, some_is, and_then_some, Exactly, name_exact, number_exact, list_exact, wanted_exact, wanted_number_exact, word_exact, text_exact, rising_exact, some_list_exact, field_exact, same_value, kind_exact, plain_exact, path_exact, which, which_some, text_is}
 
 -- ---- callbacks
 
@@ -35,7 +35,7 @@ js_update_at d u a kind h =
     let timestamp = bind_ok _ _ u accepted.2 in
     let none = bind_ok _ _ u timestamp.2 in
     same_value ((codes "acceptedPath", Some (string accepted.0)) ∷ (codes "path", Some (string path.0)) ∷ (codes "timestamp", Some (whole timestamp.0)) ∷ (codes "type", Some (string (codes "js-update"))) ∷ []) (codes "type") _ d none.0 refl a type
-    (field_exact _ string name_exact (codes "acceptedPath") d accepted.0 a accepted.1, (field_exact _ string name_exact (codes "path") d path.0 a path.1, (field_exact _ whole (number_exact 0 most) (codes "timestamp") d timestamp.0 a timestamp.1, (type, tt)))) none.1
+    (field_exact _ string name_exact (codes "acceptedPath") d accepted.0 a accepted.1, (field_exact _ string name_exact (codes "path") d path.0 a path.1, (field_exact _ whole (number_exact 0 LARGEST_NUMBER) (codes "timestamp") d timestamp.0 a timestamp.1, (type, tt)))) none.1
     ∙ ap js_update (ok_is _ _ none.2)
 
 js_update_exact : Exactly js_update_in js_update
@@ -61,7 +61,7 @@ update_at true d replaced updates batch u a kind at_replaced at_updates h none =
     let number = bind_ok _ _ batch h in
     let triggered = bind_ok _ _ batch number.2 in
     same_value ((codes "batch", Some (whole number.0)) ∷ (codes "replaced", Some (names replaced)) ∷ (codes "triggeredBy", Some (names triggered.0)) ∷ (codes "type", Some (string (codes "update"))) ∷ (codes "updates", Some (list js_update updates)) ∷ []) (codes "type") _ d u refl a type
-    (field_exact _ whole (number_exact 1 most) (codes "batch") d number.0 a number.1, (at_replaced, (field_exact _ names rising_exact (codes "triggeredBy") d triggered.0 a triggered.1, (type, (at_updates, tt))))) none
+    (field_exact _ whole (number_exact 1 LARGEST_NUMBER) (codes "batch") d number.0 a number.1, (at_replaced, (field_exact _ names rising_exact (codes "triggeredBy") d triggered.0 a triggered.1, (type, (at_updates, tt))))) none
     ∙ ap (λ x. entries ((codes "batch", Some (whole x.number)) ∷ (codes "replaced", Some (names replaced)) ∷ (codes "triggeredBy", Some (names x.names)) ∷ (codes "type", Some (string (codes "update"))) ∷ (codes "updates", Some (list js_update updates)) ∷ [])) (ok_is _ batch triggered.2)
 update_at false d replaced updates batch u a kind at_replaced at_updates h none =
     let type = kind_exact (codes "update") d a kind in
@@ -76,7 +76,7 @@ reload_at true d cause path batch u a kind at_cause at_path h none =
     let number = bind_ok _ _ batch h in
     let triggered = bind_ok _ _ batch number.2 in
     same_value ((codes "batch", Some (whole number.0)) ∷ (codes "cause", Some (string cause)) ∷ (codes "path", Some (names path)) ∷ (codes "triggeredBy", Some (names triggered.0)) ∷ (codes "type", Some (string (codes "full-reload"))) ∷ []) (codes "type") _ d u refl a type
-    (field_exact _ whole (number_exact 1 most) (codes "batch") d number.0 a number.1, (at_cause, (at_path, (field_exact _ names rising_exact (codes "triggeredBy") d triggered.0 a triggered.1, (type, tt))))) none
+    (field_exact _ whole (number_exact 1 LARGEST_NUMBER) (codes "batch") d number.0 a number.1, (at_cause, (at_path, (field_exact _ names rising_exact (codes "triggeredBy") d triggered.0 a triggered.1, (type, tt))))) none
     ∙ ap (λ x. entries ((codes "batch", Some (whole x.number)) ∷ (codes "cause", Some (string cause)) ∷ (codes "path", Some (names path)) ∷ (codes "triggeredBy", Some (names x.names)) ∷ (codes "type", Some (string (codes "full-reload"))) ∷ [])) (ok_is _ batch triggered.2)
 reload_at false d cause path batch u a kind at_cause at_path h none =
     let type = kind_exact (codes "full-reload") d a kind in
@@ -123,7 +123,7 @@ module _ (format : ℕ) (d : Data) (m : ServerMsg) (a : IsOrdered d) where
       ∙ ap (tell format) (ok_is _ _ none.2)
 
   fault_exact : (t : List ℕ) (made : List ℕ → ℕ → ℕ → FaultWord → ServerMsg)
-      → ((path : List ℕ) (line column : ℕ) (kind : FaultWord) → tell format (made path line column kind) ≡ entries ((codes "column", Some (whole column)) ∷ (codes "kind", Some (string (fault_word kind))) ∷ (codes "line", Some (whole line)) ∷ (codes "path", Some (string path)) ∷ (codes "type", Some (string t)) ∷ []))
+      → ((path : List ℕ) (line column : ℕ) (kind : FaultWord) → tell format (made path line column kind) ≡ text_fault t path line column kind)
       → kind_of d ≡ Some t → fault_of made d ≡ Ok m → d ≡ tell format m
   fault_exact t made writes kind h =
       let type = kind_exact t d a kind in
@@ -133,14 +133,8 @@ module _ (format : ℕ) (d : Data) (m : ServerMsg) (a : IsOrdered d) where
       let word = bind_ok _ _ m column.2 in
       let none = bind_ok _ _ m word.2 in
       same_value ((codes "column", Some (whole column.0)) ∷ (codes "kind", Some (string (fault_word word.0))) ∷ (codes "line", Some (whole line.0)) ∷ (codes "path", Some (string path.0)) ∷ (codes "type", Some (string t)) ∷ []) (codes "type") _ d none.0 refl a type
-      (field_exact _ whole (number_exact 0 most) (codes "column") d column.0 a column.1, (field_exact _ (λ w. string (fault_word w)) (word_exact fault_word fault_kinds) (codes "kind") d word.0 a word.1, (field_exact _ whole (number_exact 0 most) (codes "line") d line.0 a line.1, (field_exact _ string name_exact (codes "path") d path.0 a path.1, (type, tt))))) none.1
+      (field_exact _ whole (number_exact 0 LARGEST_NUMBER) (codes "column") d column.0 a column.1, (field_exact _ (λ w. string (fault_word w)) (word_exact fault_word fault_kinds) (codes "kind") d word.0 a word.1, (field_exact _ whole (number_exact 0 LARGEST_NUMBER) (codes "line") d line.0 a line.1, (field_exact _ string name_exact (codes "path") d path.0 a path.1, (type, tt))))) none.1
       ∙ sym (writes path.0 line.0 column.0 word.0) ∙ ap (tell format) (ok_is _ _ none.2)
-
-  plain_exact : (t : List ℕ) (made : ServerMsg) → tell format made ≡ entries ((codes "type", Some (string t)) ∷ []) → kind_of d ≡ Some t → plain_of made d ≡ Ok m → d ≡ tell format m
-  plain_exact t made writes kind h =
-      let type = kind_exact t d a kind in
-      let none = bind_ok _ _ m h in
-      same_value ((codes "type", Some (string t)) ∷ []) (codes "type") _ d none.0 refl a type (type, tt) none.1 ∙ sym writes ∙ ap (tell format) (ok_is _ _ none.2)
 
   text_message_exact : kind_of d ≡ Some (codes "text") → text_of d ≡ Ok m → d ≡ tell format m
   text_message_exact kind h =
@@ -150,16 +144,8 @@ module _ (format : ℕ) (d : Data) (m : ServerMsg) (a : IsOrdered d) where
       let text = bind_ok _ _ m version.2 in
       let none = bind_ok _ _ m text.2 in
       same_value ((codes "path", Some (string path.0)) ∷ (codes "text", Some (string text.0)) ∷ (codes "type", Some (string (codes "text"))) ∷ (codes "version", Some (whole version.0)) ∷ []) (codes "type") _ d none.0 refl a type
-      (field_exact _ string name_exact (codes "path") d path.0 a path.1, (field_exact _ string text_exact (codes "text") d text.0 a text.1, (type, (field_exact _ whole (number_exact 1 most) (codes "version") d version.0 a version.1, tt)))) none.1
+      (field_exact _ string name_exact (codes "path") d path.0 a path.1, (field_exact _ string text_exact (codes "text") d text.0 a text.1, (type, (field_exact _ whole (number_exact 1 LARGEST_NUMBER) (codes "version") d version.0 a version.1, tt)))) none.1
       ∙ ap (tell format) (ok_is _ _ none.2)
-
-  path_exact : (t : List ℕ) (made : List ℕ → ServerMsg) → ((path : List ℕ) → tell format (made path) ≡ entries ((codes "path", Some (string path)) ∷ (codes "type", Some (string t)) ∷ [])) → kind_of d ≡ Some t → path_of made d ≡ Ok m → d ≡ tell format m
-  path_exact t made writes kind h =
-      let type = kind_exact t d a kind in
-      let path = bind_ok _ _ m h in
-      let none = bind_ok _ _ m path.2 in
-      same_value ((codes "path", Some (string path.0)) ∷ (codes "type", Some (string t)) ∷ []) (codes "type") _ d none.0 refl a type (field_exact _ string name_exact (codes "path") d path.0 a path.1, (type, tt)) none.1
-      ∙ sym (writes path.0) ∙ ap (tell format) (ok_is _ _ none.2)
 
   refused_exact : kind_of d ≡ Some (codes "refused") → refused_of d ≡ Ok m → d ≡ tell format m
   refused_exact kind h =
@@ -170,7 +156,7 @@ module _ (format : ℕ) (d : Data) (m : ServerMsg) (a : IsOrdered d) where
       let kept = bind_ok _ _ m told.2 in
       let none = bind_ok _ _ m kept.2 in
       same_value ((codes "code", Some (whole code.0)) ∷ (codes "kept", Some (number_or_null kept.0)) ∷ (codes "path", Some (or_null path.0)) ∷ (codes "told", Some (number_or_null told.0)) ∷ (codes "type", Some (string (codes "refused"))) ∷ []) (codes "type") _ d none.0 refl a type
-      (field_exact _ whole (number_exact 1 7) (codes "code") d code.0 a code.1, (field_exact _ number_or_null (wanted_number_exact (code.0 == 4) 0 most) (codes "kept") d kept.0 a kept.1, (field_exact _ or_null (wanted_exact (code.0 == 4 || code.0 == 5) name_in name_exact) (codes "path") d path.0 a path.1, (field_exact _ number_or_null (wanted_number_exact (code.0 == 4) 0 most) (codes "told") d told.0 a told.1, (type, tt))))) none.1
+      (field_exact _ whole (number_exact 1 7) (codes "code") d code.0 a code.1, (field_exact _ number_or_null (wanted_number_exact (code.0 == 4) 0 LARGEST_NUMBER) (codes "kept") d kept.0 a kept.1, (field_exact _ or_null (wanted_exact (code.0 == 4 || code.0 == 5) name_in name_exact) (codes "path") d path.0 a path.1, (field_exact _ number_or_null (wanted_number_exact (code.0 == 4) 0 LARGEST_NUMBER) (codes "told") d told.0 a told.1, (type, tt))))) none.1
       ∙ ap (tell format) (ok_is _ _ none.2)
 
   by_text : (o : Option (List ℕ)) → kind_of d ≡ o → server_by format o d ≡ Ok m → d ≡ tell format m
@@ -183,11 +169,11 @@ module _ (format : ℕ) (d : Data) (m : ServerMsg) (a : IsOrdered d) where
       which (bytes_eq t (codes "full-reload")) _ _ (λ e f. reload_exact (at _ e) f) (λ e f.
       which (bytes_eq t (codes "error")) _ _ (λ e f. fault_exact (codes "error") msg.Error (λ p l c k. refl) (at _ e) f) (λ e f.
       which (bytes_eq t (codes "broken")) _ _ (λ e f. fault_exact (codes "broken") msg.Broken (λ p l c k. refl) (at _ e) f) (λ e f.
-      which (bytes_eq t (codes "idle")) _ _ (λ e f. plain_exact (codes "idle") msg.Idle refl (at _ e) f) (λ e f.
-      which (bytes_eq t (codes "done")) _ _ (λ e f. plain_exact (codes "done") msg.Done refl (at _ e) f) (λ e f.
+      which (bytes_eq t (codes "idle")) _ _ (λ e f. plain_exact (tell format) (codes "idle") msg.Idle m d a (at _ e) refl f) (λ e f.
+      which (bytes_eq t (codes "done")) _ _ (λ e f. plain_exact (tell format) (codes "done") msg.Done m d a (at _ e) refl f) (λ e f.
       which (bytes_eq t (codes "text")) _ _ (λ e f. text_message_exact (at _ e) f) (λ e f.
-      which (bytes_eq t (codes "missing")) _ _ (λ e f. path_exact (codes "missing") msg.Missing (λ p. refl) (at _ e) f) (λ e f.
-      which (bytes_eq t (codes "not-yet")) _ _ (λ e f. path_exact (codes "not-yet") msg.NotYet (λ p. refl) (at _ e) f) (λ e f.
+      which (bytes_eq t (codes "missing")) _ _ (λ e f. path_exact (tell format) (codes "missing") msg.Missing m d a (at _ e) (λ p. refl) f) (λ e f.
+      which (bytes_eq t (codes "not-yet")) _ _ (λ e f. path_exact (tell format) (codes "not-yet") msg.NotYet m d a (at _ e) (λ p. refl) f) (λ e f.
       which (bytes_eq t (codes "refused")) _ _ (λ e f. refused_exact (at _ e) f) (λ e f. cc) f) f) f) f) f) f) f) f) f) f) f) h
 
 server_exact : (format : ℕ) (d : Data) (m : ServerMsg) → IsOrdered d → server_of format d ≡ Ok m → d ≡ tell format m

@@ -8,11 +8,12 @@ use Rattle.serde_json.specs.Data.{Data}
 use Rattle.serde_json.specs.Find.{as_str}
 use Rattle.hmr_types.specs.ModName.{is_name}
 use Rattle.hmr_types.specs.Table.{is_table}
+use Rattle.hmr_types.specs.declared.limits.TheConstants.{LARGEST_NUMBER}
 use Rattle.message_text.specs.Words.{abort_word}
 use Rattle.update_msgs.specs.declared.message.ClientMsg.{ClientMsg}
 use Rattle.update_msgs.specs.declared.message.ClientMsg.TheVariants as msg
-use Rattle.message_json.specs.Reading.{Fault, no_type, ◌>>=◌, field, field_or, only, kind_of, HasName}
-use Rattle.message_json.specs.Reading.{name_in, number_in, most, wanted_in, some_names_in, table_in}
+use Rattle.message_json.specs.Reading.{Fault, no_type, ◌>>=◌, field, field_or, only, plain_of, path_of}
+use Rattle.message_json.specs.Reading.{kind_of, HasName, name_in, number_in, wanted_in, some_names_in, table_in}
 use Rattle.message_json.specs.Words.{abort_causes, is_link, word_in}
 
 abbrev pub hello_of : Data → Result ClientMsg Fault
@@ -21,17 +22,6 @@ hello_of d = do
   roots ← field_or [] some_names_in (codes "roots") d
   none ← only (codes "format" ∷ codes "roots" ∷ codes "type" ∷ []) d
   Ok (msg.Hello format roots)
-
-abbrev pub ask_of : Data → Result ClientMsg Fault
-ask_of d = do
-  none ← only (codes "type" ∷ []) d
-  Ok msg.Ask
-
-abbrev pub fetch_of : Data → Result ClientMsg Fault
-fetch_of d = do
-  path ← field name_in (codes "path") d
-  none ← only (codes "path" ∷ codes "type" ∷ []) d
-  Ok (msg.Fetch path)
 
 abbrev pub applied_of : Data → Result ClientMsg Fault
 applied_of d = do
@@ -51,27 +41,22 @@ aborted_of d = do
 abbrev pub invalidate_of : Data → Result ClientMsg Fault
 invalidate_of d = do
   path ← field name_in (codes "path") d
-  version ← field (number_in 1 most) (codes "version") d
+  version ← field (number_in 1 LARGEST_NUMBER) (codes "version") d
   message ← field as_str (codes "message") d
   none ← only (codes "message" ∷ codes "path" ∷ codes "type" ∷ codes "version" ∷ []) d
   Ok (msg.Invalidate path version message)
-
-abbrev pub bye_of : Data → Result ClientMsg Fault
-bye_of d = do
-  none ← only (codes "type" ∷ []) d
-  Ok msg.Bye
 
 -- by the text at `type`
 abbrev pub client_by : Option (List ℕ) → Data → Result ClientMsg Fault
 client_by None d = Err no_type
 client_by (Some t) d =
     if bytes_eq t (codes "hello") then hello_of d else (
-    if bytes_eq t (codes "ask") then ask_of d else (
-    if bytes_eq t (codes "fetch") then fetch_of d else (
+    if bytes_eq t (codes "ask") then plain_of msg.Ask d else (
+    if bytes_eq t (codes "fetch") then path_of msg.Fetch d else (
     if bytes_eq t (codes "applied") then applied_of d else (
     if bytes_eq t (codes "aborted") then aborted_of d else (
     if bytes_eq t (codes "invalidate") then invalidate_of d else (
-    if bytes_eq t (codes "bye") then bye_of d else Err no_type))))))
+    if bytes_eq t (codes "bye") then plain_of msg.Bye d else Err no_type))))))
 
 -- the message of a client that a value is, or its first fault
 unfoldable pub client_of : Data → Result ClientMsg Fault

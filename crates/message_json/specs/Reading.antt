@@ -9,6 +9,7 @@ use Rattle.json_readings.specs.Object.{one_of, further_member}
 use Rattle.std.specs.Global.{Vec}
 use Rattle.hmr_types.specs.ModName.{is_name}
 use Rattle.hmr_types.specs.Table.{is_table}
+use Rattle.hmr_types.specs.declared.limits.TheConstants.{LARGEST_NUMBER}
 use Rattle.message_text.specs.Values.{HasReading}
 use Rattle.update_msgs.specs.Names.{rise}
 use Rattle.message_json.specs.declared.fault.MsgFault.{MsgFault}
@@ -98,9 +99,6 @@ HasName (Some n) = is_name n ≡ true
 unfoldable pub name_in : Data → Option (List ℕ)
 name_in d = option_and_then (if_holds is_name) (as_str d)
 
-abbrev pub most : ℕ
-most = 9007199254740991
-
 -- from low to high
 unfoldable pub number_in : ℕ → ℕ → Data → Option ℕ
 number_in low high d =
@@ -138,7 +136,8 @@ both x y = option_and_then (λ a. option_map (λ b. (a, b)) y) x
 -- a list of a name and a version
 unfoldable pub row_in : Data → Option (List ℕ × ℕ)
 row_in d =
-    option_and_then (λ p. both (name_in p.0) (number_in 1 most p.1)) (option_and_then two_items (as_array d))
+    option_and_then (λ p. both (name_in p.0) (number_in 1 LARGEST_NUMBER p.1))
+    (option_and_then two_items (as_array d))
 
 -- rows that are a table
 unfoldable pub table_in : Data → Option (List (List ℕ × ℕ))
@@ -147,3 +146,24 @@ table_in d = option_and_then (if_holds is_table) (list_in row_in d)
 -- names that rise
 unfoldable pub rising_in : Data → Option (List (List ℕ))
 rising_in d = option_and_then (if_holds rise) (list_in name_in d)
+
+-- Messages of few fields.
+
+-- a message that has no fields
+abbrev pub plain_of : {M : Type 0} → M → Data → Result M Fault
+plain_of m d = do
+  none ← only (codes "type" ∷ []) d
+  Ok m
+
+-- the path of a message that has no other field
+abbrev pub only_path_of : Data → Result (List ℕ) Fault
+only_path_of d = do
+  path ← field name_in (codes "path") d
+  none ← only (codes "path" ∷ codes "type" ∷ []) d
+  Ok path
+
+-- a message with a path alone
+abbrev pub path_of : {M : Type 0} → (List ℕ → M) → Data → Result M Fault
+path_of made d = do
+  path ← only_path_of d
+  Ok (made path)

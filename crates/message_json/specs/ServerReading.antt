@@ -7,7 +7,7 @@ use Rattle.std.specs.Str.{bytes_eq}
 use Rattle.serde_json.specs.Data.{Data}
 use Rattle.serde_json.specs.Find.{as_str}
 use Rattle.hmr_types.specs.declared.analysis.FaultWord.{FaultWord}
-use Rattle.hmr_types.specs.declared.limits.TheConstants.{LARGEST_CLIENT}
+use Rattle.hmr_types.specs.declared.limits.TheConstants.{LARGEST_CLIENT, LARGEST_NUMBER}
 use Rattle.hmr_types.specs.ModName.{is_name}
 use Rattle.play_text.specs.Words.{fault_word, cause_word}
 use Rattle.update_msgs.specs.declared.message.JsUpdate.{JsUpdate}
@@ -15,8 +15,8 @@ use Rattle.update_msgs.specs.declared.message.ServerMsg.{ServerMsg}
 use Rattle.update_msgs.specs.declared.message.ServerMsg.TheVariants as msg
 use Rattle.update_msgs.specs.Writable.{most_text_bytes}
 use Rattle.message_json.specs.declared.batch.Batch.{Batch}
-use Rattle.message_json.specs.Reading.{Fault, no_type, ◌>>=◌, field, only, kind_of, HasName}
-use Rattle.message_json.specs.Reading.{if_holds, name_in, number_in, most, wanted_in}
+use Rattle.message_json.specs.Reading.{Fault, no_type, ◌>>=◌, field, only, plain_of, path_of, kind_of}
+use Rattle.message_json.specs.Reading.{HasName, if_holds, name_in, number_in, wanted_in}
 use Rattle.message_json.specs.Reading.{list_in, some_names_in, rising_in}
 use Rattle.message_json.specs.Words.{reload_causes, fault_kinds, word_in}
 
@@ -28,7 +28,7 @@ abbrev pub js_update_of : Data → Result JsUpdate Fault
 js_update_of d = do
   path ← field name_in (codes "path") d
   accepted ← field name_in (codes "acceptedPath") d
-  timestamp ← field (number_in 0 most) (codes "timestamp") d
+  timestamp ← field (number_in 0 LARGEST_NUMBER) (codes "timestamp") d
   none ← only (codes "acceptedPath" ∷ codes "path" ∷ codes "timestamp" ∷ codes "type" ∷ []) d
   Ok (record { path = path; accepted_path = accepted; timestamp = timestamp })
 
@@ -52,7 +52,7 @@ no_batch = record { number = 0; names = [] }
 -- the batch, and the names that triggered it
 abbrev pub second_batch : Data → Result Batch Fault
 second_batch d = do
-  batch ← field (number_in 1 most) (codes "batch") d
+  batch ← field (number_in 1 LARGEST_NUMBER) (codes "batch") d
   triggered ← field rising_in (codes "triggeredBy") d
   Ok (record { number = batch; names = triggered })
 
@@ -99,39 +99,26 @@ reload_of format d = do
 abbrev pub fault_of : (List ℕ → ℕ → ℕ → FaultWord → ServerMsg) → Data → Result ServerMsg Fault
 fault_of made d = do
   path ← field name_in (codes "path") d
-  line ← field (number_in 0 most) (codes "line") d
-  column ← field (number_in 0 most) (codes "column") d
+  line ← field (number_in 0 LARGEST_NUMBER) (codes "line") d
+  column ← field (number_in 0 LARGEST_NUMBER) (codes "column") d
   kind ← field (word_in fault_word fault_kinds) (codes "kind") d
   none ← only (codes "column" ∷ codes "kind" ∷ codes "line" ∷ codes "path" ∷ codes "type" ∷ []) d
   Ok (made path line column kind)
 
--- a message without fields
-abbrev pub plain_of : ServerMsg → Data → Result ServerMsg Fault
-plain_of m d = do
-  none ← only (codes "type" ∷ []) d
-  Ok m
-
 abbrev pub text_of : Data → Result ServerMsg Fault
 text_of d = do
   path ← field name_in (codes "path") d
-  version ← field (number_in 1 most) (codes "version") d
+  version ← field (number_in 1 LARGEST_NUMBER) (codes "version") d
   text ← field text_in (codes "text") d
   none ← only (codes "path" ∷ codes "text" ∷ codes "type" ∷ codes "version" ∷ []) d
   Ok (msg.Text path version text)
-
--- a message with a path alone
-abbrev pub path_of : (List ℕ → ServerMsg) → Data → Result ServerMsg Fault
-path_of made d = do
-  path ← field name_in (codes "path") d
-  none ← only (codes "path" ∷ codes "type" ∷ []) d
-  Ok (made path)
 
 abbrev pub refused_of : Data → Result ServerMsg Fault
 refused_of d = do
   code ← field (number_in 1 7) (codes "code") d
   path ← field (wanted_in (code == 4 || code == 5) name_in) (codes "path") d
-  told ← field (wanted_in (code == 4) (number_in 0 most)) (codes "told") d
-  kept ← field (wanted_in (code == 4) (number_in 0 most)) (codes "kept") d
+  told ← field (wanted_in (code == 4) (number_in 0 LARGEST_NUMBER)) (codes "told") d
+  kept ← field (wanted_in (code == 4) (number_in 0 LARGEST_NUMBER)) (codes "kept") d
   none ← only (codes "code" ∷ codes "kept" ∷ codes "path" ∷ codes "told" ∷ codes "type" ∷ []) d
   Ok (msg.Refused code path told kept)
 

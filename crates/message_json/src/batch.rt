@@ -7,6 +7,7 @@ ghost use Rattle.message_json.specs.ServerReading.{batch_of, only_by, second_bat
 use crate::fault::MsgFault;
 use crate::field::{number_field, only};
 use crate::list::rising_field;
+use hmr_types::limits::LARGEST_NUMBER;
 use hmr_types::{ModName, Sequence};
 use serde_json::Value;
 use std::alloc::Global;
@@ -35,7 +36,7 @@ pub(crate) fn batch_of(alloc: Global, value: &Value, format: u8) -> Result<Batch
 fn second_batch(alloc: Global, value: &Value) -> Result<Batch, MsgFault>
     ensures { Gives result (second_batch (view value.now)) }
 {
-    let number = number_field(alloc, value, "batch", 1, 9_007_199_254_740_991)?;
+    let number = number_field(alloc, value, "batch", 1, LARGEST_NUMBER)?;
     let names = Sequence::from_vec(rising_field(alloc, value, "triggeredBy")?);
     Ok(Batch { number, names })
 }

@@ -5,22 +5,25 @@ ghost use Rattle.serde_json.specs.View.{view};
 ghost use Rattle.update_msgs.specs.Desk.{bytes_of};
 ghost use Rattle.update_msgs.specs.Writable.{IsSayable};
 ghost use Rattle.update_msgs.specs.declared.message.ClientMsg as told;
+ghost use Rattle.update_msgs.specs.declared.message.ClientMsg.TheVariants as msg;
 ghost use Rattle.message_text.specs.Values.{HasReading};
-ghost use Rattle.message_json.specs.Reading.{Gives, HasCause, field};
+ghost use Rattle.message_json.specs.Reading.{Gives, HasCause, field, path_of};
 ghost use Rattle.message_text.specs.Words.{abort_word};
 ghost use Rattle.message_json.specs.Words.{abort_causes, word_in};
 ghost use Rattle.message_text.specs.ClientText.{say};
-ghost use Rattle.message_json.specs.ClientReading.{IsTyped, aborted_of, applied_of, ask_of, bye_of};
-ghost use Rattle.message_json.specs.ClientReading.{client_of, fetch_of, hello_of, invalidate_of};
+ghost use Rattle.message_json.specs.ClientReading.{IsTyped, aborted_of, applied_of, client_of};
+ghost use Rattle.message_json.specs.ClientReading.{hello_of, invalidate_of};
 
 use crate::fault::MsgFault;
 use crate::field::{
-    found, name_field, number_field, only, text_field, wanted_name_field, wanted_text_field,
+    found, name_field, number_field, only, only_path_of, plain_of, text_field, wanted_name_field,
+    wanted_text_field,
 };
 use crate::list::{roots_field, table_field};
 use crate::table_text::written_table;
 use crate::words::{abort_of, is_link};
 use hmr_types::Sequence;
+use hmr_types::limits::LARGEST_NUMBER;
 use serde_json::Value;
 use std::alloc::Global;
 use update_msgs::{AbortCause, ClientMsg};
@@ -73,12 +76,12 @@ fn message_of(alloc: Global, value: &Value) -> Result<ClientMsg, MsgFault>
 {
     match value.get("type").and_then(Value::as_str) {
         Some("hello") => hello_of(alloc, value),
-        Some("ask") => ask_of(alloc, value),
+        Some("ask") => plain_of(alloc, value, ClientMsg::Ask),
         Some("fetch") => fetch_of(alloc, value),
         Some("applied") => applied_of(alloc, value),
         Some("aborted") => aborted_of(alloc, value),
         Some("invalidate") => invalidate_of(alloc, value),
-        Some("bye") => bye_of(alloc, value),
+        Some("bye") => plain_of(alloc, value, ClientMsg::Bye),
         _ => Err(MsgFault::NoType),
     }
 }
@@ -93,18 +96,10 @@ fn hello_of(alloc: Global, value: &Value) -> Result<ClientMsg, MsgFault>
     Ok(ClientMsg::Hello { format, roots })
 }
 
-fn ask_of(alloc: Global, value: &Value) -> Result<ClientMsg, MsgFault>
-    ensures { Gives result (ask_of (view value.now)) }
-{
-    only(alloc, value, &["type"])?;
-    Ok(ClientMsg::Ask)
-}
-
 fn fetch_of(alloc: Global, value: &Value) -> Result<ClientMsg, MsgFault>
-    ensures { Gives result (fetch_of (view value.now)) }
+    ensures { Gives result (path_of msg.Fetch (view value.now)) }
 {
-    let path = name_field(alloc, value, "path")?;
-    only(alloc, value, &["path", "type"])?;
+    let path = only_path_of(alloc, value)?;
     Ok(ClientMsg::Fetch { path })
 }
 
@@ -146,7 +141,7 @@ fn invalidate_of(alloc: Global, value: &Value) -> Result<ClientMsg, MsgFault>
     ensures { Gives result (invalidate_of (view value.now)) }
 {
     let path = name_field(alloc, value, "path")?;
-    let version = number_field(alloc, value, "version", 1, 9_007_199_254_740_991)?;
+    let version = number_field(alloc, value, "version", 1, LARGEST_NUMBER)?;
     let message = text_field(alloc, value, "message")?;
     only(alloc, value, &["message", "path", "type", "version"])?;
     Ok(ClientMsg::Invalidate {
@@ -154,11 +149,4 @@ fn invalidate_of(alloc: Global, value: &Value) -> Result<ClientMsg, MsgFault>
         version,
         message,
     })
-}
-
-fn bye_of(alloc: Global, value: &Value) -> Result<ClientMsg, MsgFault>
-    ensures { Gives result (bye_of (view value.now)) }
-{
-    only(alloc, value, &["type"])?;
-    Ok(ClientMsg::Bye)
 }

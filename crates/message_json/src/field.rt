@@ -6,12 +6,14 @@ ghost use Rattle.serde_json.specs.Find.{as_str};
 ghost use Rattle.serde_json.specs.View.{members_view, view};
 ghost use Rattle.json_readings.specs.Object.{further_member, one_of};
 ghost use Rattle.hmr_types.specs.ModName.{is_name};
+ghost use Rattle.hmr_types.specs.declared.limits.TheConstants.{LARGEST_NUMBER};
 ghost use Rattle.message_json.specs.Reading.{Gives, field, found, if_holds, if_none};
-ghost use Rattle.message_json.specs.Reading.{name_in, number_in, only, wanted_in};
+ghost use Rattle.message_json.specs.Reading.{name_in, number_in, only, only_path_of, plain_of, wanted_in};
 ghost use Rattle.message_json.specs.ServerReading.{text_in};
 ghost use Rattle.update_msgs.specs.Writable.{most_text_bytes};
 
 use crate::fault::MsgFault;
+use hmr_types::limits::LARGEST_NUMBER;
 use hmr_types::{ModName, NameFault, Text};
 use serde_json::{Map, Value};
 use std::alloc::{AllocError, Global};
@@ -163,10 +165,10 @@ fn wanted_text_in(
 
 #[tactic(auto, unfolding(crate::specs::Reading::wanted_in))]
 fn wanted_number_in(wanted: bool, value: &Value) -> Option<Option<u64>>
-    ensures { result ≡ wanted_in wanted (number_in 0 9007199254740991) (view value.now) }
+    ensures { result ≡ wanted_in wanted (number_in 0 LARGEST_NUMBER) (view value.now) }
 {
     if wanted {
-        match number_in(0, 9_007_199_254_740_991, value) {
+        match number_in(0, LARGEST_NUMBER, value) {
             Some(n) => Some(Some(n)),
             None => None,
         }
@@ -215,7 +217,7 @@ pub(crate) fn wanted_number_field(
     wanted: bool,
 ) -> Result<Option<u64>, MsgFault>
     ensures { Gives result
-        (field (wanted_in wanted (number_in 0 9007199254740991)) key.now (view value.now)) }
+        (field (wanted_in wanted (number_in 0 LARGEST_NUMBER)) key.now (view value.now)) }
 {
     match value.get(key) {
         Some(inner) => found(alloc, key, wanted_number_in(wanted, inner)),
@@ -234,6 +236,23 @@ pub(crate) fn only(alloc: Global, value: &Value, known: &[&str]) -> Result<(), M
         Some(members) => no_further(alloc, members, known),
         None => Ok(()),
     }
+}
+
+/// A message that has no fields.
+pub(crate) fn plain_of<M: Drop>(alloc: Global, value: &Value, message: M) -> Result<M, MsgFault>
+    ensures { Gives result (plain_of message (view value.now)) }
+{
+    only(alloc, value, &["type"])?;
+    Ok(message)
+}
+
+/// The path of a message that has no other field.
+pub(crate) fn only_path_of(alloc: Global, value: &Value) -> Result<ModName, MsgFault>
+    ensures { Gives result (only_path_of (view value.now)) }
+{
+    let path = name_field(alloc, value, "path")?;
+    only(alloc, value, &["path", "type"])?;
+    Ok(path)
 }
 
 #[tactic(auto, unfolding(json_readings::specs::Object::further_member))]

@@ -9,6 +9,7 @@ ghost use Rattle.message_json.specs.Reading.{some_names_in, table_in, two_items}
 
 use crate::fault::MsgFault;
 use crate::field::{found, name_in, number_in};
+use hmr_types::limits::LARGEST_NUMBER;
 use hmr_types::{ModName, Table, Ver};
 use serde_json::Value;
 use std::alloc::{AllocError, Global};
@@ -104,7 +105,7 @@ fn row_in(alloc: Global, value: &Value) -> Result<Option<(ModName, Ver)>, AllocE
 {
     match two_items(value) {
         Some((first, second)) => match name_in(alloc, first)? {
-            Some(path) => match number_in(1, 9_007_199_254_740_991, second) {
+            Some(path) => match number_in(1, LARGEST_NUMBER, second) {
                 Some(version) => Ok(Some((path, version))),
                 None => Ok(None),
             },

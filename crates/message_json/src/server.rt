@@ -8,22 +8,23 @@ ghost use Rattle.update_msgs.specs.Writable.{IsFormat, IsWritable};
 ghost use Rattle.update_msgs.specs.declared.message.ServerMsg as told;
 ghost use Rattle.update_msgs.specs.declared.message.ServerMsg.TheVariants as msg;
 ghost use Rattle.message_text.specs.Values.{HasReading};
-ghost use Rattle.message_json.specs.Reading.{Gives, HasCause, field};
+ghost use Rattle.message_json.specs.Reading.{Gives, HasCause, field, path_of};
 ghost use Rattle.message_json.specs.Words.{fault_kinds, reload_causes, word_in};
 ghost use Rattle.message_text.specs.ServerText.{tell};
-ghost use Rattle.message_json.specs.ServerReading.{IsTyped, connected_of, fault_of, kind_by, path_of};
-ghost use Rattle.message_json.specs.ServerReading.{plain_of, prune_of, refused_of, reload_of, server_of};
-ghost use Rattle.message_json.specs.ServerReading.{telling_by, text_of, update_of};
+ghost use Rattle.message_json.specs.ServerReading.{IsTyped, connected_of, fault_of, kind_by, prune_of};
+ghost use Rattle.message_json.specs.ServerReading.{refused_of, reload_of, server_of, telling_by, text_of};
+ghost use Rattle.message_json.specs.ServerReading.{update_of};
 
 use crate::batch::{batch_of, only_by};
 use crate::fault::MsgFault;
 use crate::field::{
-    found, module_text_field, name_field, number_field, only, wanted_name_field,
-    wanted_number_field,
+    found, module_text_field, name_field, number_field, only, only_path_of, plain_of,
+    wanted_name_field, wanted_number_field,
 };
 use crate::list::{names_field, some_names_field};
 use crate::update::updates_field;
 use crate::words::{fault_of, reload_of};
+use hmr_types::limits::LARGEST_NUMBER;
 use hmr_types::{FaultWord, ReloadCause, Sequence};
 use serde_json::Value;
 use std::alloc::Global;
@@ -79,8 +80,8 @@ fn telling_of(alloc: Global, value: &Value, kind: &str) -> Result<ServerMsg, Msg
     ensures { Gives result (telling_by kind.now (view value.now)) }
 {
     match kind {
-        "idle" => idle_of(alloc, value),
-        "done" => done_of(alloc, value),
+        "idle" => plain_of(alloc, value, ServerMsg::Idle),
+        "done" => plain_of(alloc, value, ServerMsg::Done),
         "text" => text_of(alloc, value),
         "missing" => missing_of(alloc, value),
         "not-yet" => not_yet_of(alloc, value),
@@ -173,8 +174,8 @@ fn error_of(alloc: Global, value: &Value) -> Result<ServerMsg, MsgFault>
     ensures { Gives result (fault_of msg.Error (view value.now)) }
 {
     let path = name_field(alloc, value, "path")?;
-    let line = number_field(alloc, value, "line", 0, 9_007_199_254_740_991)?;
-    let column = number_field(alloc, value, "column", 0, 9_007_199_254_740_991)?;
+    let line = number_field(alloc, value, "line", 0, LARGEST_NUMBER)?;
+    let column = number_field(alloc, value, "column", 0, LARGEST_NUMBER)?;
     let kind = kind_field(alloc, value, "kind")?;
     only(alloc, value, &["column", "kind", "line", "path", "type"])?;
     Ok(ServerMsg::Error {
@@ -189,8 +190,8 @@ fn broken_of(alloc: Global, value: &Value) -> Result<ServerMsg, MsgFault>
     ensures { Gives result (fault_of msg.Broken (view value.now)) }
 {
     let path = name_field(alloc, value, "path")?;
-    let line = number_field(alloc, value, "line", 0, 9_007_199_254_740_991)?;
-    let column = number_field(alloc, value, "column", 0, 9_007_199_254_740_991)?;
+    let line = number_field(alloc, value, "line", 0, LARGEST_NUMBER)?;
+    let column = number_field(alloc, value, "column", 0, LARGEST_NUMBER)?;
     let kind = kind_field(alloc, value, "kind")?;
     only(alloc, value, &["column", "kind", "line", "path", "type"])?;
     Ok(ServerMsg::Broken {
@@ -201,25 +202,11 @@ fn broken_of(alloc: Global, value: &Value) -> Result<ServerMsg, MsgFault>
     })
 }
 
-fn idle_of(alloc: Global, value: &Value) -> Result<ServerMsg, MsgFault>
-    ensures { Gives result (plain_of msg.Idle (view value.now)) }
-{
-    only(alloc, value, &["type"])?;
-    Ok(ServerMsg::Idle)
-}
-
-fn done_of(alloc: Global, value: &Value) -> Result<ServerMsg, MsgFault>
-    ensures { Gives result (plain_of msg.Done (view value.now)) }
-{
-    only(alloc, value, &["type"])?;
-    Ok(ServerMsg::Done)
-}
-
 fn text_of(alloc: Global, value: &Value) -> Result<ServerMsg, MsgFault>
     ensures { Gives result (text_of (view value.now)) }
 {
     let path = name_field(alloc, value, "path")?;
-    let version = number_field(alloc, value, "version", 1, 9_007_199_254_740_991)?;
+    let version = number_field(alloc, value, "version", 1, LARGEST_NUMBER)?;
     let text = module_text_field(alloc, value, "text")?;
     only(alloc, value, &["path", "text", "type", "version"])?;
     Ok(ServerMsg::Text {
@@ -232,16 +219,14 @@ fn text_of(alloc: Global, value: &Value) -> Result<ServerMsg, MsgFault>
 fn missing_of(alloc: Global, value: &Value) -> Result<ServerMsg, MsgFault>
     ensures { Gives result (path_of msg.Missing (view value.now)) }
 {
-    let path = name_field(alloc, value, "path")?;
-    only(alloc, value, &["path", "type"])?;
+    let path = only_path_of(alloc, value)?;
     Ok(ServerMsg::Missing { path })
 }
 
 fn not_yet_of(alloc: Global, value: &Value) -> Result<ServerMsg, MsgFault>
     ensures { Gives result (path_of msg.NotYet (view value.now)) }
 {
-    let path = name_field(alloc, value, "path")?;
-    only(alloc, value, &["path", "type"])?;
+    let path = only_path_of(alloc, value)?;
     Ok(ServerMsg::NotYet { path })
 }
 

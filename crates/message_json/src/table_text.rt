@@ -7,8 +7,8 @@ use crate::field::read_name;
 use hmr_types::{ModName, Table, Ver};
 use std::alloc::{AllocError, Global};
 
-/// The table, of one row or more, that bytes are the text of as [`crate::encode_client`] writes it. None for a
-/// table in another spelling, and for bytes of anything else. It takes time in proportion to the bytes, and
+/// The table, of one row or more, that bytes are the text of as [`crate::encode_client`] writes it. None for
+/// a table in another spelling, and for bytes of anything else. It takes time in proportion to the bytes, and
 /// memory for the table alone.
 pub(crate) fn written_table(alloc: Global, bytes: &[u8]) -> Result<Option<Table>, AllocError>
     ensures { IfOk result (λ o. IfSome o (IsTableText bytes.now)) }

@@ -6,6 +6,7 @@ ghost use Rattle.message_json.specs.ServerReading.{js_update_in, js_update_of};
 
 use crate::fault::MsgFault;
 use crate::field::{found, name_field, number_field, only};
+use hmr_types::limits::LARGEST_NUMBER;
 use serde_json::Value;
 use std::alloc::{AllocError, Global};
 use update_msgs::JsUpdate;
@@ -15,7 +16,7 @@ fn js_update_of(alloc: Global, value: &Value) -> Result<JsUpdate, MsgFault>
 {
     let path = name_field(alloc, value, "path")?;
     let accepted_path = name_field(alloc, value, "acceptedPath")?;
-    let timestamp = number_field(alloc, value, "timestamp", 0, 9_007_199_254_740_991)?;
+    let timestamp = number_field(alloc, value, "timestamp", 0, LARGEST_NUMBER)?;
     only(alloc, value, &["acceptedPath", "path", "timestamp", "type"])?;
     Ok(JsUpdate {
         path,

@@ -18,6 +18,7 @@ use Rattle.serde_json.specs.Written.{outline, items_outline, has_float, items_ha
 use Rattle.serde_json.proofs.Numbers.{number_of-decimal}
 use Rattle.serde_json.proofs.Texts.{print-outline}
 use Rattle.hmr_types.specs.Table.{is_version, rises}
+use Rattle.hmr_types.specs.declared.limits.TheConstants.{LARGEST_NUMBER}
 use Rattle.hmr_types.specs.declared.words.ReloadCause.{ReloadCause}
 use Rattle.update_msgs.specs.Writable.{IsSayable}
 use Rattle.update_msgs.specs.declared.message.ClientMsg.{ClientMsg}
@@ -63,7 +64,7 @@ rows_back : (rs : List (List ℕ × ℕ)) → list_all (λ r. is_version r.1) rs
 rows_back [] h = refl
 rows_back (r ∷ rs) h =
     let both = and_parts (is_version r.1) _ h in
-    let most : r.1 ≤ 9007199254740991 = leb-true r.1 9007199254740991 (and_parts (nat_le 1 r.1) _ both.0).1 in
+    let most : r.1 ≤ LARGEST_NUMBER = leb-true r.1 LARGEST_NUMBER (and_parts (nat_le 1 r.1) _ both.0).1 in
     rw (number_of-decimal r.1 (omega (arith, most)), rows_back rs both.1) refl
 
 pub say_back : (m : ClientMsg) → IsSayable m → HasTable m → of_json (outline (say m)) ≡ Some (say m)

@@ -6,7 +6,7 @@ use Rattle.hmr_types.specs.Table.{is_table}
 use Rattle.json_readings.specs.Object.{entries}
 use Rattle.update_msgs.specs.declared.message.ClientMsg.{ClientMsg}
 use Rattle.update_msgs.specs.declared.message.ClientMsg.TheVariants as msg
-use Rattle.message_text.specs.Values.{whole, or_null, list, row}
+use Rattle.message_text.specs.Values.{alone, only_path, whole, or_null, list, row}
 use Rattle.message_text.specs.Words.{abort_word}
 
 -- the roots are written where there are some
@@ -19,9 +19,8 @@ abbrev pub say : ClientMsg → Data
 say (msg.Hello format roots) =
     entries ((codes "format", Some (whole format)) ∷ (codes "roots", unless_empty roots)
     ∷ (codes "type", Some (string (codes "hello"))) ∷ [])
-say msg.Ask = entries ((codes "type", Some (string (codes "ask"))) ∷ [])
-say (msg.Fetch path) =
-    entries ((codes "path", Some (string path)) ∷ (codes "type", Some (string (codes "fetch"))) ∷ [])
+say msg.Ask = alone (codes "ask")
+say (msg.Fetch path) = only_path (codes "fetch") path
 say (msg.Applied table) =
     entries ((codes "table", Some (list row table)) ∷ (codes "type", Some (string (codes "applied"))) ∷ [])
 say (msg.Aborted cause path from name) =
@@ -31,7 +30,7 @@ say (msg.Aborted cause path from name) =
 say (msg.Invalidate path version message) =
     entries ((codes "message", Some (string message)) ∷ (codes "path", Some (string path))
     ∷ (codes "type", Some (string (codes "invalidate"))) ∷ (codes "version", Some (whole version)) ∷ [])
-say msg.Bye = entries ((codes "type", Some (string (codes "bye"))) ∷ [])
+say msg.Bye = alone (codes "bye")
 
 -- the text of a message: its value without spaces
 abbrev pub client_text : ClientMsg → List ℕ

@@ -2,12 +2,13 @@
 use Rattle.std.specs.Prelude.{ℕ, List, [], ◌∷◌, codes, ◌==◌, if◌then◌else◌, Option, Some, None}
 use Rattle.serde_json.specs.Data.{Data, string}
 use Rattle.serde_json.specs.Written.{compact_text}
+use Rattle.hmr_types.specs.declared.analysis.FaultWord.{FaultWord}
 use Rattle.json_readings.specs.Object.{entries}
 use Rattle.play_text.specs.Words.{fault_word, cause_word}
 use Rattle.update_msgs.specs.declared.message.JsUpdate.{JsUpdate}
 use Rattle.update_msgs.specs.declared.message.ServerMsg.{ServerMsg}
 use Rattle.update_msgs.specs.declared.message.ServerMsg.TheVariants as msg
-use Rattle.message_text.specs.Values.{whole, or_null, number_or_null, list}
+use Rattle.message_text.specs.Values.{alone, only_path, whole, or_null, number_or_null, list}
 
 -- a callback to be called
 abbrev pub js_update : JsUpdate → Data
@@ -18,6 +19,13 @@ js_update u =
 -- what is written in the second format alone
 abbrev pub in_second : ℕ → Data → Option Data
 in_second format d = if format == 2 then Some d else None
+
+-- a fault of a text: the module, the place and the kind
+abbrev pub text_fault : List ℕ → List ℕ → ℕ → ℕ → FaultWord → Data
+text_fault word path line column kind =
+    entries ((codes "column", Some (whole column)) ∷ (codes "kind", Some (string (fault_word kind)))
+    ∷ (codes "line", Some (whole line)) ∷ (codes "path", Some (string path))
+    ∷ (codes "type", Some (string word)) ∷ [])
 
 -- the JSON value of a message in a format
 abbrev pub tell : ℕ → ServerMsg → Data
@@ -38,23 +46,15 @@ tell format (msg.FullReload cause path batch triggered) =
     ∷ (codes "path", Some (list string path))
     ∷ (codes "triggeredBy", in_second format (list string triggered))
     ∷ (codes "type", Some (string (codes "full-reload"))) ∷ [])
-tell format (msg.Error path line column kind) =
-    entries ((codes "column", Some (whole column)) ∷ (codes "kind", Some (string (fault_word kind)))
-    ∷ (codes "line", Some (whole line)) ∷ (codes "path", Some (string path))
-    ∷ (codes "type", Some (string (codes "error"))) ∷ [])
-tell format (msg.Broken path line column kind) =
-    entries ((codes "column", Some (whole column)) ∷ (codes "kind", Some (string (fault_word kind)))
-    ∷ (codes "line", Some (whole line)) ∷ (codes "path", Some (string path))
-    ∷ (codes "type", Some (string (codes "broken"))) ∷ [])
-tell format msg.Idle = entries ((codes "type", Some (string (codes "idle"))) ∷ [])
-tell format msg.Done = entries ((codes "type", Some (string (codes "done"))) ∷ [])
+tell format (msg.Error path line column kind) = text_fault (codes "error") path line column kind
+tell format (msg.Broken path line column kind) = text_fault (codes "broken") path line column kind
+tell format msg.Idle = alone (codes "idle")
+tell format msg.Done = alone (codes "done")
 tell format (msg.Text path version text) =
     entries ((codes "path", Some (string path)) ∷ (codes "text", Some (string text))
     ∷ (codes "type", Some (string (codes "text"))) ∷ (codes "version", Some (whole version)) ∷ [])
-tell format (msg.Missing path) =
-    entries ((codes "path", Some (string path)) ∷ (codes "type", Some (string (codes "missing"))) ∷ [])
-tell format (msg.NotYet path) =
-    entries ((codes "path", Some (string path)) ∷ (codes "type", Some (string (codes "not-yet"))) ∷ [])
+tell format (msg.Missing path) = only_path (codes "missing") path
+tell format (msg.NotYet path) = only_path (codes "not-yet") path
 tell format (msg.Refused code path told kept) =
     entries ((codes "code", Some (whole code)) ∷ (codes "kept", Some (number_or_null kept))
     ∷ (codes "path", Some (or_null path)) ∷ (codes "told", Some (number_or_null told))

@@ -1,11 +1,12 @@
 -- What bytes stand for, and the JSON values of the parts of messages.
-use Rattle.std.specs.Prelude.{◌≡◌, ℕ, List, Option, Some, None, IsUtf8, map}
+use Rattle.std.specs.Prelude.{◌≡◌, ℕ, List, [], ◌∷◌, codes, Option, Some, None, IsUtf8, map}
 use Rattle.json.specs.Token.{Token}
 use Rattle.json.specs.Tree.{items_tokens, json_tokens}
 use Rattle.serde_json.specs.Data.{Data, null, number, unsigned, string, array, no_items, item}
 use Rattle.serde_json.specs.Read.{read}
 use Rattle.serde_json.specs.View.{items_of}
 use Rattle.serde_json.specs.Written.{items_outline, outline}
+use Rattle.json_readings.specs.Object.{entries}
 
 -- what the bytes stand for
 pub record HasReading (bytes : List ℕ) (d : Data) : Type 0 where
@@ -31,6 +32,14 @@ list w xs = array (items_of (map w xs))
 -- a list of a name and a version
 abbrev pub row : List ℕ × ℕ → Data
 row r = array (item (string r.0) (item (whole r.1) no_items))
+
+-- an object of a type alone
+abbrev pub alone : List ℕ → Data
+alone word = entries ((codes "type", Some (string word)) ∷ [])
+
+-- an object of a type and a path alone
+abbrev pub only_path : List ℕ → List ℕ → Data
+only_path word path = entries ((codes "path", Some (string path)) ∷ (codes "type", Some (string word)) ∷ [])
 
 -- the tokens of a value that has no float
 abbrev pub tokens_of : Data → List Token

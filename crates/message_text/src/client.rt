@@ -5,7 +5,7 @@ ghost use Rattle.json_readings.specs.Object.{entries};
 ghost use Rattle.update_msgs.specs.Writable.{IsSayable};
 ghost use Rattle.update_msgs.specs.declared.message.ClientMsg.TheVariants as msg;
 ghost use Rattle.hmr_types.specs.Table.{is_table};
-ghost use Rattle.message_text.specs.Values.{HasReading, list, tokens_of, whole};
+ghost use Rattle.message_text.specs.Values.{HasReading, alone, list, tokens_of, whole};
 ghost use Rattle.message_text.specs.ClientText.{HasTable, client_text, say};
 
 use crate::members::{
@@ -36,7 +36,7 @@ fn put(out: &mut Writer, msg: &ClientMsg) -> Result<(), AllocError>
 {
     match msg {
         ClientMsg::Hello { format, roots } => put_hello(out, *format, roots.as_slice()),
-        ClientMsg::Ask => put_ask(out),
+        ClientMsg::Ask => put_alone(out, "ask"),
         ClientMsg::Fetch { path } => put_fetch(out, path),
         ClientMsg::Applied { table } => put_applied(out, table),
         ClientMsg::Aborted {
@@ -50,7 +50,7 @@ fn put(out: &mut Writer, msg: &ClientMsg) -> Result<(), AllocError>
             version,
             message,
         } => put_invalidate(out, path, *version, message),
-        ClientMsg::Bye => put_bye(out),
+        ClientMsg::Bye => put_alone(out, "bye"),
     }
 }
 
@@ -94,12 +94,13 @@ fn put_rooted(out: &mut Writer, format: u64, roots: &[ModName]) -> Result<(), Al
     out.end_object()
 }
 
-fn put_ask(out: &mut Writer) -> Result<(), AllocError>
-    ensures tokens { OnOk result (out.new.tokens ≡ out.old.tokens ++ tokens_of (say msg.Ask)) }
+// A message that has no fields.
+fn put_alone(out: &mut Writer, word: &str) -> Result<(), AllocError>
+    ensures tokens { OnOk result (out.new.tokens ≡ out.old.tokens ++ tokens_of (alone word.now)) }
     ensures before { out.new.before ≡ out.old.before }
 {
     out.begin_object()?;
-    put_text(out, "type", "ask")?;
+    put_text(out, "type", word)?;
     out.end_object()
 }
 
@@ -172,14 +173,5 @@ fn put_invalidate(
     put_text(out, "type", "invalidate")?;
     out.key("version")?;
     out.u64(version)?;
-    out.end_object()
-}
-
-fn put_bye(out: &mut Writer) -> Result<(), AllocError>
-    ensures tokens { OnOk result (out.new.tokens ≡ out.old.tokens ++ tokens_of (say msg.Bye)) }
-    ensures before { out.new.before ≡ out.old.before }
-{
-    out.begin_object()?;
-    put_text(out, "type", "bye")?;
     out.end_object()
 }

@@ -3,10 +3,11 @@ ghost use Rattle.std.specs.Prelude.{◌≡◌, ◌∷◌, [], codes, Some, IfOk,
 ghost use Rattle.serde_json.specs.Data.{string};
 ghost use Rattle.serde_json.specs.View.{view};
 ghost use Rattle.json_readings.specs.Object.{entries};
-ghost use Rattle.play_text.specs.Words.{cause_word, fault_word};
+ghost use Rattle.play_text.specs.Words.{cause_word};
 ghost use Rattle.update_msgs.specs.Writable.{IsFormat, IsWritable};
-ghost use Rattle.message_text.specs.Values.{HasReading, list, number_or_null, or_null, whole};
-ghost use Rattle.message_text.specs.ServerText.{in_second, js_update, server_text, tell};
+ghost use Rattle.message_text.specs.Values.{HasReading, alone, list, number_or_null, only_path};
+ghost use Rattle.message_text.specs.Values.{or_null, whole};
+ghost use Rattle.message_text.specs.ServerText.{in_second, js_update, server_text, tell, text_fault};
 
 use crate::parts::{name_or_null, names_value, number_or_null};
 use hmr_types::{ClientId, FaultWord, ModName, ReloadCause, Text, Ver};
@@ -90,14 +91,13 @@ fn value_of(alloc: Global, msg: &ServerMsg, format: u8) -> Result<Value, AllocEr
 }
 
 fn word_value(alloc: Global, word: &str) -> Result<Value, AllocError>
-    ensures { IfOk result (λ v. view v ≡ entries ((codes "type", Some (string word.now)) ∷ [])) }
+    ensures { IfOk result (λ v. view v ≡ alone word.now) }
 {
     json!(in alloc; {"type": word})
 }
 
 fn named_value(alloc: Global, path: &ModName, word: &str) -> Result<Value, AllocError>
-    ensures { IfOk result (λ v. view v ≡ entries (
-        (codes "path", Some (string path.now)) ∷ (codes "type", Some (string word.now)) ∷ [])) }
+    ensures { IfOk result (λ v. view v ≡ only_path word.now path.now) }
 {
     json!(in alloc; {"path": path.as_str(), "type": word})
 }
@@ -240,10 +240,7 @@ fn fault_value(
     column: u64,
     kind: FaultWord,
 ) -> Result<Value, AllocError>
-    ensures { IfOk result (λ v. view v ≡ entries (
-        (codes "column", Some (whole column)) ∷ (codes "kind", Some (string (fault_word kind)))
-        ∷ (codes "line", Some (whole line)) ∷ (codes "path", Some (string path.now))
-        ∷ (codes "type", Some (string kind_of_message.now)) ∷ [])) }
+    ensures { IfOk result (λ v. view v ≡ text_fault kind_of_message.now path.now line column kind) }
 {
     let word = fault_str(kind);
     json!(in alloc; {
