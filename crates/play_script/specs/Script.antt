@@ -26,7 +26,9 @@ use Rattle.play_script.specs.declared.fault.ScriptFault.{ScriptFault}
 use Rattle.play_script.specs.declared.fault.ScriptKind.{ScriptKind}
 use Rattle.play_script.specs.declared.fault.ScriptKind.TheVariants.{NotUtf8, LineTooLong, CutLine}
 use Rattle.play_script.specs.declared.fault.ScriptKind.TheVariants.{TextWithoutEdit, UnknownWord, WordCount}
-use Rattle.play_script.specs.declared.fault.ScriptKind.TheVariants.{BadName, BadNumber, RootPlace, NoMemory}
+use Rattle.play_script.specs.declared.fault.ScriptKind.TheVariants.{BadName, BadNumber, RootPlace}
+use Rattle.play_script.specs.declared.fault.ScriptRefusal.{ScriptRefusal}
+use Rattle.play_script.specs.declared.fault.ScriptRefusal.TheVariants.{Faulty, NoMemory}
 use Rattle.play_script.specs.declared.fault.Refusal.{Refusal}
 use Rattle.play_script.specs.declared.fault.Refusal.TheVariants as refusals
 
@@ -41,7 +43,6 @@ kind_word WordCount = codes "word-count"
 kind_word BadName = codes "bad-name"
 kind_word BadNumber = codes "bad-number"
 kind_word RootPlace = codes "root-place"
-kind_word NoMemory = codes "no-memory"
 
 -- LF
 abbrev pub is_line_end : ℕ → Bool
@@ -354,10 +355,10 @@ script_of text =
     checked (beginning forms.Page) 1 (lines_from [] text)
     >>= λ draft. Ok (finished (lines_from [] text) draft)
 
--- the fault of a script whose line of this number is refused
-abbrev pub fault_at : ℕ → Refusal → ScriptFault
-fault_at n (refusals.Fault kind) = record { line = n; kind = kind }
-fault_at n refusals.NoMemory = record { line = 0; kind = NoMemory }
+-- why a script isn't read whose line of this number is refused
+abbrev pub refused_at : ℕ → Refusal → ScriptRefusal
+refused_at n (refusals.Fault kind) = Faulty (record { line = n; kind = kind })
+refused_at n refusals.NoMemory = NoMemory
 
 -- a refusal is the fault that the definition says, or want of memory
 abbrev pub Refuses : {Y : Type 0} → Refusal → Result Y ScriptKind → Type 0
@@ -369,11 +370,8 @@ abbrev pub Gives : {X Y : Type 0} → (X → Y) → Result X Refusal → Result 
 Gives view (Ok x) meant = meant ≡ Ok (view x)
 Gives view (Err refusal) meant = Refuses refusal meant
 
--- memory ran out: the fault has no line
-abbrev pub no_memory : ScriptFault
-no_memory = record { line = 0; kind = NoMemory }
-
 -- a reader's answer is what the bytes say, or want of memory
-abbrev pub IsReading : {X : Type 0} → Result X ScriptFault → Result X ScriptFault → Type 0
+abbrev pub IsReading : {X : Type 0} → Result X ScriptRefusal → Result X ScriptFault → Type 0
 IsReading (Ok script) meant = meant ≡ Ok script
-IsReading (Err fault) meant = (fault ≡ no_memory) ⊎ (meant ≡ Err fault)
+IsReading (Err (Faulty fault)) meant = meant ≡ Err fault
+IsReading (Err NoMemory) meant = Unit {0}

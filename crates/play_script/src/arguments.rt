@@ -1,14 +1,13 @@
 // The words after a command's first: names, and numbers in their range.
-ghost use Rattle.std.specs.Prelude.{◌≡◌, ◌≤◌, IfOk, IfSome, None, Some, if◌then◌else◌, map, option_map};
-ghost use Rattle.std.specs.List.{list_all};
+ghost use Rattle.std.specs.Prelude.{◌≡◌, ◌≤◌, IfOk, None, Some, if◌then◌else◌, map, option_map};
 ghost use Rattle.std.specs.Str.{is_utf8};
 ghost use Rattle.hmr_types.specs.Event.{is_event};
 ghost use Rattle.hmr_types.specs.ModName.{between};
-ghost use Rattle.play_script.specs.Script.{Gives, named, all_named, number, number_of, up_to};
-ghost use Rattle.play_script.specs.Script.{event_named, text_value};
-ghost use Rattle.play_script.specs.Script.{digits_value, is_digit, with_digit, one_word};
+ghost use Rattle.play_script.specs.Script.{Gives, named, all_named, number};
+ghost use Rattle.play_script.specs.Script.{event_named, one_word, text_value};
 
 use crate::fault::{Refusal, ScriptKind};
+use crate::numbers::number_of;
 use hmr_types::limits::{LARGEST_CLIENT, LARGEST_NUMBER, VALUE_BYTES};
 use hmr_types::{ClientId, ModName, NameFault, Sequence, Text, Ver, event_module, is_event};
 use std::alloc::Global;
@@ -101,7 +100,6 @@ pub fn read_version(word: &[u8]) -> Result<Ver, Refusal>
 }
 
 fn read_number(word: &[u8], most: u64) -> Result<u64, Refusal>
-    requires { most ≤ 9007199254740991 }
     ensures number { Gives (λ n. n) result (number most word.now) }
     ensures range { IfOk result (λ n. n ≤ most) }
 {
@@ -109,36 +107,4 @@ fn read_number(word: &[u8], most: u64) -> Result<u64, Refusal>
         Some(number) => Ok(number),
         None => Err(Refusal::Fault(ScriptKind::BadNumber)),
     }
-}
-
-fn number_of(word: &[u8], most: u64) -> Option<u64>
-    requires { most ≤ 9007199254740991 }
-    ensures number { result ≡ number_of most word.now }
-    ensures range { IfSome result (λ n. n ≤ most) }
-{
-    match word {
-        [b'1'..=b'9', rest @ ..] if are_digits(rest) => value_of(word, most),
-        _ => None,
-    }
-}
-
-fn are_digits(bytes: &[u8]) -> bool
-    ensures { result ≡ list_all is_digit bytes.now }
-{
-    bytes.iter().all(|b| b.is_ascii_digit())
-}
-
-fn value_of(digits: &[u8], most: u64) -> Option<u64>
-    requires { most ≤ 9007199254740991 }
-    ensures number { result ≡ up_to most (digits_value digits.now) }
-    ensures range { IfSome result (λ n. n ≤ most) }
-{
-    let mut value: u64 = 0;
-    for digit in digits {
-        value = value * 10 + u64::from(digit.saturating_sub(b'0'));
-        if value > most {
-            return None;
-        }
-    }
-    Some(value)
 }

@@ -6,8 +6,8 @@ ghost use Rattle.play_script.specs.Script.{Line, command_of, commands, lines_fro
 ghost use Rattle.play_script.specs.Script.{text_below, text_of, whole_line};
 ghost use Rattle.play_script.specs.Asked.{HasFormat, IsNext};
 
+use crate::cutting::first_line;
 use crate::fault::Refusal;
-use crate::first_line::first_line;
 use crate::form::Form;
 use crate::script_line::ScriptLine;
 use crate::words::{Said, read_whole_line};

@@ -1,6 +1,6 @@
 // Why bytes are no script: the line, and what is wrong with it.
 ghost use Rattle.std.specs.Prelude.{◌≡◌};
-ghost use Rattle.play_script.specs.Script.{kind_word, fault_at};
+ghost use Rattle.play_script.specs.Script.{kind_word, refused_at};
 
 use std::alloc::{AllocError, AllocFailed};
 
@@ -26,14 +26,12 @@ pub enum ScriptKind {
     /// A root after another command, a second root of that name, a seventeenth root, or another
     /// command where no root came.
     RootPlace,
-    /// Memory ran out; the line is 0.
-    NoMemory,
 }
 
 /// Why bytes are no script: the first line that has a fault, and its first fault.
 #[derive(Clone, Copy, Debug, Eq, PartialEq)]
 pub struct ScriptFault {
-    /// The line, from 1; or 0 where memory ran out.
+    /// The line, from 1.
     pub line: u32,
     /// What is wrong with it.
     pub kind: ScriptKind,
@@ -53,8 +51,16 @@ pub fn script_word(kind: ScriptKind) -> &'static str
         ScriptKind::BadName => "bad-name",
         ScriptKind::BadNumber => "bad-number",
         ScriptKind::RootPlace => "root-place",
-        ScriptKind::NoMemory => "no-memory",
     }
+}
+
+/// Why a script isn't read.
+#[derive(Clone, Copy, Debug, Eq, PartialEq)]
+pub enum ScriptRefusal {
+    /// The bytes are no script, by this fault.
+    Faulty(ScriptFault),
+    /// Memory ran out.
+    NoMemory,
 }
 
 /// Why one line isn't read.
@@ -88,16 +94,13 @@ impl<T: Drop> From<AllocFailed<T>> for Refusal {
 }
 
 impl Refusal {
-    /// The fault of a script whose line of this number is refused.
-    pub fn at(self, line: u32) -> ScriptFault
-        ensures { result ≡ fault_at line self }
+    /// Why a script isn't read whose line of this number is refused.
+    pub fn at(self, line: u32) -> ScriptRefusal
+        ensures { result ≡ refused_at line self }
     {
         match self {
-            Refusal::Fault(kind) => ScriptFault { line, kind },
-            Refusal::NoMemory => ScriptFault {
-                line: 0,
-                kind: ScriptKind::NoMemory,
-            },
+            Refusal::Fault(kind) => ScriptRefusal::Faulty(ScriptFault { line, kind }),
+            Refusal::NoMemory => ScriptRefusal::NoMemory,
         }
     }
 }

@@ -6,10 +6,10 @@ ghost use Rattle.play_script.specs.Script.{Gives, IsReading, beginning, checked,
 ghost use Rattle.play_script.specs.Script.{line_said_in, lines_from, numbered, script_of};
 ghost use Rattle.play_script.specs.Edits.{edits_of};
 
+use crate::cutting::first_line;
 use crate::draft::Draft;
 use crate::edits::Edits;
-use crate::fault::{Refusal, ScriptFault, ScriptKind};
-use crate::first_line::first_line;
+use crate::fault::{Refusal, ScriptKind, ScriptRefusal};
 use crate::form::Form;
 use crate::script::Script;
 use crate::words::{Said, read_whole_line};
@@ -18,16 +18,16 @@ use std::alloc::Global;
 
 /// The script that the bytes say, at most 4,294,967,295 of them.
 ///
-/// A refusal is the fault of the first line that has one, and its first fault; or that memory ran out,
-/// whose line is 0. The time is linear in the bytes. The memory is that of the roots and, meanwhile, of
+/// A refusal is the fault of the first line that has one, and its first fault; or that memory ran out.
+/// The time is linear in the bytes. The memory is that of the roots and, meanwhile, of
 /// the words and names of one line: no command is kept.
-pub fn read_script(alloc: Global, text: &[u8]) -> Result<Script<'_>, ScriptFault>
+pub fn read_script(alloc: Global, text: &[u8]) -> Result<Script<'_>, ScriptRefusal>
     requires { length text.now ≤ 4294967295 }
     ensures { IsReading result (script_of text.now) }
 {
     match check_lines(alloc, Form::Page, text) {
         Ok(draft) => Ok(Script::new(draft.roots, text)),
-        Err(fault) => Err(fault),
+        Err(refusal) => Err(refusal),
     }
 }
 
@@ -36,7 +36,7 @@ pub fn read_script(alloc: Global, text: &[u8]) -> Result<Script<'_>, ScriptFault
 ///
 /// A refusal is as of [`read_script`], where every other command is an unknown word. The time is linear in
 /// the bytes. The memory is, meanwhile, that of the words and the name of one line: no edit is kept.
-pub fn read_edits(alloc: Global, text: &[u8]) -> Result<Edits<'_>, ScriptFault>
+pub fn read_edits(alloc: Global, text: &[u8]) -> Result<Edits<'_>, ScriptRefusal>
     requires { length text.now ≤ 4294967295 }
     ensures { IsReading result (edits_of text.now) }
 {
@@ -44,7 +44,7 @@ pub fn read_edits(alloc: Global, text: &[u8]) -> Result<Edits<'_>, ScriptFault>
     Ok(Edits::of(text))
 }
 
-fn check_lines(alloc: Global, form: Form, text: &[u8]) -> Result<Draft, ScriptFault>
+fn check_lines(alloc: Global, form: Form, text: &[u8]) -> Result<Draft, ScriptRefusal>
     requires { length text.now ≤ 4294967295 }
     ensures { IsReading result (checked (beginning form) 1 (lines_from [] text.now)) }
 {
@@ -65,7 +65,7 @@ fn read_numbered(
     number: u32,
     line: &[u8],
     ended: bool,
-) -> Result<Draft, ScriptFault>
+) -> Result<Draft, ScriptRefusal>
     ensures { IsReading result (numbered number (line_read draft line.now ended)) }
 {
     match read_line(alloc, draft, line, ended) {

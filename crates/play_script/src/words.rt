@@ -1,5 +1,5 @@
 // What one line says: nothing, text, or by its words a root, the beginning of an edit, or a command.
-ghost use Rattle.std.specs.Prelude.{◌≡◌, IfOk, map};
+ghost use Rattle.std.specs.Prelude.{◌≡◌, map};
 ghost use Rattle.hmr_types.specs.ModName.{is_text};
 ghost use Rattle.play_script.specs.Script.{Gives, whole_line_in, words, said_in, in_form};
 ghost use Rattle.play_script.specs.Script.{command, known_word, no_word, one_name, one_client};
@@ -8,11 +8,12 @@ ghost use Rattle.play_script.specs.Script.{opening, settle, turns, emission, fre
 use crate::arguments::{
     only_word, read_count, read_event, read_name, read_names, read_text, read_version,
 };
+use crate::cutting::words_of;
 use crate::fault::{Refusal, ScriptKind};
 use crate::form::Form;
 use crate::script_line::ScriptLine;
 use hmr_types::{ClientId, ModName};
-use std::alloc::{AllocError, Global};
+use std::alloc::Global;
 
 /// The first word of a line.
 #[derive(Clone, Copy)]
@@ -89,12 +90,6 @@ fn read_words(alloc: Global, form: Form, line: &[u8]) -> Result<Said, Refusal>
         }
         [] => Err(Refusal::Fault(ScriptKind::UnknownWord)),
     }
-}
-
-fn words_of(alloc: Global, line: &[u8]) -> Result<Vec<&[u8]>, AllocError>
-    ensures { IfOk result (λ v. map (λ w. w.now) v.items ≡ words line.now) }
-{
-    line.split(|b| *b == b' ').collect(alloc)
 }
 
 fn read_command(alloc: Global, word: Word, arguments: &[&[u8]]) -> Result<Said, Refusal>

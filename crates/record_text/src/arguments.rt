@@ -1,8 +1,7 @@
 // The words behind a line's first: names, numbers and tables.
-ghost use Rattle.std.specs.Prelude.{◌≡◌, ◌≤◌, ◌<◌, IfOk, IfSome, None, Some, [], map, option_map};
-ghost use Rattle.std.specs.List.{list_all};
+ghost use Rattle.std.specs.Prelude.{◌≡◌, ◌≤◌, IfOk, IfSome, None, [], map};
 ghost use Rattle.hmr_types.specs.declared.limits.TheConstants.{LARGEST_CLIENT, LARGEST_NUMBER};
-ghost use Rattle.play_script.specs.Script.{digits_value, is_digit, number_of, up_to};
+ghost use Rattle.play_script.specs.Script.{number_of};
 ghost use Rattle.record_text.specs.Lines.{Gives, all_named, named, one_client, one_name, one_word};
 ghost use Rattle.record_text.specs.Lines.{rows_from, table_of};
 ghost use Rattle.record_text.specs.Numbers.{count_of, largest_count};
@@ -11,6 +10,7 @@ use crate::refusal::Refusal;
 use crate::said::is_text;
 use hmr_types::limits::{LARGEST_CLIENT, LARGEST_NUMBER};
 use hmr_types::{ClientId, ModName, NameFault, Sequence, Table, Ver};
+use play_script::number_of;
 use std::alloc::Global;
 
 /// The one word that there is to be.
@@ -96,37 +96,6 @@ pub(crate) fn count_of(word: &[u8], most: u64) -> Option<u64>
         return Some(0);
     }
     number_of(word, most)
-}
-
-fn number_of(word: &[u8], most: u64) -> Option<u64>
-    ensures number { result ≡ number_of most word.now }
-    ensures range { IfSome result (λ n. n ≤ most) }
-{
-    match word {
-        [b'1'..=b'9', rest @ ..] if are_digits(rest) => value_of(word, most),
-        _ => None,
-    }
-}
-
-fn are_digits(bytes: &[u8]) -> bool
-    ensures { result ≡ list_all is_digit bytes.now }
-{
-    bytes.iter().all(|b| b.is_ascii_digit())
-}
-
-fn value_of(digits: &[u8], most: u64) -> Option<u64>
-    ensures number { result ≡ up_to most (digits_value digits.now) }
-    ensures range { IfSome result (λ n. n ≤ most) }
-{
-    let mut value: u64 = 0;
-    for digit in digits {
-        let next = u128::from(value) * 10 + u128::from(digit.saturating_sub(b'0'));
-        if next > u128::from(most) {
-            return None;
-        }
-        value = next as u64;
-    }
-    Some(value)
 }
 
 /// The table that words are: names that rise, each with its version.

@@ -10,7 +10,6 @@
 #![tactic(auto)]
 
 mod arguments;
-mod cutting;
 mod draft;
 mod event_text;
 mod laws;
@@ -24,7 +23,6 @@ mod reply_form;
 mod said;
 mod writing;
 
-pub use cutting::{FirstLine, first_line};
 pub use draft::{Draft, with_piece};
 pub use laws::text_is_read;
 pub use next::{Next, has_text};

@@ -4,8 +4,8 @@ ghost use Rattle.std.specs.Prelude.{◌≡◌, ◌++◌, OnOk, codes, decimal};
 ghost use Rattle.play_script.specs.Texts.{names_text, spaced, spaced_number};
 ghost use Rattle.record_text.specs.Texts.{counted_line, named_line, rows_text, text_line, text_lines};
 
-use crate::cutting::first_line;
 use hmr_types::{ClientId, ModName, Ver};
+use play_script::first_line;
 use std::alloc::AllocError;
 
 /// Puts a word.

@@ -5,11 +5,11 @@ ghost use Rattle.record_text.specs.Lines.{Gives};
 ghost use Rattle.record_text.specs.Reading.{IsReading, all_read, beginning, line_read, or_bad};
 ghost use Rattle.record_text.specs.Reading.{record_of, whole};
 
-use crate::cutting::first_line;
 use crate::draft::Draft;
 use crate::record::Record;
 use crate::refusal::{RecordFault, Refusal};
 use crate::said::read_line;
+use play_script::first_line;
 use std::alloc::Global;
 
 /// The record that bytes are. [`RecordFault::BadLine`] tells the first line that can't stand where it does,

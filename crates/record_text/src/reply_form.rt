@@ -5,10 +5,11 @@ ghost use Rattle.record_text.specs.Replies.{is_counted, is_fault_word, is_line_c
 ghost use Rattle.record_text.specs.Replies.{is_message_text, is_refused, is_reply, is_word_reply, place_parts};
 
 use crate::arguments::count_of;
-use crate::said::{is_text, words_of};
+use crate::said::is_text;
 use hmr_types::limits::LARGEST_CLIENT;
 use message_json::{MsgFault, decode};
 use message_text::encode;
+use play_script::words_of;
 use std::alloc::{AllocError, Global};
 
 /// Whether bytes have the form of a reply: words, or just what is written of a server's message in format 2.

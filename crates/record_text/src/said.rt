@@ -14,6 +14,7 @@ use crate::record::RecordEvent;
 use crate::refusal::Refusal;
 use crate::reply_form::is_reply;
 use hmr_types::{ClientId, ModName, Sequence, Table};
+use play_script::words_of;
 use std::alloc::{AllocError, Global};
 
 /// What a line says.
@@ -118,13 +119,6 @@ fn read_words(alloc: Global, line: &[u8]) -> Result<Said, Refusal>
         }
         [] => Err(Refusal::BadLine),
     }
-}
-
-/// The words of a line: what stands between its spaces.
-pub(crate) fn words_of(alloc: Global, line: &[u8]) -> Result<Vec<&[u8]>, AllocError>
-    ensures { IfOk result (λ v. map (λ w. w.now) v.items ≡ words line.now) }
-{
-    line.split(|b| *b == b' ').collect(alloc)
 }
 
 fn read_arguments(alloc: Global, word: Word, arguments: &[&[u8]]) -> Result<Said, Refusal>

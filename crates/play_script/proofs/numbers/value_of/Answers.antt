@@ -1,6 +1,6 @@
 use Rattle.std.proofs.Common.{arith}
 use Rattle.play_script.proofs.Digits.{too_large}
-use Rattle.record_text.proofs.arguments.value_of.Goals as goal
+use Rattle.play_script.proofs.numbers.value_of.Goals as goal
 
 pub returns-then-next-from-clause-number : goal.returns-then-next-from-clause-number
 returns-then-next-from-clause-number c =

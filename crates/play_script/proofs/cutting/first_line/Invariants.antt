@@ -1,6 +1,6 @@
 use Rattle.std.proofs.Common.{◌≡◌, [], take, drop}
 use Rattle.play_script.specs.Script.{lines_from}
-use Rattle.record_text.proofs.cutting.first_line.Given as goal
+use Rattle.play_script.proofs.cutting.first_line.Given as goal
 
 -- the bytes so far are of one line
 abbrev pub invariant-loop-at : goal.invariant-loop-at

@@ -1,6 +1,6 @@
 use Rattle.std.proofs.Common.{◌≡◌, ◌≤◌, drop, fold}
 use Rattle.play_script.specs.Script.{with_digit}
-use Rattle.record_text.proofs.arguments.value_of.Given as goal
+use Rattle.play_script.proofs.numbers.value_of.Given as goal
 
 -- the digits that are left go on from the value so far
 abbrev pub invariant-loop-digit : goal.invariant-loop-digit

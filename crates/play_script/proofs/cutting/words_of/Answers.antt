@@ -3,7 +3,7 @@ use Rattle.std.specs.Prelude.{◌==◌}
 use Rattle.std.proofs.lemmas.Iterator.Consumers.{map_from_collect}
 use Rattle.std.proofs.lemmas.Iterator.Splits.{YieldsList-from_slice_split}
 use borrow.Author.Tests.{tests}
-use Rattle.record_text.proofs.said.words_of.Goals as goal
+use Rattle.play_script.proofs.cutting.words_of.Goals as goal
 
 pub returns : goal.returns
 returns c =

@@ -1,6 +1,8 @@
-// The first line of what is left of a text.
-ghost use Rattle.std.specs.Prelude.{◌≡◌, ◌<◌, [], ◌∷◌, length, IfSome, MatchOption};
-ghost use Rattle.play_script.specs.Script.{cut_line, lines_from};
+// The first line of what is left of a text, and the words of a line.
+ghost use Rattle.std.specs.Prelude.{◌≡◌, ◌<◌, [], ◌∷◌, length, map, IfOk, IfSome, MatchOption};
+ghost use Rattle.play_script.specs.Script.{cut_line, lines_from, words};
+
+use std::alloc::{AllocError, Global};
 
 /// A line, and what stands below it.
 #[derive(Clone, Copy)]
@@ -47,4 +49,11 @@ fn last_line(text: &[u8]) -> Option<FirstLine<'_>>
         ended: false,
         below: &text[text.len()..],
     })
+}
+
+/// The words of a line: what stands between its spaces. The time and the memory are linear in the line.
+pub fn words_of(alloc: Global, line: &[u8]) -> Result<Vec<&[u8]>, AllocError>
+    ensures { IfOk result (λ v. map (λ w. w.now) v.items ≡ words line.now) }
+{
+    line.split(|b| *b == b' ').collect(alloc)
 }

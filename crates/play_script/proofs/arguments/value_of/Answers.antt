@@ -1,8 +1,0 @@
-use Rattle.std.proofs.Common.{arith}
-use Rattle.play_script.proofs.Digits.{too_large}
-use Rattle.play_script.proofs.arguments.value_of.Goals as goal
-
-pub returns-then-value-most-clause-number : goal.returns-then-value-most-clause-number
-returns-then-value-most-clause-number c =
-    too_large c.args.most c.args.digits.now c.loop-digit.digit-index c.loop-digit.value c.loop-digit-test.true c.loop-digit.invariant.same
-    (omega (arith, c.from.ensures, c.saturating_sub.ensures, c.if-value-most.true))
