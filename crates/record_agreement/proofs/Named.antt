@@ -43,7 +43,7 @@ use Rattle.core_model.specs.Core.{Core, Event, change, connect, request, disconn
 use Rattle.update_msgs.specs.Writable.{IsVersion}
 use Rattle.core_laws.specs.Ranges.{CoreFits, ServingFits}
 use Rattle.message_json.specs.ServerReading.{IsTyped, is_named}
-use Rattle.record_laws.specs.Tellable.{IsTellable, IsTellableRequest}
+use Rattle.event_facts.specs.Tellable.{IsTellable, IsTellableRequest}
 use Rattle.record_laws.specs.Bounds.{entry_bytes}
 use Rattle.record_agreement.proofs.Places.{EditFits, Placed, ResultFits, edit_fits, placed, result_fits}
 use Rattle.record_agreement.proofs.Lists.{Each, each_append, each_collect, each_cond, each_filter, each_flat, each_map, each_put, each_reached, each_sorted, each_weaker, each_with_row, each_without, each_without_all, at_each, least_path_named}

@@ -5,7 +5,7 @@ use Rattle.core_model.specs.Core.{Event, change, connect, request, disconnect}
 use Rattle.core_model.specs.Requests.{ask, fetch, applied_as, aborted, invalidate}
 use Rattle.core_model.specs.Sources.{edit, result}
 use Rattle.record_text.specs.Numbers.{largest_count}
-use Rattle.record_laws.specs.Tellable.{IsTellable}
+use Rattle.event_facts.specs.Tellable.{IsTellable}
 
 -- the client that asks or goes has a number that a client can have
 abbrev pub HasClient : Event → Type 0

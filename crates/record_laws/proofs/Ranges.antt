@@ -22,7 +22,7 @@ use Rattle.core_laws.specs.Refusing.{is_refusal}
 use Rattle.core_laws.proofs.Keeping.{step_fits}
 use Rattle.core_laws.proofs.Messaging.{after_fits, out_of_turn_fits, step_says}
 use Rattle.core_laws.proofs.Refusing.{late_is_nothing, refused_is_nothing}
-use Rattle.record_laws.specs.Tellable.{IsTellable}
+use Rattle.event_facts.specs.Tellable.{IsTellable}
 
 -- ---- what is no version is that of nothing
 

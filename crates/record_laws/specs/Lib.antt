@@ -1,7 +1,6 @@
 pub mod Events
 pub mod Answers
 pub mod Bounds
-pub mod Tellable
 pub mod Resting
 pub mod Course
 pub mod Sound

@@ -21,7 +21,7 @@ ghost use Rattle.record_laws.specs.Course.{verdict_of};
 ghost use Rattle.record_laws.specs.Events.{event_in};
 ghost use Rattle.record_laws.specs.Sound.{IsSound, IsSoundText, past_in, rests_behind};
 ghost use Rattle.core_laws.specs.Ranges.{IsWritableReply};
-ghost use Rattle.record_laws.specs.Tellable.{IsTellable};
+ghost use Rattle.event_facts.specs.Tellable.{IsTellable};
 ghost use Rattle.record_laws.specs.Told.{HasFreshTable, IsAskTold};
 ghost use Rattle.record_laws.specs.Written.{lines_told, record_told};
 ghost use Rattle.record_laws.specs.declared.verdict.Verdict.TheVariants.{Yes};

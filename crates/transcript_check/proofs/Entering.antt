@@ -15,7 +15,7 @@ use Rattle.record_laws.specs.Bounds.{entry_bytes, has_place}
 use Rattle.record_laws.specs.Course.{Opened, Replayed, begun, first_begun, roots_alone, roots_fault, untold, with_event}
 use Rattle.record_laws.specs.Events.{event_in}
 use Rattle.transcript_check.specs.Following.{IsJudged, IsOpening, opened_as, IsBetween, IsOpen, IsTaken, IsTold, IsWithin}
-use Rattle.record_laws.specs.Tellable.{IsTellable}
+use Rattle.event_facts.specs.Tellable.{IsTellable}
 use Rattle.transcript_check.specs.declared.course.Course.{Course}
 use Rattle.transcript_check.specs.declared.course.Course.TheVariants as courses
 use Rattle.transcript_check.specs.declared.halt.Halt.{Halt}

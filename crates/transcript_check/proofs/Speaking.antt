@@ -9,7 +9,7 @@ use Rattle.core_laws.specs.Ranges.{IsWritableReply}
 use Rattle.server_core.specs.Said.{said}
 use Rattle.record_text.specs.Told.{IsTold}
 use Rattle.record_laws.specs.Answers.{reply_after, reply_told}
-use Rattle.record_laws.specs.Tellable.{IsTellable}
+use Rattle.event_facts.specs.Tellable.{IsTellable}
 use Rattle.record_laws.proofs.Ranges.{tellable_says}
 
 told_writable : (reply : Reply) → IsWritableReply reply → IsTold (reply_told (said reply))

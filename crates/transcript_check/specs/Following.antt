@@ -15,7 +15,7 @@ use Rattle.record_laws.specs.Bounds.{entry_bytes, past_bytes}
 use Rattle.record_laws.specs.Course as meant
 use Rattle.record_laws.specs.Course.{Opened, Replayed, Taken, roots_fault}
 use Rattle.record_laws.specs.Events.{event_in}
-use Rattle.record_laws.specs.Tellable.{IsTellable}
+use Rattle.event_facts.specs.Tellable.{IsTellable}
 use Rattle.record_laws.specs.Written.{lines_told}
 use Rattle.record_text.specs.Texts.{line_text}
 use Rattle.transcript_check.specs.declared.course.Course.{Course}
@@ -121,7 +121,7 @@ IsOpening line roots (Ok kept) = (roots_fault roots ≡ None) × (kept.roots ≡
 IsOpening line roots (Err (halts.At n why)) = (n ≡ line) × (roots_fault roots ≡ Some why)
 IsOpening line roots (Err halts.NoMemory) = ⊥
 
--- what is said is the definition's, or want of memory
+-- what is said is the definition's, or that memory ran out
 abbrev pub IsJudged : Result Verdict Halt → Verdict → Type 0
 IsJudged (Ok verdict) meant = verdict ≡ meant
 IsJudged (Err (halts.At line why)) meant = meant ≡ No line why

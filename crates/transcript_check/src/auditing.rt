@@ -9,8 +9,9 @@ use crate::course::{Course, take};
 use crate::halt::{Halt, bad};
 use crate::opening::new_core;
 use hmr_types::ModName;
+use play_script::first_line;
 use record_laws::{Verdict, Why};
-use record_text::{Refusal, first_line, read_line};
+use record_text::{Refusal, read_line};
 use std::alloc::{AllocError, Global};
 
 /// Whether bytes are a sound record: its lines have their forms, its roots are good, its events have a place in

@@ -14,7 +14,6 @@ mod core_event;
 mod course;
 mod entry;
 mod halt;
-mod noting;
 mod opening;
 mod recording;
 mod replay;

@@ -8,8 +8,8 @@ ghost use Rattle.record_laws.specs.Answers.{reply_after, reply_told};
 ghost use Rattle.transcript_check.specs.Following.{IsTold, IsToldSome};
 ghost use Rattle.record_laws.specs.Resting.{is_page_with, is_same_table, rests_with};
 
-use crate::noting::note_event;
 use crate::telling::reply_told;
+use event_facts::note_event;
 use hmr_types::{ClientId, Table};
 use record_text::{RecordEvent, RecordReply};
 use server_core::{Core, Event};

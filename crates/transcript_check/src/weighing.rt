@@ -1,21 +1,12 @@
-// The bytes that an event takes of those that a transcript may still have.
-ghost use Rattle.std.specs.Prelude.{◌≤◌, ◌<◌, ◌+◌, ◌-◌, length, sum_by};
+// The bytes that an event takes of those that a transcript may still have, as far as a record tells the event.
+ghost use Rattle.std.specs.Prelude.{◌≤◌, ◌<◌, ◌-◌};
 ghost use Rattle.std.specs.Option.{SomeIff};
 ghost use Rattle.core_model.specs.Transcript.{event_bytes, most_entries};
 ghost use Rattle.record_laws.specs.Bounds.{entry_bytes};
 ghost use Rattle.record_laws.specs.Events.{event_in};
 
-use hmr_types::{ModName, Ver};
+use event_facts::{after_entry, after_name, after_names, after_rows, after_text};
 use record_text::RecordEvent;
-
-/// The most events of a transcript.
-const MOST_EVENTS: u64 = 1_000_000;
-
-/// The most bytes of a transcript: 256 MiB.
-pub(crate) const MOST_BYTES: usize = 268_435_456;
-
-/// What an event counts beside its names and its text.
-const ENTRY_BYTES: usize = 64;
 
 /// What is left of so many bytes behind one event more, where so many events were told; None where it has no
 /// place.
@@ -23,10 +14,7 @@ pub(crate) fn left_behind(steps: u64, left: usize, event: &RecordEvent) -> Optio
     ensures { SomeIff result ((steps < most_entries) × (entry_bytes (event_in event.now) ≤ left))
         (left - entry_bytes (event_in event.now)) }
 {
-    if steps >= MOST_EVENTS {
-        return None;
-    }
-    left_after(left.checked_sub(ENTRY_BYTES)?, event)
+    left_after(after_entry(steps, left)?, event)
 }
 
 fn left_after(left: usize, event: &RecordEvent) -> Option<usize>
@@ -44,38 +32,4 @@ fn left_after(left: usize, event: &RecordEvent) -> Option<usize>
         RecordEvent::Applied(_, table) => after_rows(left, table.as_slice()),
         RecordEvent::Ask(_) | RecordEvent::Aborted(_) | RecordEvent::Disconnect(_) => Some(left),
     }
-}
-
-fn after_name(left: usize, name: &ModName) -> Option<usize>
-    ensures { SomeIff result (length name.now ≤ left) (left - length name.now) }
-{
-    left.checked_sub(name.as_str().len())
-}
-
-fn after_text(left: usize, name: &ModName, text: &[u8]) -> Option<usize>
-    ensures { SomeIff result (length name.now + length text.now ≤ left)
-        (left - (length name.now + length text.now)) }
-{
-    after_name(left, name)?.checked_sub(text.len())
-}
-
-fn after_names(left: usize, names: &[ModName]) -> Option<usize>
-    ensures { SomeIff result (sum_by length names.now ≤ left) (left - sum_by length names.now) }
-{
-    let mut rest = left;
-    for name in names.iter() {
-        rest = after_name(rest, name)?;
-    }
-    Some(rest)
-}
-
-fn after_rows(left: usize, rows: &[(ModName, Ver)]) -> Option<usize>
-    ensures { SomeIff result (sum_by (λ row. length row.0) rows.now ≤ left)
-        (left - sum_by (λ row. length row.0) rows.now) }
-{
-    let mut rest = left;
-    for row in rows.iter() {
-        rest = after_name(rest, &row.0)?;
-    }
-    Some(rest)
 }

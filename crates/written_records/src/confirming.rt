@@ -12,7 +12,8 @@ ghost use Rattle.record_laws.specs.Sound.{rests_behind};
 ghost use Rattle.record_laws.specs.Written.{lines_told, record_told};
 ghost use Rattle.record_laws.specs.declared.verdict.Verdict.TheVariants.{Yes};
 
-use crate::noting::{note_events, note_names};
+use crate::noting::note_events;
+use event_facts::note_names;
 use hmr_types::ModName;
 use server_core::Event;
 

@@ -3,7 +3,7 @@ use Rattle.std.proofs.lemmas.List.Elements.{All-cons}
 use Rattle.server_core.specs.Said.{event_of}
 use Rattle.record_text.specs.Told.{IsTold}
 use Rattle.record_laws.specs.Answers.{reply_told}
-use Rattle.record_laws.specs.Tellable.{IsTellable}
+use Rattle.event_facts.specs.Tellable.{IsTellable}
 use Rattle.transcript_check.proofs.Speaking.{reply_writable}
 use Rattle.transcript_check.proofs.replay.tell.Goals as goal
 

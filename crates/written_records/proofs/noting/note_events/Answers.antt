@@ -18,8 +18,8 @@ True event = IsTrueEvent (transformed parsing) (event_of event)
 
 pub loop-event-preserved : goal.loop-event-preserved
 loop-event-preserved c = (
-  All-more Told c.args.events.now c.loop-event.event-index c.event-item.result c.loop-event-test.true c.loop-event.invariant.0 (subst Told c.event-item.is c.note_event.ensures.recordable),
-  All-more True c.args.events.now c.loop-event.event-index c.event-item.result c.loop-event-test.true c.loop-event.invariant.1 (subst True c.event-item.is c.note_event.ensures.true_result),
+  All-more Told c.args.events.now c.loop-event.event-index c.event-item.result c.loop-event-test.true c.loop-event.invariant.0 (subst Told c.event-item.is c.note_recordable.ensures),
+  All-more True c.args.events.now c.loop-event.event-index c.event-item.result c.loop-event-test.true c.loop-event.invariant.1 (subst True c.event-item.is c.note_result.ensures),
 )
 
 pub returns-clause-recordable : goal.returns-clause-recordable

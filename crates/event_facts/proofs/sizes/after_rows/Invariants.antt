@@ -1,6 +1,6 @@
 use Rattle.std.proofs.Common.{◌≡◌, ◌+◌, take, length}
 use Rattle.std.specs.List.{sum_by}
-use Rattle.transcript_check.proofs.weighing.after_rows.Given as goal
+use Rattle.event_facts.proofs.sizes.after_rows.Given as goal
 
 -- what is left after the names so far
 abbrev pub invariant-loop-row : goal.invariant-loop-row

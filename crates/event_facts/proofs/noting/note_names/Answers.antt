@@ -3,7 +3,7 @@ use Rattle.std.specs.Prelude.{All}
 use Rattle.std.proofs.lemmas.List.{take_all}
 use Rattle.std.proofs.lemmas.List.Elements.{All-more}
 use Rattle.core_model.specs.Formed.{IsName}
-use Rattle.written_records.proofs.noting.note_names.Goals as goal
+use Rattle.event_facts.proofs.noting.note_names.Goals as goal
 
 pub loop-name-preserved : goal.loop-name-preserved
 loop-name-preserved c =

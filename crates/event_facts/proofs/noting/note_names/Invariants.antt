@@ -1,7 +1,7 @@
 use Rattle.std.proofs.Common.{take}
 use Rattle.std.specs.Prelude.{All}
 use Rattle.core_model.specs.Formed.{IsName}
-use Rattle.transcript_check.proofs.noting.note_names.Given as goal
+use Rattle.event_facts.proofs.noting.note_names.Given as goal
 
 -- the names so far are names
 abbrev pub invariant-loop-name : goal.invariant-loop-name

@@ -4,7 +4,7 @@ use Rattle.std.proofs.lemmas.List.{take_all}
 use Rattle.std.proofs.lemmas.List.Elements.{All-more}
 use Rattle.core_model.specs.Names.{Name}
 use Rattle.core_model.specs.Formed.{IsName}
-use Rattle.transcript_check.proofs.noting.note_rows.Goals as goal
+use Rattle.event_facts.proofs.noting.note_rows.Goals as goal
 
 pub loop-row-preserved : goal.loop-row-preserved
 loop-row-preserved c =

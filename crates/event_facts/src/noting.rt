@@ -1,17 +1,22 @@
-// That an event is one that a record can tell. A contract sees a name as its bytes alone, and a call of the
-// name tells that they are one: so each name of the event is looked at.
+// What the types of an event keep of it, told of its bytes. A contract sees a name as its bytes alone, and a
+// call of the name tells that they are one: so each name of the event is looked at.
 ghost use Rattle.std.specs.Prelude.{◌≡◌, ◌≤◌, All, true};
 ghost use Rattle.hmr_types.specs.declared.limits.TheConstants.{LARGEST_NUMBER};
 ghost use Rattle.hmr_types.specs.Table.{is_table};
+ghost use Rattle.module_semantics.specs.Analysis.{transformed};
+ghost use Rattle.module_semantics.specs.ModuleText.{parsing};
 ghost use Rattle.core_model.specs.Formed.{IsFormedOutcome, IsName};
+ghost use Rattle.core_model.specs.Transcript.{IsTrueEvent};
 ghost use Rattle.server_core.specs.Said.{event_of};
-ghost use Rattle.record_laws.specs.Tellable.{IsTellable};
+ghost use Rattle.event_facts.specs.Tellable.{IsTellable};
 
 use hmr_types::{ModName, Outcome, Table, Ver};
+use import_scan::Transformed;
 use server_core::Event;
 
-/// The event is one that a record can tell. It takes time in the number of its names.
-pub(crate) fn note_event(event: &Event)
+/// The event is one that a record can tell: its names are names, its table is a table, and the place of a fault
+/// in its result can be told. It takes time in the number of its names.
+pub fn note_event(event: &Event)
     ensures { IsTellable (event_of event.now) }
 {
     match event {
@@ -27,18 +32,42 @@ pub(crate) fn note_event(event: &Event)
     }
 }
 
-fn note_name(name: &ModName)
-    ensures { IsName name.now }
+/// Where the event is a result, it is that of transforming its text.
+pub fn note_result(event: &Event)
+    ensures { IsTrueEvent (transformed parsing) (event_of event.now) }
 {
-    let _name = name.as_str();
+    match event {
+        Event::Settle(done, _) => note_done(done),
+        Event::Edit(_, _)
+        | Event::Connect(_)
+        | Event::Ask(_)
+        | Event::Fetch(_, _)
+        | Event::Applied(_, _)
+        | Event::Aborted(_)
+        | Event::Invalidate(_, _, _)
+        | Event::Disconnect(_) => (),
+    }
 }
 
-fn note_names(names: &[ModName])
+/// Each is the name of a module. It takes time in their number.
+pub fn note_names(names: &[ModName])
     ensures { All IsName names.now }
 {
     for name in names.iter() {
         note_name(name);
     }
+}
+
+fn note_done(done: &Transformed)
+    ensures { done.now.outcome ≡ transformed parsing done.now.name done.now.text }
+{
+    let _outcome = done.outcome();
+}
+
+fn note_name(name: &ModName)
+    ensures { IsName name.now }
+{
+    let _name = name.as_str();
 }
 
 fn note_table(table: &Table)
