@@ -3,7 +3,6 @@ pub mod Courses
 pub mod Listening
 pub mod Logs
 pub mod Playing
-pub mod Promises
 pub mod Runs
 pub mod Standing
 pub mod Steps

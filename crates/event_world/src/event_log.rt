@@ -1,10 +1,13 @@
 // The log of the events that the core is told in the steps of a world.
-ghost use Rattle.std.specs.Prelude.{◌≡◌, ◌++◌, ◌∷◌, [], List, OnOk, true};
+ghost use Rattle.std.specs.Prelude.{◌≡◌, ◌≤◌, ◌<◌, ◌-◌, ◌++◌, ◌∷◌, [], List, OnOk, true};
+ghost use Rattle.std.specs.Option.{SomeIff};
 ghost use Rattle.core_model.specs.Core as model;
+ghost use Rattle.core_model.specs.Transcript.{most_entries};
 ghost use Rattle.server_core.specs.Said.{event_of};
+ghost use Rattle.record_laws.specs.Bounds.{entry_bytes};
 ghost use Rattle.event_world.specs.Logs.{IsLogOf, is_on};
 
-use crate::weighing::{MOST_BYTES, left_behind};
+use event_facts::{MOST_BYTES, after_entry, left_after};
 use server_core::Event;
 use std::alloc::{AllocError, Global};
 
@@ -54,4 +57,13 @@ impl EventLog {
         }
         Ok(())
     }
+}
+
+// What is left of so many bytes behind one event more, where there are so many events; None where it has no
+// place.
+fn left_behind(events: usize, left: usize, event: &Event) -> Option<usize>
+    ensures { SomeIff result ((events < most_entries) × (entry_bytes (event_of event.now) ≤ left))
+        (left - entry_bytes (event_of event.now)) }
+{
+    left_after(after_entry(events as u64, left)?, event)
 }

@@ -1,6 +1,7 @@
 // The world with events, and its step.
 ghost use Rattle.std.specs.Prelude.{◌≡◌, [], IfOk, IsErrOf, List, OnOk, true};
 ghost use Rattle.std.specs.Option.{option_map};
+ghost use Rattle.hmr_world.specs.Promises.{KeepsPromises};
 ghost use Rattle.hmr_world.specs.Standing as worlds;
 ghost use Rattle.hmr_world.specs.Steps as plain_steps;
 ghost use Rattle.hmr_world.specs.Steps.{step_of};
@@ -13,7 +14,6 @@ ghost use Rattle.world_laws.specs.Runs.{Run};
 ghost use Rattle.event_world.specs.CoreEvents.{core_event_in};
 ghost use Rattle.event_world.specs.Courses.{calls_of, emits, hears, plain};
 ghost use Rattle.event_world.specs.Logs.{IsLogged, is_on};
-ghost use Rattle.event_world.specs.Promises.{KeepsPromises};
 ghost use Rattle.event_world.specs.Runs.{EventRun, EventsAreHeard, IsThereWhereOpen, ListenersRanOnce};
 ghost use Rattle.event_world.specs.Runs.{beginning, run_of, run_on, step_in};
 ghost use Rattle.event_world.specs.Standing.{HasNoClient, IsRunning, IsStepped, KeepsWords, NoneIsOpen};
@@ -23,10 +23,9 @@ ghost use Rattle.event_world.specs.Steps.{HasFormat, event_step_of};
 use crate::event_log::EventLog;
 use crate::event_step::{EventStep, Passage, passage_of};
 use crate::lines::{behind, full_lines, one_line, opened_by};
-use crate::promises::what_is_promised_of_runs;
 use const_eval::Ran;
 use hmr_types::{ClientId, ModName, Value};
-use hmr_world::{Step, World, WorldStop};
+use hmr_world::{Step, World, WorldStop, what_is_promised_of_runs};
 use hot_events::Waiting;
 use output_lines::OutLine;
 use retained_data::Bag;

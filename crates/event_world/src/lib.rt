@@ -14,8 +14,6 @@ mod event_log;
 mod event_step;
 mod event_world;
 mod lines;
-mod promises;
-mod weighing;
 
 pub use core_events::each_event_step_tells_its_event;
 pub use event_log::EventLog;

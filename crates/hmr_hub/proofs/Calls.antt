@@ -19,8 +19,8 @@ use Rattle.turn_lock.specs.Passes.{pass_view}
 use Rattle.turn_lock.specs.Views.{first_view, most_numbers, new_half, numbered}
 use Rattle.turn_lock.specs.declared.view.View.{View}
 use Rattle.turn_lock.proofs.Histories.{calls_two, past_calls}
-use Rattle.hmr_hub.specs.declared.answer.Answer.{Answer}
-use Rattle.hmr_hub.specs.declared.answer.Answer.TheVariants as answer
+use Rattle.hmr_hub.specs.declared.hub_reply.HubReply.{HubReply}
+use Rattle.hmr_hub.specs.declared.hub_reply.HubReply.TheVariants as hub_reply
 use Rattle.hmr_hub.specs.declared.pass.Pass.{Pass}
 use Rattle.hmr_hub.specs.declared.report_line.ReportLine.{ReportLine}
 use Rattle.hmr_hub.specs.Reports.{report_of}
@@ -34,29 +34,29 @@ use Rattle.hmr_hub.proofs.Histories.{calls_transcript, grown_not, past_transcrip
 use Rattle.hmr_hub.proofs.Legal.{same_entries}
 
 -- the answer is of the kind that was asked for
-is_told : (roots : List Name) (before : List Recorded) (event : Event) (told : Answer) (kept : Bool) → IsAnswer roots before (tell event) told kept → IsTold told
-is_told roots before event (answer.Told result) kept a = tt
-is_told roots before event (answer.Outstanding b) kept a = a
-is_told roots before event (answer.Report lines) kept a = a
-is_told roots before event (answer.Events told) kept a = a
+is_told : (roots : List Name) (before : List Recorded) (event : Event) (told : HubReply) (kept : Bool) → IsAnswer roots before (tell event) told kept → IsTold told
+is_told roots before event (hub_reply.Told result) kept a = tt
+is_told roots before event (hub_reply.Outstanding b) kept a = a
+is_told roots before event (hub_reply.Report lines) kept a = a
+is_told roots before event (hub_reply.Events told) kept a = a
 
-is_looked : (roots : List Name) (before : List Recorded) (n : Name) (told : Answer) (kept : Bool) → IsAnswer roots before (outstanding n) told kept → IsOutstandingTold told
-is_looked roots before n (answer.Told result) kept a = a
-is_looked roots before n (answer.Outstanding b) kept a = tt
-is_looked roots before n (answer.Report lines) kept a = a
-is_looked roots before n (answer.Events told) kept a = a
+is_looked : (roots : List Name) (before : List Recorded) (n : Name) (told : HubReply) (kept : Bool) → IsAnswer roots before (outstanding n) told kept → IsOutstandingTold told
+is_looked roots before n (hub_reply.Told result) kept a = a
+is_looked roots before n (hub_reply.Outstanding b) kept a = tt
+is_looked roots before n (hub_reply.Report lines) kept a = a
+is_looked roots before n (hub_reply.Events told) kept a = a
 
-is_reported : (roots : List Name) (before : List Recorded) (told : Answer) (kept : Bool) → IsAnswer roots before report told kept → IsReported told
-is_reported roots before (answer.Told result) kept a = a
-is_reported roots before (answer.Outstanding b) kept a = a
-is_reported roots before (answer.Report lines) kept a = tt
-is_reported roots before (answer.Events told) kept a = a
+is_reported : (roots : List Name) (before : List Recorded) (told : HubReply) (kept : Bool) → IsAnswer roots before report told kept → IsReported told
+is_reported roots before (hub_reply.Told result) kept a = a
+is_reported roots before (hub_reply.Outstanding b) kept a = a
+is_reported roots before (hub_reply.Report lines) kept a = tt
+is_reported roots before (hub_reply.Events told) kept a = a
 
-is_events_told : (roots : List Name) (before : List Recorded) (told : Answer) (kept : Bool) → IsAnswer roots before events told kept → IsEventsTold told
-is_events_told roots before (answer.Told result) kept a = a
-is_events_told roots before (answer.Outstanding b) kept a = a
-is_events_told roots before (answer.Report lines) kept a = a
-is_events_told roots before (answer.Events told) kept a = tt
+is_events_told : (roots : List Name) (before : List Recorded) (told : HubReply) (kept : Bool) → IsAnswer roots before events told kept → IsEventsTold told
+is_events_told roots before (hub_reply.Told result) kept a = a
+is_events_told roots before (hub_reply.Outstanding b) kept a = a
+is_events_told roots before (hub_reply.Report lines) kept a = a
+is_events_told roots before (hub_reply.Events told) kept a = tt
 
 module _ (roots : List Name) (before : List Recorded) (event : Event) where
   replied : (result : Result Reply HubStop) → IsOutcome roots before event result → IfOk result (λ reply. said (reply_after roots before event) ≡ reply)
@@ -81,10 +81,10 @@ same_before xs ys by x false e = e
 
 module _ (p q : Pass) where
   -- what the lock says of a call
-  abbrev pub LockCalled : Asked → Answer → Type 0
+  abbrev pub LockCalled : Asked → HubReply → Type 0
   LockCalled asked told = lock.Called Answers (number_of p) asked told (pass_view p.pass) (pass_view q.pass)
 
-  module _ (asked : Asked) (told : Answer) (l : LockCalled asked told) where
+  module _ (asked : Asked) (told : HubReply) (l : LockCalled asked told) where
     -- the transcript in which the question was met
     abbrev pub before_of : List Recorded
     before_of = transcript_of ((pass_view p.pass).seen ++ l.between)
@@ -120,62 +120,62 @@ module _ (p q : Pass) where
         }
 
   -- the answer is of the kind that was asked for
-  pub told_kind : (event : Event) (told : Answer) → LockCalled (tell event) told → IsTold told
+  pub told_kind : (event : Event) (told : HubReply) → LockCalled (tell event) told → IsTold told
   told_kind event told l = is_told (roots_of p) (before_of (tell event) told l) event told l.recorded (answer_is (tell event) told l)
 
-  pub outstanding_kind : (n : Name) (told : Answer) → LockCalled (outstanding n) told → IsOutstandingTold told
+  pub outstanding_kind : (n : Name) (told : HubReply) → LockCalled (outstanding n) told → IsOutstandingTold told
   outstanding_kind n told l = is_looked (roots_of p) (before_of (outstanding n) told l) n told l.recorded (answer_is (outstanding n) told l)
 
-  pub report_kind : (told : Answer) → LockCalled report told → IsReported told
+  pub report_kind : (told : HubReply) → LockCalled report told → IsReported told
   report_kind told l = is_reported (roots_of p) (before_of report told l) told l.recorded (answer_is report told l)
 
-  pub events_kind : (told : Answer) → LockCalled events told → IsEventsTold told
+  pub events_kind : (told : HubReply) → LockCalled events told → IsEventsTold told
   events_kind told l = is_events_told (roots_of p) (before_of events told l) told l.recorded (answer_is events told l)
 
   -- an event was told
-  pub called : (event : Event) (result : Result Reply HubStop) → LockCalled (tell event) (answer.Told result) → Called event result p q
+  pub called : (event : Event) (result : Result Reply HubStop) → LockCalled (tell event) (hub_reply.Told result) → Called event result p q
   called event result l =
-      let a = answer_is (tell event) (answer.Told result) l in
+      let a = answer_is (tell event) (hub_reply.Told result) l in
       let v = pass_view p.pass in
       let w = pass_view q.pass in
       let more : (ks : List ℕ) → calls ks w.seen ≡ grown (calls ks v.seen) (number_of p) (tell event) l.recorded → calls ks (seen_of q) ≡ calls ks (seen_of p) ++ recorded (number_of p) event result =
       λ ks h. calls_transcript ks w.seen ∙ (ap transcript_of h ∙ (transcript_more (calls ks v.seen) (number_of p) event result l.recorded a.0
       ∙ ap (λ entries. entries ++ recorded (number_of p) event result) (sym (calls_transcript ks v.seen)))) in
       record {
-        before = before_of (tell event) (answer.Told result) l;
-        past = past_before (tell event) (answer.Told result) l;
+        before = before_of (tell event) (hub_reply.Told result) l;
+        past = past_before (tell event) (hub_reply.Told result) l;
         seen = ap transcript_of l.seen ∙ transcript_more (v.seen ++ l.between) (number_of p) event result l.recorded a.0;
-        reply = replied (roots_of p) (before_of (tell event) (answer.Told result) l) event result a.1;
-        written = written (roots_of p) (before_of (tell event) (answer.Told result) l) event result a.1;
-        full = full (roots_of p) (before_of (tell event) (answer.Told result) l) event result a.1;
+        reply = replied (roots_of p) (before_of (tell event) (hub_reply.Told result) l) event result a.1;
+        written = written (roots_of p) (before_of (tell event) (hub_reply.Told result) l) event result a.1;
+        full = full (roots_of p) (before_of (tell event) (hub_reply.Told result) l) event result a.1;
         own = more (number_of p ∷ []) l.own;
         known = more (known_of p) l.known;
-        alone = alone_before (tell event) (answer.Told result) l;
+        alone = alone_before (tell event) (hub_reply.Told result) l;
       }
 
   -- it was asked whether a result hasn't come
-  pub outstanding_told : (n : Name) (told : Bool) → LockCalled (outstanding n) (answer.Outstanding told) → Looked p q × (told ≡ is_outstanding (roots_of p) (seen_of q) n)
+  pub outstanding_told : (n : Name) (told : Bool) → LockCalled (outstanding n) (hub_reply.Outstanding told) → Looked p q × (told ≡ is_outstanding (roots_of p) (seen_of q) n)
   outstanding_told n told l =
-      let a = answer_is (outstanding n) (answer.Outstanding told) l in
+      let a = answer_is (outstanding n) (hub_reply.Outstanding told) l in
       let v = pass_view p.pass in
       let seen : seen_of q ≡ transcript_of (v.seen ++ l.between) = ap transcript_of (l.seen ∙ grown_not (v.seen ++ l.between) (number_of p) (outstanding n) l.recorded a.0) in
-      (looked (outstanding n) (answer.Outstanding told) l a.0, a.1 ∙ ap (λ entries. is_outstanding (roots_of p) entries n) (sym seen))
+      (looked (outstanding n) (hub_reply.Outstanding told) l a.0, a.1 ∙ ap (λ entries. is_outstanding (roots_of p) entries n) (sym seen))
 
   -- it was asked for the report
-  pub report_told : (lines : Result (Vec ReportLine) AllocError) → LockCalled report (answer.Report lines) → Looked p q × IfOk lines (λ told. told.items ≡ report_of (roots_of p) (seen_of q))
+  pub report_told : (lines : Result (Vec ReportLine) AllocError) → LockCalled report (hub_reply.Report lines) → Looked p q × IfOk lines (λ told. told.items ≡ report_of (roots_of p) (seen_of q))
   report_told lines l =
-      let a = answer_is report (answer.Report lines) l in
+      let a = answer_is report (hub_reply.Report lines) l in
       let v = pass_view p.pass in
       let seen : seen_of q ≡ transcript_of (v.seen ++ l.between) = ap transcript_of (l.seen ∙ grown_not (v.seen ++ l.between) (number_of p) report l.recorded a.0) in
-      (looked report (answer.Report lines) l a.0, subst (λ entries. IfOk lines (λ told. told.items ≡ report_of (roots_of p) entries)) (sym seen) a.1)
+      (looked report (hub_reply.Report lines) l a.0, subst (λ entries. IfOk lines (λ told. told.items ≡ report_of (roots_of p) entries)) (sym seen) a.1)
 
   -- it was asked which events were told
-  pub events_told : (result : Result (Vec server.Event) AllocError) → LockCalled events (answer.Events result) → Looked p q × IfOk result (λ told. map event_of told.items ≡ events_of (seen_of q))
+  pub events_told : (result : Result (Vec server.Event) AllocError) → LockCalled events (hub_reply.Events result) → Looked p q × IfOk result (λ told. map event_of told.items ≡ events_of (seen_of q))
   events_told result l =
-      let a = answer_is events (answer.Events result) l in
+      let a = answer_is events (hub_reply.Events result) l in
       let v = pass_view p.pass in
       let seen : seen_of q ≡ transcript_of (v.seen ++ l.between) = ap transcript_of (l.seen ∙ grown_not (v.seen ++ l.between) (number_of p) events l.recorded a.0) in
-      (looked events (answer.Events result) l a.0, subst (λ entries. IfOk result (λ told. map event_of told.items ≡ events_of entries)) (sym seen) a.1)
+      (looked events (hub_reply.Events result) l a.0, subst (λ entries. IfOk result (λ told. map event_of told.items ≡ events_of entries)) (sym seen) a.1)
 
   -- what a call leaves as it was
   pub same_knower : mark_of q ≡ mark_of p → number_of q ≡ number_of p → lock.SameKnower (pass_view p.pass) (pass_view q.pass) → SameKnower p q

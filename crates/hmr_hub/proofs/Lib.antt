@@ -1,5 +1,6 @@
 pub mod Answering
 pub mod Calls
+pub mod EventForms
 pub mod Histories
 pub mod Legal
 pub mod Lines

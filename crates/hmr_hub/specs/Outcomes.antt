@@ -9,8 +9,8 @@ use Rattle.update_msgs.specs.declared.desk.HubStop.TheVariants.{TranscriptFull, 
 use Rattle.server_core.specs.declared.event.Reply.{Reply}
 use Rattle.server_core.specs.Said.{IsWritten, event_of, said}
 use Rattle.turn_lock.specs.Histories.{grown}
-use Rattle.hmr_hub.specs.declared.answer.Answer.{Answer}
-use Rattle.hmr_hub.specs.declared.answer.Answer.TheVariants as answer
+use Rattle.hmr_hub.specs.declared.hub_reply.HubReply.{HubReply}
+use Rattle.hmr_hub.specs.declared.hub_reply.HubReply.TheVariants as hub_reply
 use Rattle.hmr_hub.specs.Questions.{Asked, tell, outstanding, report, events, transcript_of}
 use Rattle.hmr_hub.specs.Recordings.{Recording}
 use Rattle.hmr_hub.specs.Reports.{report_of}
@@ -35,58 +35,58 @@ is_recorded (Ok reply) = true
 is_recorded (Err stop) = false
 
 -- an answer to a question, and whether it was recorded
-abbrev pub IsAnswer : List Name → List Recorded → Asked → Answer → Bool → Type 0
-IsAnswer roots before (tell event) (answer.Told result) kept =
+abbrev pub IsAnswer : List Name → List Recorded → Asked → HubReply → Bool → Type 0
+IsAnswer roots before (tell event) (hub_reply.Told result) kept =
     (kept ≡ is_recorded result) × IsOutcome roots before event result
-IsAnswer roots before (tell event) (answer.Outstanding told) kept = ⊥
-IsAnswer roots before (tell event) (answer.Report lines) kept = ⊥
-IsAnswer roots before (tell event) (answer.Events told) kept = ⊥
-IsAnswer roots before (outstanding n) (answer.Told result) kept = ⊥
-IsAnswer roots before (outstanding n) (answer.Outstanding told) kept =
+IsAnswer roots before (tell event) (hub_reply.Outstanding told) kept = ⊥
+IsAnswer roots before (tell event) (hub_reply.Report lines) kept = ⊥
+IsAnswer roots before (tell event) (hub_reply.Events told) kept = ⊥
+IsAnswer roots before (outstanding n) (hub_reply.Told result) kept = ⊥
+IsAnswer roots before (outstanding n) (hub_reply.Outstanding told) kept =
     (kept ≡ false) × (told ≡ is_outstanding roots before n)
-IsAnswer roots before (outstanding n) (answer.Report lines) kept = ⊥
-IsAnswer roots before (outstanding n) (answer.Events told) kept = ⊥
-IsAnswer roots before report (answer.Told result) kept = ⊥
-IsAnswer roots before report (answer.Outstanding told) kept = ⊥
-IsAnswer roots before report (answer.Report lines) kept =
+IsAnswer roots before (outstanding n) (hub_reply.Report lines) kept = ⊥
+IsAnswer roots before (outstanding n) (hub_reply.Events told) kept = ⊥
+IsAnswer roots before report (hub_reply.Told result) kept = ⊥
+IsAnswer roots before report (hub_reply.Outstanding told) kept = ⊥
+IsAnswer roots before report (hub_reply.Report lines) kept =
     (kept ≡ false) × IfOk lines (λ told. told.items ≡ report_of roots before)
-IsAnswer roots before report (answer.Events told) kept = ⊥
-IsAnswer roots before events (answer.Told result) kept = ⊥
-IsAnswer roots before events (answer.Outstanding told) kept = ⊥
-IsAnswer roots before events (answer.Report lines) kept = ⊥
-IsAnswer roots before events (answer.Events told) kept =
+IsAnswer roots before report (hub_reply.Events told) kept = ⊥
+IsAnswer roots before events (hub_reply.Told result) kept = ⊥
+IsAnswer roots before events (hub_reply.Outstanding told) kept = ⊥
+IsAnswer roots before events (hub_reply.Report lines) kept = ⊥
+IsAnswer roots before events (hub_reply.Events told) kept =
     (kept ≡ false) × IfOk told (λ told. map event_of told.items ≡ events_of before)
 
 -- it is the answer to an event
-abbrev pub IsTold : Answer → Type 0
-IsTold (answer.Told result) = ⊤
-IsTold (answer.Outstanding told) = ⊥
-IsTold (answer.Report lines) = ⊥
-IsTold (answer.Events told) = ⊥
+abbrev pub IsTold : HubReply → Type 0
+IsTold (hub_reply.Told result) = ⊤
+IsTold (hub_reply.Outstanding told) = ⊥
+IsTold (hub_reply.Report lines) = ⊥
+IsTold (hub_reply.Events told) = ⊥
 
 -- it is the answer to whether a result hasn't come
-abbrev pub IsOutstandingTold : Answer → Type 0
-IsOutstandingTold (answer.Told result) = ⊥
-IsOutstandingTold (answer.Outstanding told) = ⊤
-IsOutstandingTold (answer.Report lines) = ⊥
-IsOutstandingTold (answer.Events told) = ⊥
+abbrev pub IsOutstandingTold : HubReply → Type 0
+IsOutstandingTold (hub_reply.Told result) = ⊥
+IsOutstandingTold (hub_reply.Outstanding told) = ⊤
+IsOutstandingTold (hub_reply.Report lines) = ⊥
+IsOutstandingTold (hub_reply.Events told) = ⊥
 
 -- it is the answer to what there is to report
-abbrev pub IsReported : Answer → Type 0
-IsReported (answer.Told result) = ⊥
-IsReported (answer.Outstanding told) = ⊥
-IsReported (answer.Report lines) = ⊤
-IsReported (answer.Events told) = ⊥
+abbrev pub IsReported : HubReply → Type 0
+IsReported (hub_reply.Told result) = ⊥
+IsReported (hub_reply.Outstanding told) = ⊥
+IsReported (hub_reply.Report lines) = ⊤
+IsReported (hub_reply.Events told) = ⊥
 
 -- it is the answer to which events were told
-abbrev pub IsEventsTold : Answer → Type 0
-IsEventsTold (answer.Told result) = ⊥
-IsEventsTold (answer.Outstanding told) = ⊥
-IsEventsTold (answer.Report lines) = ⊥
-IsEventsTold (answer.Events told) = ⊤
+abbrev pub IsEventsTold : HubReply → Type 0
+IsEventsTold (hub_reply.Told result) = ⊥
+IsEventsTold (hub_reply.Outstanding told) = ⊥
+IsEventsTold (hub_reply.Report lines) = ⊥
+IsEventsTold (hub_reply.Events told) = ⊤
 
 -- the answer in the state that a history makes of the opening value, and what the history then is
 pub record Answers (opening : Recording) (history : List (ℕ × Asked)) (by : ℕ) (asked : Asked)
-    (told : Answer) (kept : Bool) : Type 0 where
+    (told : HubReply) (kept : Bool) : Type 0 where
   pub is : IsAnswer opening.roots (transcript_of history) asked told kept
   pub transcript : IsTranscript opening.roots (transcript_of (grown history by asked kept))

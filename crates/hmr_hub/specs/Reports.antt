@@ -7,8 +7,7 @@ use Rattle.core_model.specs.FreshLoad.{fresh_load}
 use Rattle.core_model.specs.Core.{Event, core_after}
 use Rattle.core_model.specs.Transcript.{Recorded}
 use Rattle.client_model.specs.Printing.{module_line}
-use Rattle.output_lines.specs.declared.out_line.OutLine.TheVariants as line
-use Rattle.world_model.specs.Steps.{fresh_lines, unlinked_line}
+use Rattle.world_model.specs.Steps.{fresh_lines}
 use Rattle.import_scan.specs.Links.{links}
 use Rattle.hmr_hub.specs.declared.report_line.ReportLine.{ReportLine}
 use Rattle.hmr_hub.specs.declared.report_line.ReportLine.TheVariants.{Steps, Client, Line}
@@ -18,14 +17,6 @@ use Rattle.hmr_hub.specs.Transcripts.{past_of}
 -- a module of a client's page
 abbrev pub page_line : Name × ℕ → ReportLine
 page_line row = Line (module_line row)
-
--- a name of the fresh load that isn't served
-abbrev pub missing_line : Name → ReportLine
-missing_line n = Line (line.Missing n)
-
--- an import that isn't exported
-abbrev pub edge_line : Name × Name × Name → ReportLine
-edge_line edge = Line (unlinked_line edge)
 
 -- a client's number, and its page
 abbrev pub client_lines : ℕ → Option Page → List ReportLine

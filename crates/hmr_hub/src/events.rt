@@ -4,10 +4,10 @@ ghost use Rattle.core_model.specs.Transcript.{event_bytes, events_of, most_bytes
 ghost use Rattle.server_core.specs.Said.{event_of};
 ghost use Rattle.hmr_hub.specs.KeptEvents.{entry_of, kept_as};
 
-use crate::kept_event::{Entry, KeptEvent, copy_text};
+use crate::kept_event::{Entry, KeptEvent};
 use import_scan::transform;
 use module_graph::copy_of;
-use server_core::Event;
+use server_core::{Event, copy_text};
 use std::alloc::{AllocError, Global};
 
 /// The events of these entries, in their order. It takes time and memory in proportion to their names and

@@ -13,11 +13,11 @@ ghost use Rattle.hmr_hub.specs.Passes.{HasTranscript, IsPassOf, all_given, given
 ghost use Rattle.hmr_hub.specs.Passes.{roots_of, seen_of};
 ghost use Rattle.hmr_hub.specs.Reports.{report_of};
 ghost use Rattle.hmr_hub.specs.Transcripts.{HasVersion, is_outstanding, may_make};
-ghost use Rattle.hmr_hub.specs.declared.answer.Answer.TheVariants as answer;
+ghost use Rattle.hmr_hub.specs.declared.hub_reply.HubReply.TheVariants as hub_reply;
 ghost use Rattle.hmr_hub.specs.declared.pass.HubFault.TheVariants.{Roots};
 
-use crate::answer::Answer;
-use crate::forming::note_event;
+use crate::forming::note_formed;
+use crate::hub_reply::HubReply;
 use crate::pass::{Hub, HubFault, Pass};
 use crate::question::{Kind, Question};
 use crate::recorded_core::RecordedCore;
@@ -80,7 +80,7 @@ impl Hub {
         ensures called { Called (event_of event) result pass.old pass.new }
         ensures transcript { HasTranscript pass.new }
     {
-        note_event(&event);
+        note_formed(&event);
         let question = Question {
             kind: Kind::Tell(event),
         };
@@ -181,45 +181,45 @@ fn hub_of(alloc: Global, core: Core) -> Result<(Hub, Pass), AllocError>
 }
 
 // The answer to an event.
-fn told(told: Answer) -> Result<Reply, HubStop>
+fn told(told: HubReply) -> Result<Reply, HubStop>
     requires { IsTold told }
-    ensures { told ≡ answer.Told result }
+    ensures { told ≡ hub_reply.Told result }
 {
     match told {
-        Answer::Told(result) => result,
-        Answer::Outstanding(_) | Answer::Report(_) | Answer::Events(_) => unreachable!(),
+        HubReply::Told(result) => result,
+        HubReply::Outstanding(_) | HubReply::Report(_) | HubReply::Events(_) => unreachable!(),
     }
 }
 
 // The answer to whether a result hasn't come.
-fn is_outstanding(told: Answer) -> bool
+fn is_outstanding(told: HubReply) -> bool
     requires { IsOutstandingTold told }
-    ensures { told ≡ answer.Outstanding result }
+    ensures { told ≡ hub_reply.Outstanding result }
 {
     match told {
-        Answer::Outstanding(result) => result,
-        Answer::Told(_) | Answer::Report(_) | Answer::Events(_) => unreachable!(),
+        HubReply::Outstanding(result) => result,
+        HubReply::Told(_) | HubReply::Report(_) | HubReply::Events(_) => unreachable!(),
     }
 }
 
 // The answer to what there is to report.
-fn reported(told: Answer) -> Result<Vec<ReportLine>, AllocError>
+fn reported(told: HubReply) -> Result<Vec<ReportLine>, AllocError>
     requires { IsReported told }
-    ensures { told ≡ answer.Report result }
+    ensures { told ≡ hub_reply.Report result }
 {
     match told {
-        Answer::Report(result) => result,
-        Answer::Told(_) | Answer::Outstanding(_) | Answer::Events(_) => unreachable!(),
+        HubReply::Report(result) => result,
+        HubReply::Told(_) | HubReply::Outstanding(_) | HubReply::Events(_) => unreachable!(),
     }
 }
 
 // The answer to what was told.
-fn events_told(told: Answer) -> Result<Vec<Event>, AllocError>
+fn events_told(told: HubReply) -> Result<Vec<Event>, AllocError>
     requires { IsEventsTold told }
-    ensures { told ≡ answer.Events result }
+    ensures { told ≡ hub_reply.Events result }
 {
     match told {
-        Answer::Events(result) => result,
-        Answer::Told(_) | Answer::Outstanding(_) | Answer::Report(_) => unreachable!(),
+        HubReply::Events(result) => result,
+        HubReply::Told(_) | HubReply::Outstanding(_) | HubReply::Report(_) => unreachable!(),
     }
 }

@@ -6,7 +6,7 @@ ghost use Rattle.hmr_hub.specs.Outcomes.{Answers, is_recorded};
 ghost use Rattle.hmr_hub.specs.Questions.{history_of, may_ask};
 ghost use Rattle.hmr_hub.specs.Recordings.{Recording};
 
-use crate::answer::Answer;
+use crate::hub_reply::HubReply;
 use crate::question::{Kind, Question};
 use crate::recorded_core::RecordedCore;
 use server_core::Reply;
@@ -16,7 +16,7 @@ use update_msgs::HubStop;
 impl Keeps for RecordedCore {
     type Entry = Question;
 
-    type Reply = Answer;
+    type Reply = HubReply;
 
     ghost history = { λ recording. history_of recording.entries };
 
@@ -26,14 +26,14 @@ impl Keeps for RecordedCore {
 
     ghost answers = { Answers };
 
-    fn apply(&mut self, by: u64, question: Question) -> (Answer, bool) {
+    fn apply(&mut self, by: u64, question: Question) -> (HubReply, bool) {
         self.answer(by, question.kind)
     }
 }
 
 impl RecordedCore {
     // The answer to a question of this kind, and whether it was recorded.
-    fn answer(&mut self, by: u64, kind: Kind) -> (Answer, bool)
+    fn answer(&mut self, by: u64, kind: Kind) -> (HubReply, bool)
         requires formed { IsFormedKind kind }
         requires may { may_ask by (asked_of kind) ≡ true }
         ensures history { history_of self.new.entries
@@ -46,11 +46,11 @@ impl RecordedCore {
             Kind::Tell(event) => {
                 let told = self.tell(by, event);
                 let recorded = is_recorded(&told);
-                (Answer::Told(told), recorded)
+                (HubReply::Told(told), recorded)
             }
-            Kind::Outstanding(name) => (Answer::Outstanding(self.is_outstanding(&name)), false),
-            Kind::Report => (Answer::Report(self.report()), false),
-            Kind::Events => (Answer::Events(self.events()), false),
+            Kind::Outstanding(name) => (HubReply::Outstanding(self.is_outstanding(&name)), false),
+            Kind::Report => (HubReply::Report(self.report()), false),
+            Kind::Events => (HubReply::Events(self.events()), false),
         }
     }
 }

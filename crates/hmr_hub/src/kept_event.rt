@@ -1,14 +1,13 @@
 // An event as a transcript keeps it. Of a result it keeps no outcome, which is that of transforming the
 // text, and a table it keeps packed.
 ghost use Rattle.std.specs.Prelude.{◌≡◌, IfOk};
-ghost use Rattle.std.specs.Option.{option_map};
 ghost use Rattle.server_core.specs.Said.{event_of};
 ghost use Rattle.hmr_hub.specs.KeptEvents.{kept_as};
 
 use hmr_types::{ClientId, ModName, Ver};
 use module_graph::copy_of;
 use packed_table::PackedTable;
-use server_core::Event;
+use server_core::{Event, copy_text};
 use std::alloc::{AllocError, Global};
 
 /// What is kept of an event.
@@ -54,18 +53,5 @@ pub(crate) fn keep(alloc: Global, event: &Event) -> Result<KeptEvent, AllocError
             Ok(KeptEvent::Invalidate(*client, name.clone()?, *version))
         }
         Event::Disconnect(client) => Ok(KeptEvent::Disconnect(*client)),
-    }
-}
-
-/// An equal text, where there is one.
-pub(crate) fn copy_text(
-    alloc: Global,
-    text: &Option<Vec<u8>>,
-) -> Result<Option<Vec<u8>>, AllocError>
-    ensures { IfOk result (λ copy. option_map (λ t. t.items) copy ≡ option_map (λ t. t.items) text.now) }
-{
-    match text {
-        Some(text) => Ok(Some(Vec::from_slice(alloc, text)?)),
-        None => Ok(None),
     }
 }

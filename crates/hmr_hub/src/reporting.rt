@@ -6,14 +6,14 @@ ghost use Rattle.world_model.specs.Steps.{fresh_lines};
 ghost use Rattle.server_core.specs.Fresh.{load_of};
 ghost use Rattle.server_core.specs.Kept.{StandsFor};
 ghost use Rattle.hmr_hub.specs.Pages.{ArePages, IsPage, last_page};
-ghost use Rattle.hmr_hub.specs.Reports.{client_lines, edge_line, missing_line};
-ghost use Rattle.hmr_hub.specs.Reports.{page_line, pages_lines, report_of};
+ghost use Rattle.hmr_hub.specs.Reports.{client_lines, page_line, pages_lines, report_of};
 ghost use Rattle.hmr_hub.specs.Transcripts.{IsTranscript};
 ghost use Rattle.hmr_hub.specs.declared.report_line.ReportLine.TheVariants.{Line};
 
 use crate::recorded_core::RecordedCore;
 use crate::report_line::ReportLine;
-use hmr_types::{ClientId, ModName, Name, Table, Ver};
+use client_exchange::load_lines;
+use hmr_types::{ClientId, ModName, Table, Ver};
 use output_lines::OutLine;
 use server_core::{Core, Fresh};
 use std::alloc::{AllocError, Global};
@@ -28,7 +28,7 @@ impl RecordedCore {
     {
         let mut lines = Vec::new(self.alloc);
         lines.push(ReportLine::Steps(self.transcript.len()))?;
-        add_load(&mut lines, self.core.fresh(self.alloc)?)?;
+        add_load(self.alloc, &mut lines, self.core.fresh(self.alloc)?)?;
         add_pages(self.alloc, &mut lines, &self.core, &self.pages)?;
         Ok(lines)
     }
@@ -103,37 +103,19 @@ fn add_module(lines: &mut Vec<ReportLine>, name: ModName, version: Ver) -> Resul
     Ok(())
 }
 
-fn add_load(lines: &mut Vec<ReportLine>, load: Fresh) -> Result<(), AllocError>
+// The lines of a fresh load, behind those before.
+fn add_load(alloc: Global, lines: &mut Vec<ReportLine>, load: Fresh) -> Result<(), AllocError>
     ensures { IfOk result (λ _. lines.new.items ≡ lines.old.items ++ map Line (fresh_lines (load_of load))) }
 {
-    lines.push(ReportLine::Line(OutLine::Fresh))?;
-    add_page(lines, load.table.as_slice())?;
-    add_missing(lines, load.missing.into_vec())?;
-    add_unlinked(lines, load.unlinked.into_vec())?;
-    Ok(())
+    let more = load_lines(alloc, OutLine::Fresh, load)?;
+    add_lines(lines, more)
 }
 
-fn add_missing(lines: &mut Vec<ReportLine>, names: Vec<ModName>) -> Result<(), AllocError>
-    ensures { IfOk result (λ _. lines.new.items ≡ lines.old.items ++ map missing_line names.items) }
+fn add_lines(lines: &mut Vec<ReportLine>, more: Vec<OutLine>) -> Result<(), AllocError>
+    ensures { IfOk result (λ _. lines.new.items ≡ lines.old.items ++ map Line more.items) }
 {
-    for name in names {
-        lines.push(ReportLine::Line(OutLine::Missing { name }))?;
-    }
-    Ok(())
-}
-
-fn add_unlinked(
-    lines: &mut Vec<ReportLine>,
-    edges: Vec<(ModName, ModName, Name)>,
-) -> Result<(), AllocError>
-    ensures { IfOk result (λ _. lines.new.items ≡ lines.old.items ++ map edge_line edges.items) }
-{
-    for (importer, dependency, export) in edges {
-        lines.push(ReportLine::Line(OutLine::Unlinked {
-            importer,
-            dependency,
-            export,
-        }))?;
+    for line in more {
+        lines.push(ReportLine::Line(line))?;
     }
     Ok(())
 }

@@ -8,19 +8,10 @@ ghost use Rattle.hmr_hub.specs.Transcripts.{entry_bytes, is_full};
 
 use crate::events::events_in;
 use crate::kept_event::{Entry, KeptEvent};
-use crate::weighing::left_after;
+use event_facts::{MOST_BYTES, after_entry, left_after};
 use server_core::Event;
 use std::alloc::{AllocError, Global};
 use std::marker::Model;
-
-// The most entries of a transcript.
-const ENTRIES: usize = 1_000_000;
-
-// The most bytes of a transcript: 256 MiB.
-const BYTES: usize = 268_435_456;
-
-// What an entry counts beside the names and texts of its event.
-const ENTRY_BYTES: usize = 64;
 
 /// A transcript within its bounds. Contracts see its entries, and for how many more there is room.
 #[derive(Drop)]
@@ -48,7 +39,7 @@ impl Transcript {
     {
         Transcript {
             entries: Vec::new(alloc),
-            left: BYTES,
+            left: MOST_BYTES,
         }
     }
 
@@ -73,10 +64,7 @@ impl Transcript {
             ≡ most_bytes) }
         ensures none { is_none result ≡ is_full self.now.entries (event_of event.now) }
     {
-        if self.entries.len() >= ENTRIES {
-            return None;
-        }
-        left_after(self.left.checked_sub(ENTRY_BYTES)?, event)
+        left_after(after_entry(self.entries.len() as u64, self.left)?, event)
     }
 
     /// Makes room for an entry. It changes nothing else.

@@ -14,8 +14,7 @@ use Rattle.server_core.specs.Kept.{Kept, StandsFor}
 use Rattle.server_core.specs.Said.{said, IsWritten}
 use Rattle.version_map.specs.Standing.{settled_as}
 use Rattle.hmr_world.specs.Cores.{IsCore}
-use Rattle.hmr_world.specs.Replies.{answer_in, settled_word, word_in, message_in}
-use Rattle.core_model.specs.Exchange.{message_of}
+use Rattle.hmr_world.specs.Replies.{answer_in, settled_word, word_in}
 
 pub told_stands : (old new : Kept) (event : model.Event) (result : Result Reply AllocError)
     → new.roots ≡ old.roots
@@ -59,13 +58,3 @@ pub settle_line_is : (n : Name) (v : ℕ) (answer : ResultAnswer)
 settle_line_is n v (serve a) = refl
 settle_line_is n v (refuse fault) = refl
 settle_line_is n v late = refl
-
-pub message_said : (reply : requests.Reply) → message_in (said reply) ≡ message_of reply
-message_said (requests.edited (job v)) = refl
-message_said (requests.edited same) = refl
-message_said (requests.edited (removed v)) = refl
-message_said (requests.edited (edit_refused word)) = refl
-message_said (requests.settled answer) = refl
-message_said (requests.to_client m) = refl
-message_said (requests.refused refusal) = refl
-message_said requests.gone = refl

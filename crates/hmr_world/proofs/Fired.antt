@@ -65,7 +65,7 @@ heard_lines : (answer : Fired) (lines : Option (Vec OutLine)) → IsFired answer
 heard_lines answer None e = ap lines_heard e
 heard_lines answer (Some shown) e = ap lines_heard e
 
--- A runtime that goes on doesn't answer that it is stopped, and no fault comes but want of memory.
+-- A runtime that goes on doesn't answer that it is stopped, and no fault comes but that memory ran out.
 
 says_stopped : Fired → Bool
 says_stopped (heard lines) = false
@@ -163,7 +163,7 @@ module _ {F : Type 0} (run : Run) (i : ℕ) (n : Name) (value : Value) (old : co
         let heard = heard_lines (fired o.r).answer lines (fired_as h n value (Ok lines) f o.r o.is) in
         subst (λ r. AreHeard (heard_at module_language n value r) (Ok lines)) (sym o.there) heard
 
-    -- no other fault comes than want of memory
+    -- no other fault comes than that memory ran out
     pub fire_never : (fault : RuntimeFault) → lacks_memory fault ≡ false
         → ((opening : Opening) (past : Past) → runtimes.StandsFor opening past h
         → IsFired (fire module_language n value (runtime_after module_language opening past)).answer (Err fault))

@@ -33,15 +33,15 @@ use Rattle.hot_runtime.specs.declared.runtime.HotRuntime.{HotRuntime}
 use Rattle.server_core.specs.declared.event.Reply.{Reply}
 use Rattle.server_core.specs.Kept.{Kept}
 use Rattle.server_core.specs.Said.{said, IsWritten}
+use Rattle.client_exchange.specs.Replies.{message_in}
+use Rattle.client_exchange.proofs.Saying.{message_said}
 use Rattle.world_model.specs.Ties.{IsUnderstood}
 use Rattle.world_model.specs.Turning.{lines_taken, take_some}
 use Rattle.hmr_world.specs.Clients.{IsRuntime}
 use Rattle.hmr_world.specs.Cores.{IsCore}
-use Rattle.hmr_world.specs.Replies.{message_in}
 use Rattle.hmr_world.specs.Stops.{AreLines}
 use Rattle.hmr_world.specs.Turns.{CanTake, CanTurn, answer_to, taking_of}
 use Rattle.hmr_world.specs.declared.stop.WorldStop.{WorldStop}
-use Rattle.hmr_world.proofs.Cores.{message_said}
 
 -- What the runtime asks and answers, of the definitions' runtime.
 

@@ -185,3 +185,33 @@ OthersAreLeftAlone run s = (i : ℕ) (c : Client) (r : Runtime) → HasClient ru
 -- its record, nor the client itself, nor what came to it, nor what it is answered next; nor the sources
 abbrev pub OthersCanBeLeftOut : Run → Type 0
 OthersCanBeLeftOut run = (i : ℕ) (c : Client) (r : Runtime) → HasClient run i c r → IsSameAlone run i c r
+
+-- what is promised of every run, part by part
+pub record KeepsPromises (run : Run) : Type 0 where
+  pub fresh_load : CaughtUpIsFresh run
+  pub nothing_missing : NothingIsMissing run
+  pub unlinked_is_stale : UnlinkedIsStale run
+  pub own_roots : RootsAreOwn run
+  pub stale_edges : StaleWhereStopped run
+  pub disposers : DisposersRanOnce run
+  pub prune_handlers : PruneHandlersRanOnce run
+  pub held_prune_handlers : HeldPruneHandlersRan run
+  pub disposers_first : DisposersRanFirst run
+  pub data_to_successors : DataGoesToSuccessors run
+  pub data_of_disposers : DisposersLeftTheData run
+  pub data_to_no_other : DataGoesToNoOther run
+  pub fates : HandlersEndedByFate run
+  pub fates_once : HandlersEndedOnce run
+  pub registered : HandlersWereRegistered run
+  pub runs : RunsAreOfHandlers run
+  pub ended_once : InstancesEndedOnce run
+  pub values : ValuesAreOfEvaluations run
+  pub evaluations : EvaluationsAreOfTexts run
+  pub unrun : UnrunIsUnset run
+  pub evaluated_once : EvaluatedOnce run
+  pub assignments : AssignmentsAreOfHandlers run
+  pub fresh_values : ValuesAreFresh run
+  pub full_reloads : ReloadsAreExact run
+  pub catching_up : ClientsCatchUp run
+  pub isolation : (s : Step) → OthersAreLeftAlone run s
+  pub left_out : OthersCanBeLeftOut run

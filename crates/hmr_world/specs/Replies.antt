@@ -2,10 +2,7 @@
 use Rattle.std.specs.Prelude.{ℕ, Option, Some, None}
 use Rattle.output_lines.specs.declared.words.SettleWord.{SettleWord}
 use Rattle.output_lines.specs.declared.words.SettleWord.TheVariants as words
-use Rattle.update_msgs.specs.declared.message.ServerMsg.{ServerMsg}
-use Rattle.update_msgs.specs.declared.message.ServerMsg.TheVariants as msg
 use Rattle.core_model.specs.Sources.{EditAnswer, job, same, removed, edit_refused}
-use Rattle.core_model.specs.Exchange.{refusal_message}
 use Rattle.version_map.specs.declared.outcome.EditOutcome.{EditOutcome}
 use Rattle.version_map.specs.declared.outcome.EditOutcome.TheVariants as edits
 use Rattle.version_map.specs.declared.outcome.Settled.{Settled}
@@ -49,12 +46,3 @@ word_in (replies.Settled settled) = Some (settled_word settled)
 word_in (replies.To message) = None
 word_in (replies.Refused refusal) = None
 word_in replies.Gone = None
-
--- the message that a reply to a client is
-abbrev pub message_in : Reply → Option ServerMsg
-message_in (replies.Edited outcome) = None
-message_in (replies.EditRefused refusal) = None
-message_in (replies.Settled settled) = None
-message_in (replies.To message) = Some message
-message_in (replies.Refused refusal) = Some (refusal_message refusal)
-message_in replies.Gone = Some msg.Done

@@ -16,20 +16,14 @@ ghost use Rattle.hmr_world.specs.Standing.{IsRunning, StandsFor};
 ghost use Rattle.hmr_world.specs.Steps.{step_of};
 
 use crate::clients::client_at;
-use crate::exchange::event_of;
 use crate::step::Step;
 use crate::world::World;
+use client_exchange::event_of;
 use hmr_types::{ClientId, ModName, Ver};
 use import_scan::transform;
 use module_graph::{copy_name, copy_of};
 use server_core::Event;
 use std::alloc::{AllocError, Global};
-
-/// In each step, of every run, the core is told the event that `event_in` says and nothing else: where it
-/// says one, the core is then what that event makes of it, and where it says none, the core is as it was.
-pub fn each_step_tells_its_event()
-    ensures { (run : Run) (s : model.Step) → TellsItsEvent run s }
-{}
 
 impl<F> World<F> {
     /// The event that the core would be told in this step, if it were made now; nothing changes. It is None
@@ -124,3 +118,9 @@ fn hello_of(alloc: Global, names: &[ModName]) -> Result<Event, AllocError>
 {
     Ok(Event::Connect(copy_of(alloc, names)?))
 }
+
+/// In each step, of every run, the core is told the event that `event_in` says and nothing else: where it
+/// says one, the core is then what that event makes of it, and where it says none, the core is as it was.
+pub fn each_step_tells_its_event()
+    ensures { (run : Run) (s : model.Step) → TellsItsEvent run s }
+{}

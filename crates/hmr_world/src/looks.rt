@@ -10,10 +10,10 @@ ghost use Rattle.hmr_world.specs.Jobs.{key_of};
 ghost use Rattle.hmr_world.specs.Standing.{IsStepped, StandsFor, stage_of};
 
 use crate::clients::client_at;
-use crate::fresh::{add_modules, load_lines};
 use crate::lines::{one_line, unknown};
 use crate::stop::WorldStop;
 use crate::world::World;
+use client_exchange::{add_modules, load_lines};
 use hmr_types::{ClientId, ModName, Ver};
 use output_lines::{ClientState, OutLine};
 use std::alloc::AllocError;

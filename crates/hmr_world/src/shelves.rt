@@ -36,8 +36,8 @@ pub(crate) fn take_shelf<F: FnOnce(Bag) -> Result<Ran, AllocError> + Drop>(
     empty
 }
 
-/// Discards all closures.
-pub(crate) fn discard<F: Drop>(mut shelves: Vec<Shelf<F>>) {
+/// Lets all closures go without a call.
+pub fn discard<F: Drop>(mut shelves: Vec<Shelf<F>>) {
     while let Some(shelf) = shelves.pop() {
         shelf.end();
     }

@@ -18,11 +18,11 @@ ghost use Rattle.hmr_world.specs.Turns.{CanTake, CanTurn, answer_to, taking_of};
 
 use crate::clients::{client_at, place_of, take_out};
 use crate::core_calls::tell;
-use crate::exchange::{event_of, message_in};
 use crate::lines::{one_line, unknown};
 use crate::stop::WorldStop;
 use crate::wire::{sent_by_client, sent_by_server};
 use crate::world::World;
+use client_exchange::{event_of, message_in};
 use const_eval::Ran;
 use hmr_types::ClientId;
 use hot_runtime::{HotRuntime, RuntimeFault};

@@ -6,15 +6,7 @@ ghost use Rattle.hmr_types.specs.declared.limits.TheConstants.{ROOTS};
 ghost use Rattle.server_core.specs.declared.event.NewFault.TheVariants.{DuplicateRoot, NoRoots};
 ghost use Rattle.server_core.specs.declared.event.NewFault.TheVariants.{TooManyRoots};
 ghost use Rattle.world_laws.specs.Runs.{Run};
-ghost use Rattle.hmr_world.specs.Promises.{AssignmentsAreOfHandlers, CaughtUpIsFresh, ClientsCatchUp};
-ghost use Rattle.hmr_world.specs.Promises.{DataGoesToNoOther, DataGoesToSuccessors, DisposersLeftTheData};
-ghost use Rattle.hmr_world.specs.Promises.{DisposersRanFirst, DisposersRanOnce, EvaluatedOnce};
-ghost use Rattle.hmr_world.specs.Promises.{EvaluationsAreOfTexts, HandlersEndedByFate, HandlersEndedOnce};
-ghost use Rattle.hmr_world.specs.Promises.{HandlersWereRegistered, HeldPruneHandlersRan, InstancesEndedOnce};
-ghost use Rattle.hmr_world.specs.Promises.{NothingIsMissing, OthersAreLeftAlone, OthersCanBeLeftOut};
-ghost use Rattle.hmr_world.specs.Promises.{PruneHandlersRanOnce, ReloadsAreExact, RootsAreOwn};
-ghost use Rattle.hmr_world.specs.Promises.{RunsAreOfHandlers, StaleWhereStopped, UnlinkedIsStale};
-ghost use Rattle.hmr_world.specs.Promises.{UnrunIsUnset, ValuesAreFresh, ValuesAreOfEvaluations};
+ghost use Rattle.hmr_world.specs.Promises.{KeepsPromises, OthersAreLeftAlone};
 ghost use Rattle.hmr_world.specs.Shelves.{AreHosts};
 ghost use Rattle.hmr_world.specs.Standing.{IsRunning, IsStepped, KeepsWords, StandsFor, run_on, step_in};
 ghost use Rattle.hmr_world.specs.Steps.{HasFormat, step_of};
@@ -22,17 +14,13 @@ ghost use Rattle.hmr_world.specs.Stops.{AreLines};
 
 use crate::clients::Row;
 use crate::jobs::Jobs;
+use crate::promises::what_is_promised_of_runs;
 use crate::shelves::discard;
 use crate::step::Step;
 use crate::stop::WorldStop;
 use const_eval::Ran;
 use handler_table::Shelf;
 use hmr_types::ModName;
-use journal_laws::headline::headline;
-use journal_laws::lives::{
-    clients_are_isolated, others_can_be_left_out, unlinked_imports_are_at_stale_edges,
-    what_happens_to_instances,
-};
 use output_lines::OutLine;
 use retained_data::Bag;
 use server_core::{Core, NewFault};
@@ -102,66 +90,12 @@ impl<F: FnOnce(Bag) -> Result<Ran, AllocError> + Drop> World<F> {
         ensures running { OnOk result (IsRunning self.new) }
         ensures words { KeepsWords F.post self.new }
         ensures roots { self.new.core.roots ≡ self.old.core.roots }
-        ensures fresh_load { (run : Run) → StandsFor run self.old
-            → OnOk result (CaughtUpIsFresh (run_on run (step_of step))) }
-        ensures nothing_missing { (run : Run) → StandsFor run self.old
-            → OnOk result (NothingIsMissing (run_on run (step_of step))) }
-        ensures unlinked_is_stale { (run : Run) → StandsFor run self.old
-            → OnOk result (UnlinkedIsStale (run_on run (step_of step))) }
-        ensures own_roots { (run : Run) → StandsFor run self.old
-            → OnOk result (RootsAreOwn (run_on run (step_of step))) }
-        ensures stale_edges { (run : Run) → StandsFor run self.old
-            → OnOk result (StaleWhereStopped (run_on run (step_of step))) }
-        ensures disposers { (run : Run) → StandsFor run self.old
-            → OnOk result (DisposersRanOnce (run_on run (step_of step))) }
-        ensures prune_handlers { (run : Run) → StandsFor run self.old
-            → OnOk result (PruneHandlersRanOnce (run_on run (step_of step))) }
-        ensures held_prune_handlers { (run : Run) → StandsFor run self.old
-            → OnOk result (HeldPruneHandlersRan (run_on run (step_of step))) }
-        ensures disposers_first { (run : Run) → StandsFor run self.old
-            → OnOk result (DisposersRanFirst (run_on run (step_of step))) }
-        ensures data_to_successors { (run : Run) → StandsFor run self.old
-            → OnOk result (DataGoesToSuccessors (run_on run (step_of step))) }
-        ensures data_of_disposers { (run : Run) → StandsFor run self.old
-            → OnOk result (DisposersLeftTheData (run_on run (step_of step))) }
-        ensures data_to_no_other { (run : Run) → StandsFor run self.old
-            → OnOk result (DataGoesToNoOther (run_on run (step_of step))) }
-        ensures fates { (run : Run) → StandsFor run self.old
-            → OnOk result (HandlersEndedByFate (run_on run (step_of step))) }
-        ensures fates_once { (run : Run) → StandsFor run self.old
-            → OnOk result (HandlersEndedOnce (run_on run (step_of step))) }
-        ensures registered { (run : Run) → StandsFor run self.old
-            → OnOk result (HandlersWereRegistered (run_on run (step_of step))) }
-        ensures runs { (run : Run) → StandsFor run self.old
-            → OnOk result (RunsAreOfHandlers (run_on run (step_of step))) }
-        ensures ended_once { (run : Run) → StandsFor run self.old
-            → OnOk result (InstancesEndedOnce (run_on run (step_of step))) }
-        ensures values { (run : Run) → StandsFor run self.old
-            → OnOk result (ValuesAreOfEvaluations (run_on run (step_of step))) }
-        ensures evaluations { (run : Run) → StandsFor run self.old
-            → OnOk result (EvaluationsAreOfTexts (run_on run (step_of step))) }
-        ensures unrun { (run : Run) → StandsFor run self.old
-            → OnOk result (UnrunIsUnset (run_on run (step_of step))) }
-        ensures evaluated_once { (run : Run) → StandsFor run self.old
-            → OnOk result (EvaluatedOnce (run_on run (step_of step))) }
-        ensures assignments { (run : Run) → StandsFor run self.old
-            → OnOk result (AssignmentsAreOfHandlers (run_on run (step_of step))) }
-        ensures fresh_values { (run : Run) → StandsFor run self.old
-            → OnOk result (ValuesAreFresh (run_on run (step_of step))) }
-        ensures full_reloads { (run : Run) → StandsFor run self.old
-            → OnOk result (ReloadsAreExact (run_on run (step_of step))) }
-        ensures catching_up { (run : Run) → StandsFor run self.old
-            → OnOk result (ClientsCatchUp (run_on run (step_of step))) }
+        ensures promises { (run : Run) → StandsFor run self.old
+            → OnOk result (KeepsPromises (run_on run (step_of step))) }
         ensures isolation { (run : Run) → StandsFor run self.old
             → OnOk result (OthersAreLeftAlone run (step_of step)) }
-        ensures left_out { (run : Run) → StandsFor run self.old
-            → OnOk result (OthersCanBeLeftOut (run_on run (step_of step))) }
     {
-        headline();
-        unlinked_imports_are_at_stale_edges();
-        what_happens_to_instances();
-        clients_are_isolated();
-        others_can_be_left_out();
+        what_is_promised_of_runs();
         self.made(step)
     }
 

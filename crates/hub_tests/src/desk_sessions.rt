@@ -7,11 +7,11 @@ ghost use Rattle.hmr_hub.specs.Passes.{IsPassOf};
 use hmr_hub::{Hub, Pass};
 use hmr_types::ClientId;
 use session_desks::HubDesk;
-use transport::{MemLink, Net, TellNet};
 use sessions::{Ended, serve_session};
 use std::alloc::{AllocError, Global};
 use std::collections::VecDeque;
 use std::sync::{Arc, Wait};
+use transport::{MemLink, Net, TellNet};
 
 pub(crate) const HELLO: &str = "{\"format\":1,\"type\":\"hello\"}";
 

@@ -13,10 +13,10 @@ use Rattle.core_model.specs.declared.refusal.Refusal.{Refusal}
 use Rattle.core_model.specs.declared.refusal.Refusal.TheVariants.{OutOfTurn, Ignored}
 use Rattle.core_model.specs.Exchange.{event_of, refusal_message}
 use Rattle.core_model.specs.Transcript.{event_bytes}
+use Rattle.client_exchange.specs.Messages.{is_hello}
 use Rattle.hmr_hub.specs.Transcripts.{HasVersion, may_make}
 use Rattle.session_desks.specs.Desks.{Dealt, DealtBy, Heard, hello_refusal, refusal_of, version_refusal}
 use Rattle.session_desks.specs.declared.desk.HubDesk.{HubDesk}
-use Rattle.session_desks.specs.Exchange.{is_hello}
 
 -- an event has no more names than its message
 pub event_short : (i : ℕ) (m : ClientMsg) → event_bytes (event_of i m) ≤ bytes_of m

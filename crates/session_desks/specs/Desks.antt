@@ -11,9 +11,10 @@ use Rattle.core_model.specs.Core.{disconnect}
 use Rattle.core_model.specs.Exchange.{event_of, refusal_message}
 use Rattle.hmr_types.specs.Table.{is_version}
 use Rattle.server_core.specs.declared.event.Reply.{Reply}
+use Rattle.client_exchange.specs.Messages.{is_bye}
+use Rattle.client_exchange.specs.Replies.{client_after, message_in}
 use Rattle.hmr_hub.specs.Passes.{number_of}
 use Rattle.session_desks.specs.declared.desk.HubDesk.{HubDesk}
-use Rattle.session_desks.specs.Exchange.{client_after, is_bye, message_in}
 use Rattle.session_desks.specs.Telling.{Told, lacks_memory}
 
 -- the same hub, and a pass of the same number

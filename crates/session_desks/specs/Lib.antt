@@ -1,5 +1,4 @@
 pub mod Fullness
-pub mod Exchange
 pub mod Telling
 pub mod Desks
 pub mod Boards

@@ -9,8 +9,8 @@ ghost use Rattle.hmr_hub.specs.Passes.{IsPassOf, seen_of};
 ghost use Rattle.hub_moves.specs.Fullness.{IsNearlyFull};
 ghost use Rattle.session_desks.specs.Fullness.{is_nearly_full};
 
-use crate::exchange::{client_after, event_of, is_bye, is_hello, message_in, refusal_message};
 use crate::telling::{lacks_memory, tell};
+use client_exchange::{client_after, event_of, is_bye, is_hello, message_in, refusal_message};
 use core_model::Refusal;
 use hmr_hub::{Hub, Pass, has_version};
 use hmr_types::ClientId;
@@ -116,7 +116,9 @@ impl<R: Wait + Drop> HubDesk<R> {
             return Ok(refusal_message(Refusal::Ignored));
         }
         let reply = tell(&self.rt, &self.hub, &mut self.pass, &mut self.full, event)?;
-        let answer = message_in(reply);
+        let Some(answer) = message_in(reply) else {
+            unreachable!()
+        };
         self.client = client_after(self.client, bye, &answer);
         Ok(answer)
     }

@@ -1,7 +1,7 @@
 use Rattle.std.proofs.Common.{◌≡◌, ◌∙◌, ap, false, refl, subst, sym}
 use Rattle.server_core.specs.Said.{event_of}
 use Rattle.turn_lock.specs.Histories.{grown}
-use Rattle.hmr_hub.specs.declared.answer.Answer.TheVariants as answer
+use Rattle.hmr_hub.specs.declared.hub_reply.HubReply.TheVariants as hub_reply
 use Rattle.hmr_hub.specs.Kinds.{asked_of}
 use Rattle.hmr_hub.specs.Outcomes.{Answers}
 use Rattle.hmr_hub.specs.Questions.{events, history_of, outstanding, report, tell}
@@ -20,23 +20,23 @@ returns-in-Tell-clause-history c =
 pub returns-in-Tell-clause-answer : goal.returns-in-Tell-clause-answer
 returns-in-Tell-clause-answer c = λ opening same.
     let told = c.tell-told.ensures in
-    subst (λ kind. Answers opening (history_of c.args.self.now.entries) c.args.by (asked_of kind) (answer.Told c.tell-told.result) c.is_recorded-recorded.result) (sym c.in-Tell.is)
+    subst (λ kind. Answers opening (history_of c.args.self.now.entries) c.args.by (asked_of kind) (hub_reply.Told c.tell-told.result) c.is_recorded-recorded.result) (sym c.in-Tell.is)
     (told_answer opening c.args.self.now c.args.by same c.tell-told.new.self (event_of c.in-Tell.event) c.tell-told.result c.is_recorded-recorded.result c.is_recorded-recorded.ensures told.roots told.entries told.outcome told.transcript)
 
 pub returns-in-Outstanding-clause-answer : goal.returns-in-Outstanding-clause-answer
 returns-in-Outstanding-clause-answer c = λ opening same.
     let told = c.is_outstanding.ensures in
-    subst (λ kind. Answers opening (history_of c.args.self.now.entries) c.args.by (asked_of kind) (answer.Outstanding c.is_outstanding.result) false) (sym c.in-Outstanding.is)
-    (quiet_answer opening c.args.self.now c.args.by same (outstanding c.in-Outstanding.name) (answer.Outstanding c.is_outstanding.result) (refl, told.told) told.transcript)
+    subst (λ kind. Answers opening (history_of c.args.self.now.entries) c.args.by (asked_of kind) (hub_reply.Outstanding c.is_outstanding.result) false) (sym c.in-Outstanding.is)
+    (quiet_answer opening c.args.self.now c.args.by same (outstanding c.in-Outstanding.name) (hub_reply.Outstanding c.is_outstanding.result) (refl, told.told) told.transcript)
 
 pub returns-in-Report-clause-answer : goal.returns-in-Report-clause-answer
 returns-in-Report-clause-answer c = λ opening same.
     let told = c.report.ensures in
-    subst (λ kind. Answers opening (history_of c.args.self.now.entries) c.args.by (asked_of kind) (answer.Report c.report.result) false) (sym c.in-Report.is)
-    (quiet_answer opening c.args.self.now c.args.by same report (answer.Report c.report.result) (refl, told.told) told.transcript)
+    subst (λ kind. Answers opening (history_of c.args.self.now.entries) c.args.by (asked_of kind) (hub_reply.Report c.report.result) false) (sym c.in-Report.is)
+    (quiet_answer opening c.args.self.now c.args.by same report (hub_reply.Report c.report.result) (refl, told.told) told.transcript)
 
 pub returns-in-Events-clause-answer : goal.returns-in-Events-clause-answer
 returns-in-Events-clause-answer c = λ opening same.
     let told = c.events.ensures in
-    subst (λ kind. Answers opening (history_of c.args.self.now.entries) c.args.by (asked_of kind) (answer.Events c.events.result) false) (sym c.in-Events.is)
-    (quiet_answer opening c.args.self.now c.args.by same events (answer.Events c.events.result) (refl, told.told) told.transcript)
+    subst (λ kind. Answers opening (history_of c.args.self.now.entries) c.args.by (asked_of kind) (hub_reply.Events c.events.result) false) (sym c.in-Events.is)
+    (quiet_answer opening c.args.self.now c.args.by same events (hub_reply.Events c.events.result) (refl, told.told) told.transcript)

@@ -55,7 +55,7 @@ returns-in-Ok-clause-running g c =
       stands = returns-in-Ok-clause-stands g c run c.requires.running.stands;
     }
 
--- no other fault comes than want of memory
+-- no other fault comes than that memory ran out
 pub unreachable-requires : goal.unreachable-requires
 unreachable-requires g c =
     let row = c.index_mut.result.now in
