@@ -12,6 +12,7 @@ pub mod Gathering
 pub mod Orders
 pub mod Making
 pub mod Paging
+pub mod Versions
 pub mod Renewal
 pub mod Reached
 pub mod Alone

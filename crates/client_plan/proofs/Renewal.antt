@@ -1,18 +1,17 @@
 -- Where an update brings no module to the page, its modules stay in their places, and those that get a new
 -- instance have new entries.
-use Rattle.std.proofs.Common.{◌≡◌, ◌⊎◌, inl, inr, ℕ, zero, suc, Bool, true, false, List, [], ◌∷◌, ◌++◌, map, refl, ap, sym, ◌∙◌}
-use Rattle.std.specs.Prelude.{◌||◌, ◌&&◌, not, slice_get, Option, Some, None, is_some, if◌then◌else◌}
+use Rattle.std.proofs.Common.{◌≡◌, ◌⊎◌, inl, inr, ℕ, Bool, true, false, List, [], ◌∷◌, ◌++◌, map, refl, ap, sym, ◌∙◌}
+use Rattle.std.specs.Prelude.{◌||◌, ◌&&◌, not, Option, Some, None, is_some, if◌then◌else◌}
 use Rattle.std.specs.Cmp.Lexicographic.{slice_cmp, nat_list_eq_equiv}
 use Rattle.std.specs.List.{list_all}
 use Rattle.std.specs.Ordering.{nat_cmp, is_lt}
 use Rattle.std.proofs.Math.Path.{subst}
 use Rattle.std.proofs.lemmas.Bool.{false≢true}
-use Rattle.std.proofs.lemmas.Option.{none-some, same_Some}
 use Rattle.hmr_types.specs.declared.words.PlanKind.{PlanKind}
 use Rattle.hmr_types.specs.declared.words.PlanKind.TheVariants.{Load, Reload, Update}
 use Rattle.core_model.specs.Names.{Name, at, collect, has, names_of, put_name, rising, same_name, sorted, with_entry}
 use Rattle.core_model.specs.Page.{Plan, entry_at, kept_or_staged, met_of, new_entry, new_view, unmet_entry}
-use Rattle.core_model.specs.View.{Entry, View}
+use Rattle.core_model.specs.View.{Entry, View, table_of}
 use Rattle.core_model.proofs.Naming.{both_true, false_from, filtered_has, filtered_from, has_append, has_cases, head_has, neither, same_true, tail_has, true_same}
 use Rattle.core_model.proofs.Rising.{tail_rises}
 use Rattle.core_model.proofs.Tables.{named}
@@ -24,7 +23,7 @@ use Rattle.page_plan.specs.Plans.{IsSamePlan}
 use Rattle.page_plan.specs.Views.{put_found}
 use Rattle.page_plan.proofs.Making.{behind, below_apart, same_sorted}
 use Rattle.page_plan.proofs.Same.{entry_same}
-use Rattle.client_plan.specs.Renewing.{IsRenewing, entry_or, is_renewing, put_each, renewed, renewed_view}
+use Rattle.client_plan.specs.Renewing.{IsRenewing, entry_or, is_renewing, put_each, put_version, put_versions, renewed, renewed_view}
 use Rattle.client_plan.proofs.Paging.{left_there, met_left}
 
 -- Names that rise are in order.
@@ -163,23 +162,23 @@ module _ (get : Name → Option Entry) where
       (λ s. subst (λ m. has (names_of rows) m ≡ false) (same_true row.0 n s) (not_behind row.0 (names_of rows) r))
       (λ s. put_turned n e rows g (tail_rises row.0 (names_of rows) r) (later_has (same_name row.0 n) (has (names_of rows) n) h s))
 
-  found_turned : (n : Name) (o : Option Entry) (rows : View) → get n ≡ o → rising (names_of rows) ≡ true → has (names_of rows) n ≡ true → put_found n o rows ≡ map (turned (n ∷ [])) rows
-  found_turned n None rows g r h = sym (none_put rows)
-    where
-      same_as : (b : Bool) (k : Name) (x : Entry) → (b ≡ true → get k ≡ None) → entry_or (if b then get k else None) x ≡ x
-      same_as true k x f = ap (λ o. entry_or o x) (f refl)
-      same_as false k x f = refl
+  without_one : (b : Bool) (k : Name) (x : Entry) → (b ≡ true → get k ≡ None) → entry_or (if b then get k else None) x ≡ x
+  without_one true k x f = ap (λ o. entry_or o x) (f refl)
+  without_one false k x f = refl
 
-      none_put : (rows : View) → map (turned (n ∷ [])) rows ≡ rows
-      none_put [] = refl
-      none_put (row ∷ rows) = ap (λ e. (row.0, e) ∷ map (turned (n ∷ [])) rows) (same_as (has (n ∷ []) row.0) row.0 row.1 (λ s. ap get (sym (one_name row.0 s)) ∙ g)) ∙ ap (λ l. row ∷ l) (none_put rows)
+  none_put : (n : Name) (rows : View) → get n ≡ None → map (turned (n ∷ [])) rows ≡ rows
+  none_put n [] g = refl
+  none_put n (row ∷ rows) g = ap (λ e. (row.0, e) ∷ map (turned (n ∷ [])) rows) (without_one (has (n ∷ []) row.0) row.0 row.1 (λ s. ap get (sym (one_name row.0 s)) ∙ g)) ∙ ap (λ l. row ∷ l) (none_put n rows g)
+    where
+      one_name : (m : Name) → has (n ∷ []) m ≡ true → n ≡ m
+      one_name m s = by (has_cases n [] m s)
         where
-          one_name : (m : Name) → has (n ∷ []) m ≡ true → n ≡ m
-          one_name m s = by (has_cases n [] m s)
-            where
-              by : (n ≡ m) ⊎ (has [] m ≡ true) → n ≡ m
-              by (inl e) = e
-              by (inr t) = absurd (false≢true t)
+          by : (n ≡ m) ⊎ (has [] m ≡ true) → n ≡ m
+          by (inl e) = e
+          by (inr t) = absurd (false≢true t)
+
+  found_turned : (n : Name) (o : Option Entry) (rows : View) → get n ≡ o → rising (names_of rows) ≡ true → has (names_of rows) n ≡ true → put_found n o rows ≡ map (turned (n ∷ [])) rows
+  found_turned n None rows g r h = sym (none_put n rows g)
   found_turned n (Some e) rows g r h = put_turned n e rows g r h
 
   both_step : (a b : Bool) (o : Option Entry) (e : Entry) → entry_or (if b then o else None) (entry_or (if a || false then o else None) e) ≡ entry_or (if a || b then o else None) e
@@ -197,6 +196,33 @@ module _ (get : Name → Option Entry) where
   turned_named : (names : List Name) (rows : View) → names_of (map (turned names) rows) ≡ names_of rows
   turned_named names [] = refl
   turned_named names (row ∷ rows) = ap (λ l. row.0 ∷ l) (turned_named names rows)
+
+  -- the version of an entry in the row of its name
+  version_step : (n : Name) (e : Entry) (row : Name × Entry) (rows : View) (b : Bool) → same_name row.0 n ≡ b → get n ≡ Some e → (b ≡ true → has (names_of rows) n ≡ false)
+      → (b ≡ false → put_version n (Some e) (table_of rows) ≡ table_of (map (turned (n ∷ [])) rows))
+      → (if b then (row.0, e.version) ∷ table_of rows else (row.0, row.1.version) ∷ put_version n (Some e) (table_of rows)) ≡ table_of (map (turned (n ∷ [])) (row ∷ rows))
+  version_step n e row rows true s g last more =
+      let is : row.0 ≡ n = same_true row.0 n s in
+      sym (ap (λ c. (row.0, (entry_or (if c || false then get row.0 else None) row.1).version) ∷ table_of (map (turned (n ∷ [])) rows)) (true_same n row.0 (sym is))
+      ∙ ap (λ o. (row.0, (entry_or o row.1).version) ∷ table_of (map (turned (n ∷ [])) rows)) (ap get is ∙ g)
+      ∙ ap (λ (w : View). (row.0, e.version) ∷ table_of w) (others_stay n rows (last refl)))
+  version_step n e row rows false s g last more =
+      sym (ap (λ c. (row.0, (entry_or (if c || false then get row.0 else None) row.1).version) ∷ table_of (map (turned (n ∷ [])) rows)) (nat_list_eq_equiv.symm n row.0 ∙ s)
+      ∙ ap (λ l. (row.0, row.1.version) ∷ l) (sym (more refl)))
+
+  version_turned : (n : Name) (o : Option Entry) (rows : View) → get n ≡ o → rising (names_of rows) ≡ true → put_version n o (table_of rows) ≡ table_of (map (turned (n ∷ [])) rows)
+  version_turned n None rows g r = ap (λ (w : View). table_of w) (sym (none_put n rows g))
+  version_turned n (Some e) [] g r = refl
+  version_turned n (Some e) (row ∷ rows) g r = version_step n e row rows (same_name row.0 n) refl g
+      (λ s. subst (λ m. has (names_of rows) m ≡ false) (same_true row.0 n s) (not_behind row.0 (names_of rows) r))
+      (λ s. version_turned n (Some e) rows g (tail_rises row.0 (names_of rows) r))
+
+  versions_turned : (names : List Name) (rows : View) → rising (names_of rows) ≡ true → put_versions get names (table_of rows) ≡ table_of (map (turned names) rows)
+  versions_turned [] rows r = ap (λ (w : View). table_of w) (sym (none_turned rows))
+  versions_turned (n ∷ names) rows r =
+      ap (put_versions get names) (version_turned n (get n) rows refl r)
+      ∙ versions_turned names (map (turned (n ∷ [])) rows) (ap rising (turned_named (n ∷ []) rows) ∙ r)
+      ∙ ap (λ (w : View). table_of w) (turned_both n names rows)
 
 -- a plan's entry of what it replaces is what was fetched
 replaced_entry : (k : PlanKind) (b : Bool) (old staged : Option Entry) → k ≡ Update → b ≡ true → kept_or_staged k b old staged ≡ staged
@@ -266,34 +292,16 @@ is_renewal r p q view names v same is h = by p.kind refl (ap (λ k. is_renewing 
     by Reload e t = absurd (false≢true t)
     by Update e t = record { kind = e; there = λ n k. ap (λ (w : View). is_some (at w n)) v ∙ all_there view names t n (ap (λ ns. has ns n) is ∙ k) }
 
--- The code's table.
-
-slice_mapped : (f : Name × Entry → Name × Entry) (rows : View) (k : ℕ) (row : Name × Entry) → Some row ≡ slice_get rows k → Some (f row) ≡ slice_get (map f rows) k
-slice_mapped f [] zero row e = absurd (none-some row (sym e))
-slice_mapped f [] (suc k) row e = absurd (none-some row (sym e))
-slice_mapped f (x ∷ rows) zero row e = ap (λ y. Some (f y)) (same_Some row x e)
-slice_mapped f (x ∷ rows) (suc k) row e = slice_mapped f rows k row e
-
-slice_unmapped : (f : Name × Entry → Name × Entry) (rows : View) (k : ℕ) → None ≡ slice_get rows k → None ≡ slice_get (map f rows) k
-slice_unmapped f [] zero e = refl
-slice_unmapped f [] (suc k) e = refl
-slice_unmapped f (x ∷ rows) zero e = absurd (none-some x e)
-slice_unmapped f (x ∷ rows) (suc k) e = slice_unmapped f rows k e
-
-module _ (q : Plan) (view : View) (fresh : List Name) where
-  abbrev row_of : Name × Entry → Name × Entry
-  row_of row = (row.0, renewed q view fresh row.0 row.1)
-
-  pub renewed_row : (k : ℕ) (n : Name) (e : Entry) → Some (n, e) ≡ slice_get view k → Some (n, renewed q view fresh n e) ≡ slice_get (renewed_view q view fresh) k
-  renewed_row k n e h = slice_mapped row_of view k (n, e) h
-
-  pub renewed_end : (k : ℕ) → None ≡ slice_get view k → None ≡ slice_get (renewed_view q view fresh) k
-  renewed_end k h = slice_unmapped row_of view k h
+-- The code's table, and the code's modules.
 
 pub table_renewed : (r : Runtime) (p q : Plan) (view : View) (names : List Name) → IsRenewing r p → IsSamePlan p q → r.page.view ≡ view → rising (names_of view) ≡ true → next_needed p r ≡ None → names ≡ new_names p r
     → renewed_view q view names ≡ new_view r.roots p r.page.view
 table_renewed r p q view names renewing same v rises none is =
     ap (λ w. renewed_view q w names) (sym v) ∙ renewed_is r p renewing q names same (ap (λ (w : View). rising (names_of w)) v ∙ rises) none (λ n. ap (λ ns. has ns n) is)
+
+-- the rows of the page's modules, with the versions of these names in the plan
+pub versions_renewed : (q : Plan) (view : View) (names : List Name) (rows : List (Name × ℕ)) → rising (names_of view) ≡ true → rows ≡ table_of view → put_versions (entry_at q view) names rows ≡ table_of (renewed_view q view names)
+versions_renewed q view names rows rises is = ap (put_versions (entry_at q view) names) is ∙ versions_turned (entry_at q view) names view rises
 
 pub put_renewed : (r : Runtime) (p q : Plan) (view : View) (names : List Name) → IsRenewing r p → IsSamePlan p q → r.page.view ≡ view → rising (names_of view) ≡ true → next_needed p r ≡ None → names ≡ new_names p r
     → put_each q names view ≡ new_view r.roots p r.page.view

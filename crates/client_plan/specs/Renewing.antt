@@ -4,7 +4,7 @@ use Rattle.std.specs.List.{list_all}
 use Rattle.std.specs.Prelude.{◌≡◌, ◌≤◌, ℕ, length, Bool, true, false, List, [], ◌∷◌, map, Option, Some, None, is_some, if◌then◌else◌}
 use Rattle.hmr_types.specs.declared.words.PlanKind.{PlanKind}
 use Rattle.hmr_types.specs.declared.words.PlanKind.TheVariants.{Load, Reload, Update}
-use Rattle.core_model.specs.Names.{Name, at, has}
+use Rattle.core_model.specs.Names.{Name, at, has, same_name}
 use Rattle.core_model.specs.Page.{Plan, entry_at, new_view}
 use Rattle.core_model.specs.View.{Entry, View}
 use Rattle.client_model.specs.Linking.{new_names}
@@ -36,6 +36,18 @@ renewed_view p view names = map (λ row. (row.0, renewed p view names row.0 row.
 abbrev pub put_each : Plan → List Name → View → View
 put_each p [] view = view
 put_each p (n ∷ names) view = put_each p names (put_found n (entry_at p view n) view)
+
+-- the rows with the version of this entry in the first row of the name, where there are both
+abbrev pub put_version : Name → Option Entry → List (Name × ℕ) → List (Name × ℕ)
+put_version n None rows = rows
+put_version n (Some e) [] = []
+put_version n (Some e) (row ∷ rows) = if same_name row.0 n then (row.0, e.version) ∷ rows
+    else row ∷ put_version n (Some e) rows
+
+-- the rows with the versions of what get has for these names, one after another
+abbrev pub put_versions : (Name → Option Entry) → List Name → List (Name × ℕ) → List (Name × ℕ)
+put_versions get [] rows = rows
+put_versions get (n ∷ names) rows = put_versions get names (put_version n (get n) rows)
 
 -- the plan is an update, and each of these names is that of a module of the view
 abbrev pub is_renewing : PlanKind → View → List Name → Bool

@@ -57,7 +57,7 @@ impl UnderWay {
             Some(found) => self.add_text(alloc, roots, view, name, version, found),
             None => {
                 let cause = Cause::Broken(copy_name(name)?);
-                self.give_cause(cause);
+                put(&mut self.cause, Some(cause));
                 Ok(())
             }
         }
@@ -114,13 +114,6 @@ impl UnderWay {
         )?;
         put(&mut self.next, next);
         Ok(())
-    }
-
-    /// A fetch found that the plan can't be carried out.
-    pub fn give_cause(&mut self, cause: Cause)
-        ensures { self.new ≡ record self.old { cause = Some cause } }
-    {
-        put(&mut self.cause, Some(cause));
     }
 }
 

@@ -1,15 +1,16 @@
 // An update by which no module comes to the page: its modules stay where they are, and those that get a new
 // instance get their new entries.
 ghost use Rattle.std.specs.List.{list_all};
-ghost use Rattle.std.specs.Prelude.{◌≡◌, is_some, IfOk, OnOk};
-ghost use Rattle.core_model.specs.Names.{at};
+ghost use Rattle.std.specs.Prelude.{◌≡◌, true, is_some, IfOk, OnOk};
+ghost use Rattle.core_model.specs.Names.{at, names_of, rising};
 ghost use Rattle.core_model.specs.Page.{entry_at};
-ghost use Rattle.core_model.specs.View.{Entry, table_of};
+ghost use Rattle.core_model.specs.View.{table_of};
 ghost use Rattle.page_plan.specs.Views.{put_found};
-ghost use Rattle.client_plan.specs.Renewing.{is_renewing, put_each, renewed, renewed_view};
+ghost use Rattle.client_plan.specs.Renewing.{is_renewing, put_each, put_version, put_versions, renewed_view};
 
+use crate::table::rows_of;
 use hmr_types::{ModName, PlanKind, Table, Ver};
-use module_graph::{NameSet, View, copy_name};
+use module_graph::{View, copy_name};
 use page_plan::Plan;
 use std::alloc::{AllocError, Global};
 
@@ -61,57 +62,45 @@ fn renew_one(view: &mut View, plan: &Plan, name: &ModName) -> Result<(), AllocEr
 }
 
 /// The table of the page's modules, where the modules of these names have their entries of the plan. It takes
-/// time in proportion to the modules. It fails where memory runs out; a view that is no table, which no
-/// message that can be written brings about, is answered as out of memory is.
+/// time in proportion to the modules, and look-ups of the names. It fails where memory runs out; a view that
+/// is no table, which no message that can be written brings about, is answered as out of memory is.
 pub(crate) fn renewed_table(
     alloc: Global,
     plan: &Plan,
     view: &View,
     names: &[ModName],
 ) -> Result<Table, AllocError>
-    ensures { IfOk result (λ table. table ≡ table_of (renewed_view plan.now view.now names.now)) }
+    ensures { rising (names_of view.now) ≡ true
+        → IfOk result (λ table. table ≡ table_of (renewed_view plan.now view.now names.now)) }
 {
-    let fresh = NameSet::of(alloc, names)?;
-    let rows = rows_of(alloc, plan, view, &fresh)?;
+    let mut rows = rows_of(alloc, view)?;
+    renew_rows(&mut rows, plan, view, names);
     match Table::of(rows) {
         Some(table) => Ok(table),
         None => Err(AllocError),
     }
 }
 
-// The modules with their versions.
-fn rows_of(
-    alloc: Global,
-    plan: &Plan,
-    view: &View,
-    fresh: &NameSet,
-) -> Result<Vec<(ModName, Ver)>, AllocError>
-    ensures { IfOk result (λ rows. rows.items ≡ table_of (renewed_view plan.now view.now fresh.now)) }
+// In the rows of the view's modules, those of these names get their versions in the plan.
+fn renew_rows(rows: &mut Vec<(ModName, Ver)>, plan: &Plan, view: &View, names: &[ModName])
+    requires { names_of rows.old.items ≡ names_of view.now }
+    ensures { rows.new.items ≡ put_versions (entry_at plan.now view.now) names.now rows.old.items }
 {
-    let mut rows = Vec::new(alloc);
-    loop {
-        match view.at(rows.len()) {
-            Some((name, version, _)) => {
-                rows.push((
-                    copy_name(name)?,
-                    version_of(plan, view, fresh, name, version),
-                ))?
-            }
-            None => return Ok(rows),
-        }
+    for name in names {
+        renew_row(rows, plan, view, name);
     }
 }
 
-// The version that the module of a name then has, where the page has this one.
-fn version_of(plan: &Plan, view: &View, fresh: &NameSet, name: &ModName, version: Ver) -> Ver
-    ensures { (e : Entry) → e.version ≡ version
-        → result ≡ (renewed plan.now view.now fresh.now name.now e).version }
+// The row of one name, where there is one.
+fn renew_row(rows: &mut Vec<(ModName, Ver)>, plan: &Plan, view: &View, name: &ModName)
+    requires { names_of rows.old.items ≡ names_of view.now }
+    ensures { rows.new.items ≡ put_version name.now (entry_at plan.now view.now name.now) rows.old.items }
 {
-    if !fresh.has(name) {
-        return version;
-    }
-    match plan.entry(view, name) {
-        Some((new, _)) => new,
-        None => version,
+    let version = match plan.entry(view, name) {
+        Some((version, _)) => version,
+        None => return,
+    };
+    if let Some(place) = view.place(name) {
+        rows[place].1 = version;
     }
 }

@@ -19,8 +19,9 @@ pub fn table_of(alloc: Global, view: &View) -> Result<Table, AllocError>
     }
 }
 
-// The modules with their versions.
-fn rows_of(alloc: Global, view: &View) -> Result<Vec<(ModName, Ver)>, AllocError>
+/// The modules of a view with their versions. It takes time in proportion to them. It fails only where memory
+/// runs out.
+pub(crate) fn rows_of(alloc: Global, view: &View) -> Result<Vec<(ModName, Ver)>, AllocError>
     ensures { IfOk result (λ rows. rows.items ≡ table_of view.now) }
 {
     let mut rows = Vec::new(alloc);

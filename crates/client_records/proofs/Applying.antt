@@ -1,10 +1,9 @@
 -- What an Applied makes of what is kept.
 use Rattle.std.proofs.Common.{◌≡◌, ℕ, Bool, true, false, List, [], ◌∷◌, ◌++◌, refl, ap, sym, ◌∙◌}
-use Rattle.std.specs.Prelude.{cond, filter, Option, Some, None, IfSome, is_some, if◌then◌else◌}
+use Rattle.std.specs.Prelude.{filter, Option, Some, None, IfSome, not, if◌then◌else◌}
 use Rattle.std.specs.Cmp.Lexicographic.{slice_cmp}
 use Rattle.std.specs.List.Sorted.{IsStrictlySortedBy}
 use Rattle.std.specs.Ordering.{nat_cmp}
-use Rattle.std.proofs.lemmas.List.Kept.{IsStrictlySortedBy-filter}
 use Rattle.std.proofs.lemmas.Bool.{false≢true}
 use Rattle.std.proofs.Math.Path.{subst}
 use Rattle.hmr_types.specs.declared.words.PlanKind.{PlanKind}
@@ -17,13 +16,12 @@ use Rattle.core_model.specs.View.{View, Entry, differs, dropped_of, is_in, table
 use Rattle.core_model.specs.Client.{Client}
 use Rattle.core_model.specs.Requests.{AppliedRow, after_applied, applied_as, applied_in, applied_reply, applied_row, differing, done, heard, mismatch, row_differing, row_unfetched, unfetched}
 use Rattle.core_model.proofs.Listing.{none_in}
-use Rattle.module_graph.proofs.Sorting.{sorted_rising}
 use Rattle.page_plan.specs.Applied.{IsApplied, IsDone}
 use Rattle.page_plan.specs.declared.apply.Applied.{Applied}
 use Rattle.page_plan.specs.declared.apply.Applied.TheVariants as answer
 use Rattle.page_plan.specs.Plans.{IsSamePlan}
 use Rattle.page_plan.specs.Renewals.{IsClosed}
-use Rattle.page_plan.proofs.Renewals.{made_closed}
+use Rattle.page_plan.proofs.Renewals.{made_closed, made_rises as new_rises}
 use Rattle.page_plan.proofs.Same.{row_same, view_same}
 use Rattle.client_queue.specs.Queue.{Queue, is_marked, knows}
 use Rattle.client_records.specs.Inside.{AreCounted, AreFetched, IsCounted}
@@ -34,19 +32,9 @@ use Rattle.client_records.proofs.Renewing.{known_made, marks_made}
 
 -- The view that a plan makes.
 
-named_step : (n : Name) (o : Option Entry) (rows : View) (names : List Name) → names_of rows ≡ names → names_of (with_entry n o rows) ≡ cond (is_some o) (n ∷ names) names
-named_step n None rows names e = e
-named_step n (Some x) rows names e = ap (λ l. n ∷ l) e
-
-collected_names : (get : Name → Option Entry) (names : List Name) → names_of (collect get names) ≡ filter (λ n. is_some (get n)) names
-collected_names get [] = refl
-collected_names get (n ∷ names) = named_step n (get n) (collect get names) (filter (λ m. is_some (get m)) names) (collected_names get names)
-
 -- its modules rise
 pub made_rises : (roots : List Name) (p : Plan) (view made : View) → made ≡ new_view roots p view → IsStrictlySortedBy (slice_cmp nat_cmp) (names_of made)
-made_rises roots p view made e = subst (IsStrictlySortedBy (slice_cmp nat_cmp))
-    (sym (ap (λ (v : View). names_of v) e ∙ collected_names (λ n. new_entry (has (met_of roots p view) n) p view n) (sorted (met_of roots p view ++ names_of view))))
-    (IsStrictlySortedBy-filter (slice_cmp nat_cmp) (λ n. is_some (new_entry (has (met_of roots p view) n) p view n)) (sorted (met_of roots p view ++ names_of view)) (sorted_rising (met_of roots p view ++ names_of view)))
+made_rises roots p view made e = subst (λ (v : View). IsStrictlySortedBy (slice_cmp nat_cmp) (names_of v)) (sym e) (new_rises roots p view)
 
 counted_at : (view : View) → AreCounted view → AreFetched view
 counted_at [] h n = tt
@@ -118,7 +106,7 @@ pub record IsTaken (s : Sources) (k : Kept) (made : View) (dropped : List Name) 
   pub known : (n : Name) → is_in made n ≡ true → knows queue n ≡ true
 
 -- once the names of both pages are entered and marked, no name is forced and the hold is released, it has
-pub taken : (s : Sources) (k : Kept) (made : View) (names dropped : List Name) (mid new unforced released : Queue) → names ≡ names_of k.view ++ names_of made → dropped ≡ dropped_of made k.roots
+pub taken : (s : Sources) (k : Kept) (made : View) (names dropped : List Name) (mid new unforced released : Queue) → names ≡ names_of made ++ filter (λ n. not (is_in made n)) (names_of k.view) → dropped ≡ dropped_of made k.roots
     → ((n : Name) → is_marked k.queue n ≡ true → is_in k.view n ≡ true) → IsGrown k.queue mid → ((n : Name) → has names n ≡ true → knows mid n ≡ true) → AreRenewed names made s mid new
     → unforced ≡ record new { forced = [] } → released ≡ record unforced { held = None } → IsTaken s k made dropped released
 taken s k made names dropped mid new unforced released both d within grown there renewed u r = record {

@@ -14,8 +14,10 @@ use Rattle.core_model.specs.Spread.{AreIn}
 use Rattle.core_model.specs.View.{View, Entry, differs, dropped_of, is_in, table_of}
 use Rattle.core_model.proofs.Listing.{none_in}
 use Rattle.core_model.proofs.Naming.{both_true}
-use Rattle.page_plan.specs.Renewals.{AreAlike, IsClosed, fetched_of, is_renewal, put_all, renewed_view}
-use Rattle.page_plan.proofs.Renewals.{dropped_renewed, kept_at, renewal_fits, renewed_closed, renewed_is_in, renewed_names, replaced_there, rows_alike, view_is}
+use Rattle.page_plan.specs.Renewals.{AreAlike, AreThere, IsClosed, fetched_of, is_growing, put_all, renewed_view, with_first}
+use Rattle.page_plan.proofs.Growing.{IsFound, growing_is, growth_found, rows_alike, rows_there}
+use Rattle.page_plan.proofs.Placing.{first_put}
+use Rattle.page_plan.proofs.Renewals.{dropped_renewed, growth_fits, kept_at, renewed_closed, renewed_is_in, renewed_names, view_is}
 use Rattle.client_queue.specs.Queue.{Queue, is_marked, is_none_left, knows, mark_in, mark_where_known}
 use Rattle.client_records.specs.InPlace.{IsFitting, IsInPlace}
 use Rattle.client_records.specs.Inside.{AreCounted, IsStaged}
@@ -33,41 +35,52 @@ no_names [] h = refl
 no_names (n ∷ names) h = absurd (false≢true h)
 
 -- an update whose page gets its entries in place, by what the code has tested
-abbrev pub in_place : (k : Kept) (names : List Name) (rows : List (Name × Entry)) (p : Plan) → (k.loaded && is_none_left k.dropped) ≡ true → k.plan ≡ Some p → is_renewal p k.view ≡ true → names ≡ p.replaced → rows ≡ fetched_of p names → IsInPlace k names rows
-in_place k names rows p whole under_way renewal replaced fetched =
+abbrev pub in_place : (k : Kept) (names : List Name) (rows : List (Name × Entry)) (p : Plan) → (k.loaded && is_none_left k.dropped) ≡ true → k.dropped ≡ dropped_of k.view k.roots → k.plan ≡ Some p → is_growing p k.view ≡ true → names ≡ p.replaced → rows ≡ fetched_of p names → IsInPlace k names rows
+in_place k names rows p whole dropped under_way growing replaced fetched =
     let both = both_true k.loaded (is_none_left k.dropped) whole in
+    let none : k.dropped ≡ [] = no_names k.dropped both.1 in
+    let is : rows ≡ fetched_of p p.replaced = fetched ∙ ap (fetched_of p) replaced in
     record {
       loaded = both.0;
-      whole = no_names k.dropped both.1;
+      whole = none;
       plan = p;
       under_way = under_way;
-      renewal = renewal;
+      growth = growing_is p k.view growing k.roots (sym dropped ∙ none);
+      there = subst (AreThere k.view) (sym is) (rows_there p k.view growing);
+      alike = subst (λ l. AreAlike (with_first l k.view) l) (sym is) (rows_alike p k.view growing);
       replaced = replaced;
-      fetched = fetched ∙ ap (fetched_of p) replaced;
+      fetched = is;
     }
 
 module _ (k : Kept) (names : List Name) (rows : List (Name × Entry)) (w : IsInPlace k names rows) where
+  found : IsFound w.plan k.view
+  found = growth_found k.roots w.plan k.view w.growth
+
   -- the page is that of the plan
   pub put_is : put_all rows k.view ≡ renewed_view w.plan k.view
   put_is = ap (λ l. put_all l k.view) w.fetched
 
-  pub alike_rows : AreAlike k.view rows
-  alike_rows = subst (AreAlike k.view) (sym w.fetched) (rows_alike w.plan k.view w.renewal)
+  -- once the first that lists others is put, each lists what its module does, and the view is the same
+  pub first_alike : (l : List (Name × Entry)) (first : View) → l ≡ rows → first ≡ with_first l k.view → AreAlike first rows
+  first_alike l first e f = subst (λ (v : View). AreAlike v rows) (sym (f ∙ ap (λ x. with_first x k.view) e)) w.alike
+
+  pub first_same : (l : List (Name × Entry)) (first placed : View) → l ≡ rows → first ≡ with_first l k.view → placed ≡ put_all rows first → placed ≡ put_all rows k.view
+  first_same l first placed e f is = is ∙ ap (put_all rows) (f ∙ ap (λ x. with_first x k.view) e) ∙ first_put rows k.view w.there
 
   pub same_names : names_of (put_all rows k.view) ≡ names_of k.view
-  same_names = ap (λ (v : View). names_of v) put_is ∙ renewed_names w.plan k.view w.renewal
+  same_names = ap (λ (v : View). names_of v) put_is ∙ renewed_names w.plan k.view found
 
   there_is : (n : Name) → is_in (put_all rows k.view) n ≡ is_in k.view n
-  there_is n = ap (λ (v : View). is_in v n) put_is ∙ renewed_is_in w.plan k.view w.renewal n
+  there_is n = ap (λ (v : View). is_in v n) put_is ∙ renewed_is_in w.plan k.view found n
 
   named_there : (n : Name) → has names n ≡ true → is_in k.view n ≡ true
-  named_there n h = replaced_there w.plan k.view w.renewal n (ap (λ l. has l n) (sym w.replaced) ∙ h)
+  named_there n h = found.there n (ap (λ l. has l n) (sym w.replaced) ∙ h)
 
   other_at : (n : Name) → has names n ≡ false → at (put_all rows k.view) n ≡ at k.view n
-  other_at n h = ap (λ (v : View). at v n) put_is ∙ kept_at w.plan k.view w.renewal n (ap (λ l. has l n) (sym w.replaced) ∙ h)
+  other_at n h = ap (λ (v : View). at v n) put_is ∙ kept_at w.plan k.view found n (ap (λ l. has l n) (sym w.replaced) ∙ h)
 
   pub same_dropped : dropped_of (put_all rows k.view) k.roots ≡ dropped_of k.view k.roots
-  same_dropped = ap (λ (v : View). dropped_of v k.roots) put_is ∙ dropped_renewed w.plan k.view w.renewal k.roots
+  same_dropped = ap (λ (v : View). dropped_of v k.roots) put_is ∙ dropped_renewed k.roots w.plan k.view w.growth
 
   -- what holds of the page as it was
   module _ (rising : IsStrictlySortedBy (slice_cmp nat_cmp) (names_of k.view)) (closed : k.loaded ≡ true → IsClosed k.roots k.view) (dropped : k.dropped ≡ dropped_of k.view k.roots) where
@@ -75,14 +88,14 @@ module _ (k : Kept) (names : List Name) (rows : List (Name × Entry)) (w : IsInP
     none_dropped = sym dropped ∙ w.whole
 
     pub made_is : put_all rows k.view ≡ new_view k.roots w.plan k.view
-    made_is = put_is ∙ sym (view_is w.plan k.view w.renewal k.roots (closed w.loaded) rising none_dropped)
+    made_is = put_is ∙ sym (view_is k.roots w.plan k.view w.growth (closed w.loaded) rising none_dropped)
 
     -- all fits where the table told is its
     pub fits_in_place : (told : List (Name × ℕ)) → told ≡ table_of (renewed_view w.plan k.view) → IsFitting k told (put_all rows k.view)
     fits_in_place told e = record {
       plan = w.plan;
       under_way = w.under_way;
-      done = record { row = renewal_fits k.roots w.plan k.view told w.renewal (closed w.loaded) rising none_dropped e; whole = made_is };
+      done = record { row = growth_fits k.roots w.plan k.view told w.growth (closed w.loaded) rising none_dropped e; whole = made_is };
     }
 
     pub rising_in_place : IsStrictlySortedBy (slice_cmp nat_cmp) (names_of (put_all rows k.view))
@@ -92,7 +105,7 @@ module _ (k : Kept) (names : List Name) (rows : List (Name × Entry)) (w : IsInP
     counted_in_place counted staged = made_counted k.roots w.plan k.view (put_all rows k.view) made_is counted (subst IsStaged w.under_way staged)
 
     pub closed_in_place : IsClosed k.roots (put_all rows k.view)
-    closed_in_place = subst (IsClosed k.roots) (sym put_is) (renewed_closed w.plan k.view w.renewal k.roots (closed w.loaded))
+    closed_in_place = subst (IsClosed k.roots) (sym put_is) (renewed_closed k.roots w.plan k.view w.growth (closed w.loaded))
 
     pub dropped_in_place : k.dropped ≡ dropped_of (put_all rows k.view) k.roots
     dropped_in_place = dropped ∙ sym same_dropped

@@ -1,13 +1,13 @@
 -- The marks of a page whose modules become others.
 use Rattle.std.proofs.Common.{◌≡◌, ℕ, ◌<◌, ◌+◌, Bool, true, false, List, [], ◌∷◌, ◌++◌, length, take, get_or, refl, ap, sym, ◌∙◌, ◌⊎◌, inl, inr}
-use Rattle.std.specs.Prelude.{◌||◌, Option, Some, None, is_some, if◌then◌else◌}
+use Rattle.std.specs.Prelude.{◌||◌, filter, not, Option, Some, None, is_some, if◌then◌else◌}
 use Rattle.std.proofs.lemmas.Bool.{false≢true}
 use Rattle.std.proofs.lemmas.List.{take_more}
 use Rattle.std.proofs.Math.Path.{subst}
 use Rattle.core_model.specs.Names.{Name, same_name, has, at, names_of}
 use Rattle.core_model.specs.Sources.{Serving, Sources}
 use Rattle.core_model.specs.View.{View, Entry, differs, is_in}
-use Rattle.core_model.proofs.Naming.{has_append, has_more, more_cases, false_from, or_left, or_right, same_true, true_same}
+use Rattle.core_model.proofs.Naming.{filtered_in, has_append, has_more, more_cases, false_from, or_left, or_right, same_true, true_same}
 use Rattle.core_model.proofs.Tables.{named}
 use Rattle.client_queue.specs.Queue.{MarkIs, Queue, is_marked, knows, mark_in, mark_where_known}
 use Rattle.client_records.specs.Made.{AreRenewed, IsGrown, mark_on}
@@ -106,12 +106,19 @@ known_step (Some b) false mark h i = i
 known_step None on mark h i = absurd (false≢true h)
 
 -- the names of both pages
-module _ (view made : View) (s : Sources) (names : List Name) (old mid new : Queue) (both : names ≡ names_of view ++ names_of made) where
-  old_named : (n : Name) → is_in view n ≡ true → has names n ≡ true
-  old_named n h = ap (λ l. has l n) both ∙ has_append (names_of view) (names_of made) n ∙ or_left (has (names_of view) n) _ (sym (named view n) ∙ h)
+module _ (view made : View) (s : Sources) (names : List Name) (old mid new : Queue) (both : names ≡ names_of made ++ filter (λ n. not (is_in made n)) (names_of view)) where
+  has_both : (n : Name) → has names n ≡ (has (names_of made) n || has (filter (λ m. not (is_in made m)) (names_of view)) n)
+  has_both n = ap (λ l. has l n) both ∙ has_append (names_of made) (filter (λ m. not (is_in made m)) (names_of view)) n
 
   made_named : (n : Name) → is_in made n ≡ true → has names n ≡ true
-  made_named n h = ap (λ l. has l n) both ∙ has_append (names_of view) (names_of made) n ∙ or_right (has (names_of view) n) _ (sym (named made n) ∙ h)
+  made_named n h = has_both n ∙ or_left (has (names_of made) n) _ (sym (named made n) ∙ h)
+
+  old_named : (n : Name) → is_in view n ≡ true → has names n ≡ true
+  old_named n h = by (is_in made n) refl
+    where
+      by : (b : Bool) → is_in made n ≡ b → has names n ≡ true
+      by true e = made_named n e
+      by false e = has_both n ∙ or_right (has (names_of made) n) _ (filtered_in (λ m. not (is_in made m)) (names_of view) n (ap not e) (sym (named view n) ∙ h))
 
   -- once they are entered and then marked, the marks fit what is served
   pub marks_made : ((n : Name) → is_marked old n ≡ true → is_in view n ≡ true) → IsGrown old mid → ((n : Name) → has names n ≡ true → knows mid n ≡ true) → AreRenewed names made s mid new

@@ -4,16 +4,18 @@ use Rattle.core_model.specs.Names.{Name}
 use Rattle.core_model.specs.Page.{Plan}
 use Rattle.core_model.specs.View.{Entry, View}
 use Rattle.page_plan.specs.Applied.{IsDone}
-use Rattle.page_plan.specs.Renewals.{fetched_of, is_renewal}
+use Rattle.page_plan.specs.Renewals.{AreAlike, AreThere, IsGrowth, fetched_of, with_first}
 use Rattle.client_records.specs.Record.{Kept}
 
--- the page is loaded, and the plan under way replaces these modules by these, which list what they do
+-- the page is loaded, and the plan under way replaces these modules by these, which can be put in place
 pub record IsInPlace (k : Kept) (names : List Name) (rows : List (Name × Entry)) : Type 0 where
   pub loaded : k.loaded ≡ true
   pub whole : k.dropped ≡ []
   pub plan : Plan
   pub under_way : k.plan ≡ Some plan
-  pub renewal : is_renewal plan k.view ≡ true
+  pub growth : IsGrowth k.roots plan k.view
+  pub there : AreThere k.view rows
+  pub alike : AreAlike (with_first rows k.view) rows
   pub replaced : names ≡ plan.replaced
   pub fetched : rows ≡ fetched_of plan plan.replaced
 

@@ -1,7 +1,7 @@
 // A client tells that it applied the plan under way, and what is now on its page. Where that is what the
 // plan makes of the page, the page has these modules from now on. All that takes memory comes before
 // any change that counts: a name that is known and unmarked is as good as one that isn't known.
-ghost use Rattle.std.specs.Prelude.{◌≡◌, ◌++◌, ℕ, IfOk, OnErr, OnOk};
+ghost use Rattle.std.specs.Prelude.{◌≡◌, ◌++◌, ℕ, filter, not, IfOk, OnErr, OnOk};
 ghost use Rattle.std.specs.Cmp.Lexicographic.{slice_cmp};
 ghost use Rattle.std.specs.List.Sorted.{IsStrictlySortedBy};
 ghost use Rattle.std.specs.Ordering.{nat_cmp};
@@ -9,6 +9,7 @@ ghost use Rattle.core_model.specs.Client.{Client};
 ghost use Rattle.core_model.specs.Names.{names_of};
 ghost use Rattle.core_model.specs.Requests.{applied_as, heard};
 ghost use Rattle.core_model.specs.Sources.{Sources};
+ghost use Rattle.core_model.specs.View.{is_in};
 ghost use Rattle.page_plan.specs.Renewals.{IsClosed};
 ghost use Rattle.client_records.specs.Answers.{IsWritten, reply_of};
 ghost use Rattle.client_records.specs.Inside.{AreCounted};
@@ -17,10 +18,10 @@ ghost use Rattle.client_records.specs.Record.{IsRecord};
 
 use crate::answer::Answer;
 use crate::client_record::ClientRecord;
-use crate::marks::{enter_all, renew_all};
+use crate::marks::{enter_all, is_on, renew_all};
 use core_model::Refusal;
 use hmr_types::{ModName, Sequence, Table};
-use module_graph::View;
+use module_graph::{View, copy_name};
 use page_plan::Applied;
 use prune_list::unreached;
 use std::alloc::{AllocError, Global};
@@ -29,9 +30,10 @@ use version_map::VersionMap;
 
 impl ClientRecord {
     /// The plan under way is applied, where the table told is what it makes of the page. Where memory
-    /// runs out nothing changes. Where each module that an update replaces lists what it listed before,
-    /// it takes one walk of the table beside the page, and else time in proportion to what is replaced;
-    /// else it walks the plan's modules and those of the page.
+    /// runs out nothing changes. Where each module that an update replaces lists what it listed before, but
+    /// for at most one, which imports besides only modules of the page, it takes one walk of the table beside
+    /// the page, and else time in proportion to what is replaced; else it walks the plan's modules and those
+    /// of the page.
     pub fn applied(
         &mut self,
         alloc: Global,
@@ -49,7 +51,7 @@ impl ClientRecord {
         let found = self.renewal(alloc, table)?;
         match found {
             Some(renewal) => {
-                self.renew(sources, renewal);
+                self.renew(sources, renewal)?;
                 Ok(Answer::To(ServerMsg::Done))
             }
             None => self.applied_anew(alloc, sources, table),
@@ -97,7 +99,7 @@ impl ClientRecord {
     {
         let dropped = unreached(alloc, &made, self.roots.as_slice())?;
         let names = both_names(alloc, &self.view, &made)?;
-        enter_all(&mut self.queue, &names)?;
+        enter_all(&mut self.queue, &self.view, &names)?;
         renew_all(&mut self.queue, &names, &made, sources);
         self.queue.unforce_all();
         self.queue.release();
@@ -109,12 +111,26 @@ impl ClientRecord {
     }
 }
 
-// The names of the modules of both views.
+// The names of the modules of both views, each once.
 fn both_names(alloc: Global, view: &View, made: &View) -> Result<Vec<ModName>, AllocError>
-    ensures { IfOk result (λ names. names.items ≡ names_of view.now ++ names_of made.now) }
+    ensures { IfOk result (λ names. names.items
+        ≡ names_of made.now ++ filter (λ n. not (is_in made.now n)) (names_of view.now)) }
 {
-    let mut names = view.names(alloc)?;
-    let mut more = made.names(alloc)?;
-    names.append(&mut more)?;
+    let mut names = made.names(alloc)?;
+    let kept = view.names(alloc)?;
+    push_others(&mut names, &kept, made)?;
     Ok(names)
+}
+
+// Adds those of the names that aren't on the page.
+fn push_others(names: &mut Vec<ModName>, more: &[ModName], page: &View) -> Result<(), AllocError>
+    ensures { OnOk result (names.new.items
+        ≡ names.old.items ++ filter (λ n. not (is_in page.now n)) more.now) }
+{
+    for name in more {
+        if !is_on(page, name) {
+            names.push(copy_name(name)?)?;
+        }
+    }
+    Ok(())
 }

@@ -35,22 +35,31 @@ pub(crate) fn set_mark(queue: &mut ClientQueue, name: &ModName, mark: bool)
     }
 }
 
-/// Each of the names is known from now on. Where memory runs out some of them are known, which is no
-/// change to the marks.
-pub(crate) fn enter_all(queue: &mut ClientQueue, names: &[ModName]) -> Result<(), AllocError>
+/// Each of the names is known from now on, where those of the page are. Where memory runs out some of them
+/// are known, which is no change to the marks. Only those that aren't on the page take memory.
+pub(crate) fn enter_all(
+    queue: &mut ClientQueue,
+    page: &View,
+    names: &[ModName],
+) -> Result<(), AllocError>
+    requires { (n : Name) → is_in page.now n ≡ true → knows queue.old n ≡ true }
     ensures grown { IsGrown queue.old queue.new }
     ensures known { OnOk result ((n : Name) → has names.now n ≡ true → knows queue.new n ≡ true) }
 {
     for name in names {
-        enter(queue, name)?;
+        enter(queue, page, name)?;
     }
     Ok(())
 }
 
-fn enter(queue: &mut ClientQueue, name: &ModName) -> Result<(), AllocError>
+fn enter(queue: &mut ClientQueue, page: &View, name: &ModName) -> Result<(), AllocError>
+    requires { is_in page.now name.now ≡ true → knows queue.old name.now ≡ true }
     ensures grown { IsGrown queue.old queue.new }
     ensures known { OnOk result (knows queue.new name.now ≡ true) }
 {
+    if is_on(page, name) {
+        return Ok(());
+    }
     let copy = copy_name(name)?;
     queue.enter(copy)?;
     Ok(())
@@ -83,7 +92,8 @@ fn renew(queue: &mut ClientQueue, name: &ModName, page: &View, sources: &Version
     }
 }
 
-fn is_on(page: &View, name: &ModName) -> bool
+/// Whether the page has the module. It takes no memory.
+pub(crate) fn is_on(page: &View, name: &ModName) -> bool
     ensures { result ≡ is_in page.now name.now }
 {
     page.get(name).is_some()

@@ -20,12 +20,12 @@ ghost use Rattle.hot_runtime.specs.Standing.{HasRoom, IsSound, Keeps, KeepsWords
 use crate::expecting::{is_done, is_note};
 use crate::forcing::put_name;
 use crate::runtime::HotRuntime;
+use client_plan::{Cause, UnderWay, one_line, put};
 use const_eval::Ran;
 use hmr_types::{ModName, Text, Ver};
 use module_graph::copy_name;
 use output_lines::{AbortWord, OutLine};
 use page_lifecycle::Invalidation;
-use client_plan::{Cause, UnderWay, one_line, put};
 use retained_data::Bag;
 use std::alloc::AllocError;
 use update_msgs::{ClientMsg, ServerMsg};
@@ -260,7 +260,7 @@ fn give_cause_to(plan: &mut Option<UnderWay>, cause: Cause)
     ensures some { (u : UnderWay) → plan.old ≡ Some u → plan.new ≡ Some (record u { cause = Some cause }) }
 {
     if let Some(plan) = plan {
-        plan.give_cause(cause);
+        put(&mut plan.cause, Some(cause));
     }
 }
 

@@ -16,12 +16,12 @@ ghost use Rattle.hot_runtime.specs.Standing.{HasRoom, IsSound, Keeps, KeepsWords
 ghost use Rattle.client_plan.specs.declared.under_way.UnderWay.{UnderWay};
 
 use crate::runtime::HotRuntime;
+use client_plan::{Found, UnderWay, change_page, put};
 use const_eval::Ran;
 use hmr_types::ModName;
 use module_graph::View;
 use output_lines::OutLine;
 use page_lifecycle::Page;
-use client_plan::{Found, UnderWay, change_page, put};
 use retained_data::Bag;
 use std::alloc::{AllocError, Global};
 

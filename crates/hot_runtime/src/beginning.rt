@@ -1,25 +1,20 @@
 // A plan begins: a load, a reload or an update.
-ghost use Rattle.std.specs.Prelude.{◌≡◌, ◌∷◌, ◌++◌, [], true, false, Bool, Some, map, IfOk, OnOk};
-ghost use Rattle.hmr_types.specs.declared.words.PlanKind.TheVariants.{Update};
+ghost use Rattle.std.specs.Prelude.{◌≡◌, ◌∷◌, ◌++◌, [], false, map, IfOk};
 ghost use Rattle.output_lines.specs.declared.out_line.OutLine.TheVariants as line;
 ghost use Rattle.core_model.specs.Names.{in_order};
-ghost use Rattle.core_model.specs.Page.{new_plan};
-ghost use Rattle.client_model.specs.Answering.{begin, connect, pair_of, start_reload};
+ghost use Rattle.client_model.specs.Answering.{connect, pair_of, start_reload};
 ghost use Rattle.client_model.specs.Answering.{start_update, write_batch};
 ghost use Rattle.client_model.specs.Runtime.{Runtime, and_then};
 ghost use Rattle.client_plan.specs.Telling.{accept_lines, batch_lines};
-ghost use Rattle.client_plan.specs.declared.under_way.UnderWay.{UnderWay};
-ghost use Rattle.client_plan.specs.Whole.{IsWhole};
 ghost use Rattle.hot_runtime.specs.Becoming.{Becomes};
-ghost use Rattle.hot_runtime.specs.Standing.{IsPlan, IsPlannedWell, IsSound, Keeps, KeepsWords};
+ghost use Rattle.hot_runtime.specs.Standing.{IsSound, Keeps, KeepsWords};
 
 use crate::runtime::HotRuntime;
+use client_plan::{batch_lines, begun, in_order, put, tell_accepts, update_begun};
 use const_eval::Ran;
 use hmr_types::{ClientId, ModName, PlanKind, ReloadCause, Sequence};
-use module_graph::View;
 use output_lines::OutLine;
 use page_plan::Plan;
-use client_plan::{UnderWay, batch_lines, begun, in_order, put, tell_accepts, update_begun};
 use retained_data::Bag;
 use std::alloc::{AllocError, Global};
 use update_msgs::JsUpdate;
@@ -88,65 +83,24 @@ impl<F: FnOnce(Bag) -> Result<Ran, AllocError> + Drop> HotRuntime<F> {
     {
         let alloc = self.allocator();
         let client = self.page.client;
-        let roots = self.roots.as_slice();
-        let whole = self.whole;
-        let lines = update_started(
-            &mut self.plan,
+        let update = update_begun(
+            alloc,
+            self.roots.as_slice(),
+            &self.view,
+            self.whole,
+            replaced.as_slice(),
+            updates.as_slice(),
+        )?;
+        let lines = update_lines(
             alloc,
             client,
-            roots,
-            &self.view,
-            whole,
-            replaced,
-            updates,
             batch,
             triggered,
+            replaced,
+            update.pairs.as_slice(),
         )?;
+        put(&mut self.plan, Some(update));
         Ok(lines)
-    }
-}
-
-// An update of a page of these roots and modules begins, and is put in place of the plan that is there; it
-// may be known that the modules are exactly those that the roots reach. Tells its lines.
-fn update_started(
-    plan: &mut Option<UnderWay>,
-    alloc: Global,
-    client: ClientId,
-    roots: &[ModName],
-    view: &View,
-    whole: bool,
-    replaced: Sequence<ModName>,
-    updates: Sequence<JsUpdate>,
-    batch: u64,
-    triggered: Sequence<ModName>,
-) -> Result<Vec<OutLine>, AllocError>
-    ensures under_way { (r : Runtime) → r.roots ≡ roots.now → r.page.view ≡ view.now
-        → (whole ≡ true → IsWhole roots.now view.now)
-        → OnOk result (IsPlan (begin Update replaced (map pair_of updates) r)
-        (Some (new_plan Update replaced)) plan.new) }
-    ensures planned { (loaded : Bool) → OnOk result (IsPlannedWell loaded plan.new) }
-    ensures lines { IfOk result (λ lines. lines.items ≡ batch_lines client batch triggered
-        ++ line.Update client (in_order replaced) ∷ accept_lines client (map pair_of updates)) }
-{
-    let begun = update_begun(
-        alloc,
-        roots,
-        view,
-        whole,
-        replaced.as_slice(),
-        updates.as_slice(),
-    )?;
-    put(plan, Some(begun));
-    update_lines(alloc, client, batch, triggered, replaced, pairs_in(plan))
-}
-
-// The boundaries of the plan under way; where there is no plan, none.
-fn pairs_in(plan: &Option<UnderWay>) -> &[(ModName, ModName)]
-    ensures { (u : UnderWay) → plan.now ≡ Some u → result.now ≡ u.pairs.items }
-{
-    match plan {
-        Some(plan) => plan.pairs.as_slice(),
-        None => &[],
     }
 }
 

@@ -14,11 +14,11 @@ ghost use Rattle.hot_runtime.specs.Fetching.{IsStagedIn};
 ghost use Rattle.hot_runtime.specs.Standing.{IsSound, Keeps};
 
 use crate::runtime::HotRuntime;
+use client_plan::UnderWay;
 use const_eval::Ran;
 use hmr_types::{ModName, Text, Ver};
 use module_graph::View;
 use output_lines::OutLine;
-use client_plan::UnderWay;
 use retained_data::Bag;
 use std::alloc::{AllocError, Global};
 

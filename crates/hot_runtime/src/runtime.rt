@@ -11,12 +11,12 @@ ghost use Rattle.client_model.specs.Runtime.{Opening};
 ghost use Rattle.module_language.specs.ModuleLanguage.{module_language};
 ghost use Rattle.hot_runtime.specs.Standing.{KeepsWords, StandsFor};
 
+use client_plan::UnderWay;
 use const_eval::Ran;
 use handler_table::Shelf;
 use hmr_types::{ClientId, ModName, Sequence};
 use module_graph::View;
 use page_lifecycle::Page;
-use client_plan::UnderWay;
 use retained_data::Bag;
 use std::alloc::{AllocError, Global};
 

@@ -11,10 +11,10 @@ ghost use Rattle.hot_runtime.specs.Showing.{stale_row};
 ghost use Rattle.hot_runtime.specs.Standing.{StandsFor};
 
 use crate::runtime::HotRuntime;
+use client_plan::table_of;
 use hmr_types::{ModName, Table};
 use module_graph::{copy_of, rising};
 use output_lines::OutLine;
-use client_plan::table_of;
 use std::alloc::AllocError;
 
 impl<F> HotRuntime<F> {

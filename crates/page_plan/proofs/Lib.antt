@@ -4,4 +4,6 @@ pub mod Walks
 pub mod Moments
 pub mod Same
 pub mod Numbering
+pub mod Placing
+pub mod Growing
 pub mod Renewals

@@ -1,204 +1,33 @@
--- Updates in which each module that is replaced lists what it listed before: the view, what is reached,
--- and what an Applied answers.
+-- Updates in which each module that is replaced imports what it imported before, and besides only what is
+-- reached: the view, what is reached, and what an Applied answers.
 use Rattle.std.proofs.Common.{◌≡◌, ◌↔◌, ◌⊎◌, inl, inr, ℕ, zero, suc, ◌<◌, ◌+◌, Bool, true, false, List, [], ◌∷◌, ◌++◌, length, take, drop, get_or, refl, ap, sym, ◌∙◌, arith}
 use Rattle.std.specs.Prelude.{◌||◌, ◌&&◌, ◌==◌, not, cond, filter, slice_get, option_map, Option, Some, None, is_some, if◌then◌else◌}
-use Rattle.std.specs.Cmp.Lexicographic.{pointwise, slice_cmp}
-use Rattle.std.specs.List.{AllByRecursion, list_all}
-use Rattle.std.specs.List.Sorted.{IsStrictlySortedBy}
-use Rattle.std.specs.declared.cmp.Ordering.TheVariants.{Less}
-use Rattle.std.specs.Ordering.{nat_cmp, is_lt}
+use Rattle.std.specs.Cmp.Lexicographic.{slice_cmp}
+use Rattle.std.specs.Ordering.{nat_cmp}
 use Rattle.std.proofs.Math.Path.{subst}
 use Rattle.std.proofs.lemmas.Bool.{eq-eqb, eqb-true, false≢true}
-use Rattle.std.proofs.lemmas.List.{drop_more, take_more}
+use Rattle.std.proofs.lemmas.List.{drop_all, drop_more, take_more}
 use Rattle.std.proofs.lemmas.List.Elements.{filter_agree}
 use Rattle.std.proofs.lemmas.List.Kept.{IsStrictlySortedBy-filter}
-use Rattle.std.proofs.lemmas.Map.Keys.{sorted_head, sorted_tail}
+use Rattle.std.proofs.lemmas.Map.Keys.{sorted_tail}
 use Rattle.std.proofs.lemmas.Option.{same_Some}
 use Prim.{⊥}
-use Rattle.hmr_types.specs.declared.analysis.Analysis.{Analysis}
-use Rattle.hmr_types.specs.declared.words.PlanKind.{PlanKind}
-use Rattle.hmr_types.specs.declared.words.PlanKind.TheVariants.{Load, Reload, Update}
+use Rattle.hmr_types.specs.declared.words.PlanKind.TheVariants.{Update}
 use Rattle.core_model.specs.Names.{Name, same_name, has, at, names_of, collect, sorted, with_entry}
 use Rattle.core_model.specs.Paths.{Reaches}
 use Rattle.core_model.specs.View.{View, Entry, imports, imports_of, is_in, reached_in, dropped_of, table_of}
 use Rattle.core_model.specs.Page.{Plan, entry_at, kept_or_staged, met_of, new_entry, new_view, plan_imports, unfetched_of, unmet_entry}
 use Rattle.core_model.specs.Requests.{applied_row, differing, done, row_differing, row_unfetched, version_at}
-use Rattle.core_model.proofs.Naming.{both_true, cases_bool, false_from, filtered_from, filtered_in, has_cases, has_is, head_has, more_cases, no_names, or_cases, same_test, same_true, sorted_has, tail_has, true_same}
+use Rattle.core_model.proofs.Naming.{both_true, filtered_from, filtered_in, head_has, more_cases, no_names, or_cases, same_test, same_true, sorted_has, tail_has}
 use Rattle.core_model.proofs.Planning.{at_new, met_is}
 use Rattle.core_model.proofs.Reaching.{reaches_on, reaches_start, reaches_within}
 use Rattle.core_model.proofs.Tables.{named}
-use Rattle.core_model.proofs.Views.{dropped_are, reached_is}
-use Rattle.module_graph.specs.Entries.{lists_alike, put_entry}
-use Rattle.module_graph.proofs.Marking.{put_at}
-use Rattle.module_graph.proofs.Renewing.{IsAlike, alike}
+use Rattle.core_model.proofs.Views.{reached_is}
 use Rattle.module_graph.proofs.Sorting.{same_rising, sorted_rising}
-use Rattle.page_plan.specs.Renewals.{AreAlike, IsClosed, IsToldOf, are_fitting, fetched_of, is_fitting_at, is_renewal, is_renewed, is_update, put_all, renewed_view}
+use Rattle.page_plan.specs.Renewals.{IsClosed, IsGrowth, IsToldOf, are_fitting, fetched_of, is_fitting_at, is_growing, renewed_view}
 use Rattle.page_plan.proofs.Comparing.{at_table, drop_found, drop_none, table_names}
-use Rattle.page_plan.proofs.Making.{below_apart}
-
-abbrev IsRising : List Name → Type 0
-IsRising = IsStrictlySortedBy (slice_cmp nat_cmp)
-
--- Lists of entries whose names rise are one where they have the same names and the same entries.
-
-behind_all : (x : Name) (xs : List Name) → AllByRecursion (λ y. slice_cmp nat_cmp x y ≡ Less) xs → has xs x ≡ true → ⊥
-behind_all x [] a h = false≢true h
-behind_all x (y ∷ ys) a h = by (behind_all x ys a.1) (has_cases y ys x h)
-  where
-    by : (has ys x ≡ true → ⊥) → (y ≡ x) ⊎ (has ys x ≡ true) → ⊥
-    by f (inl e) = false≢true (sym (below_apart x y (ap is_lt a.0)) ∙ true_same x y (sym e))
-    by f (inr t) = f t
-
-not_behind : (x : Name) (xs : List Name) → IsRising (x ∷ xs) → has xs x ≡ false
-not_behind x xs s = false_from (has xs x) (behind_all x xs (sorted_head (slice_cmp nat_cmp) x xs s))
-
-module _ {X : Type 0} where
-  at_head : (n : Name) (x : X) (rows : List (Name × X)) → at ((n, x) ∷ rows) n ≡ Some x
-  at_head n x rows = ap (λ b. if b then Some x else at rows n) (true_same n n refl)
-
-  none_at : (o : Option X) → is_some o ≡ false → o ≡ None
-  none_at None h = refl
-  none_at (Some x) h = absurd (false≢true (sym h))
-
-  past_head : (b : Bool) (x y : X) (o p : Option X) → (b ≡ true → o ≡ p) → (if b then Some x else o) ≡ (if b then Some y else p) → o ≡ p
-  past_head true x y o p f h = f refl
-  past_head false x y o p f h = h
-
-  pub same_rows : (xs ys : List (Name × X)) → IsRising (names_of xs) → names_of xs ≡ names_of ys → ((n : Name) → at xs n ≡ at ys n) → xs ≡ ys
-  same_rows [] [] s e f = refl
-  same_rows [] (y ∷ ys) s e f = absurd (false≢true (ap (λ (l : List Name). has l y.0) e ∙ head_has y.0 (names_of ys)))
-  same_rows (x ∷ xs) [] s e f = absurd (false≢true (sym (ap (λ (l : List Name). has l x.0) e) ∙ head_has x.0 (names_of xs)))
-  same_rows (x ∷ xs) (y ∷ ys) s e f =
-      let first : x.0 ≡ y.0 = same_Some x.0 y.0 (ap first_name e) in
-      let rest : names_of xs ≡ names_of ys = ap rest_names e in
-      let value : x.1 ≡ y.1 = same_Some x.1 y.1 (sym (at_head x.0 x.1 xs) ∙ f x.0 ∙ ap (λ k. at (y ∷ ys) k) first ∙ at_head y.0 y.1 ys) in
-      ap (λ k. (k, x.1) ∷ xs) first ∙ ap (λ v. (y.0, v) ∷ xs) value
-      ∙ ap (λ l. y ∷ l) (same_rows xs ys (sorted_tail (slice_cmp nat_cmp) x.0 (names_of xs) s) rest (λ n.
-      past_head (same_name x.0 n) x.1 y.1 (at xs n) (at ys n)
-      (λ t. let gone : has (names_of xs) n ≡ false = ap (has (names_of xs)) (sym (same_true x.0 n t)) ∙ not_behind x.0 (names_of xs) s in
-      none_at (at xs n) (named xs n ∙ gone) ∙ sym (none_at (at ys n) (named ys n ∙ ap (λ l. has l n) (sym rest) ∙ gone)))
-      (f n ∙ ap (λ k. if same_name k n then Some y.1 else at ys n) (sym first))))
-    where
-      first_name : List Name → Option Name
-      first_name [] = None
-      first_name (n ∷ ns) = Some n
-
-      rest_names : List Name → List Name
-      rest_names [] = []
-      rest_names (n ∷ ns) = ns
-
--- An entry that is put in place of one that lists the same.
-
-lists_same : (o : Option Entry) (e : Entry) (a : Analysis) → IsAlike o e.analysis → lists_alike (Some e) a ≡ lists_alike o a
-lists_same None e a h = absurd (false≢true h.there)
-lists_same (Some old) e a h =
-    ap (λ l. pointwise same_name l a.imports && pointwise same_name e.analysis.accepted a.accepted) (sym h.imports)
-    ∙ ap (λ l. pointwise same_name old.analysis.imports a.imports && pointwise same_name l a.accepted) (sym h.accepted)
-
-alike_step : (n m : Name) (e : Entry) (a : Analysis) (view : View) (b : Bool) → (b ≡ true → n ≡ m) → IsAlike (at view n) e.analysis → lists_alike (if b then Some e else at view m) a ≡ lists_alike (at view m) a
-alike_step n m e a view true f h = lists_same (at view n) e a h ∙ ap (λ k. lists_alike (at view k) a) (f refl)
-alike_step n m e a view false f h = refl
-
-put_alike : (n : Name) (e : Entry) (view : View) → lists_alike (at view n) e.analysis ≡ true → (m : Name) (a : Analysis) → lists_alike (at (put_entry n e view) m) a ≡ lists_alike (at view m) a
-put_alike n e view h m a = ap (λ o. lists_alike o a) (put_at n e view m) ∙ alike_step n m e a view (same_name n m) (same_true n m) (alike (at view n) e.analysis h)
-
--- the other entries still list what those of their names do
-pub still_alike : (n : Name) (e : Entry) (view : View) → lists_alike (at view n) e.analysis ≡ true → (rows : List (Name × Entry)) → AreAlike view rows → AreAlike (put_entry n e view) rows
-still_alike n e view h [] a = tt
-still_alike n e view h (row ∷ rows) a = (put_alike n e view h row.0 row.1.analysis ∙ a.0, still_alike n e view h rows a.1)
-
-names_step : (n : Name) (e : Entry) (row : Name × Entry) (rows : View) (b : Bool) → same_name row.0 n ≡ b → (b || has (names_of rows) n) ≡ true → (has (names_of rows) n ≡ true → names_of (put_entry n e rows) ≡ names_of rows)
-    → names_of (if b then (n, e) ∷ rows else row ∷ put_entry n e rows) ≡ row.0 ∷ names_of rows
-names_step n e row rows true s h f = ap (λ k. k ∷ names_of rows) (sym (same_true row.0 n s))
-names_step n e row rows false s h f = ap (λ l. row.0 ∷ l) (f h)
-
-put_names : (n : Name) (e : Entry) (rows : View) → has (names_of rows) n ≡ true → names_of (put_entry n e rows) ≡ names_of rows
-put_names n e [] h = absurd (false≢true h)
-put_names n e (row ∷ rows) h = names_step n e row rows (same_name row.0 n) refl h (put_names n e rows)
-
-listed_there : (n : Name) (a : Analysis) (view : View) → lists_alike (at view n) a ≡ true → has (names_of view) n ≡ true
-listed_there n a view h = sym (named view n) ∙ (alike (at view n) a h).there
-
--- entries that list what those of their names do change nothing of that
-all_alike : (rows : List (Name × Entry)) (view : View) → AreAlike view rows → (m : Name) (a : Analysis) → lists_alike (at (put_all rows view) m) a ≡ lists_alike (at view m) a
-all_alike [] view h m a = refl
-all_alike (row ∷ rows) view h m a = put_alike row.0 row.1 (put_all rows view) (all_alike rows view h.1 row.0 row.1.analysis ∙ h.0) m a ∙ all_alike rows view h.1 m a
-
--- the names stay
-pub all_names : (rows : List (Name × Entry)) (view : View) → AreAlike view rows → names_of (put_all rows view) ≡ names_of view
-all_names [] view h = refl
-all_names (row ∷ rows) view h = put_names row.0 row.1 (put_all rows view) (listed_there row.0 row.1.analysis (put_all rows view) (all_alike rows view h.1 row.0 row.1.analysis ∙ h.0)) ∙ all_names rows view h.1
-
--- the last of the entries is put first
-pub put_last_first : (rows : List (Name × Entry)) (row : Name × Entry) (view : View) → put_all (rows ++ row ∷ []) view ≡ put_all rows (put_entry row.0 row.1 view)
-put_last_first [] row view = refl
-put_last_first (r ∷ rows) row view = ap (put_entry r.0 r.1) (put_last_first rows row view)
-
-pub alike_last : (rows : List (Name × Entry)) (row : Name × Entry) (view : View) → AreAlike view (rows ++ row ∷ []) → (lists_alike (at view row.0) row.1.analysis ≡ true) × AreAlike view rows
-alike_last [] row view h = (h.0, tt)
-alike_last (r ∷ rows) row view h = let q = alike_last rows row view h.1 in (q.0, (h.0, q.1))
-
--- What was fetched of some names.
-
-module _ (get : Name → Option Entry) where
-  alike_entry : (n : Name) (o : Option Entry) (rows : List (Name × Entry)) (view : View) → is_renewed (at view n) o ≡ true → AreAlike view rows → AreAlike view (with_entry n o rows)
-  alike_entry n None rows view h a = a
-  alike_entry n (Some e) rows view h a = (h, a)
-
-  pub fetched_alike : (names : List Name) (view : View) → ((n : Name) → has names n ≡ true → is_renewed (at view n) (get n) ≡ true) → AreAlike view (collect get names)
-  fetched_alike [] view f = tt
-  fetched_alike (x ∷ names) view f = alike_entry x (get x) (collect get names) view (f x (head_has x names)) (fetched_alike names view (λ n h. f n (tail_has x names n h)))
-
-  either_at : (s h : Bool) (e : Entry) (own o : Option Entry) → (s ≡ true → own ≡ Some e) → (if s then Some e else (if h then own else o)) ≡ (if s || h then own else o)
-  either_at true h e own o f = sym (f refl)
-  either_at false h e own o f = refl
-
-  at_entry : (x : Name) (names : List Name) (view : View) (n : Name) (o : Option Entry) → get x ≡ o → is_some o ≡ true → at (put_all (collect get names) view) n ≡ (if has names n then get n else at view n)
-      → at (put_all (with_entry x o (collect get names)) view) n ≡ (if same_name x n || has names n then get n else at view n)
-  at_entry x names view n None is h f = absurd (false≢true h)
-  at_entry x names view n (Some e) is h f = put_at x e (put_all (collect get names) view) n ∙ ap (λ o. if same_name x n then Some e else o) f
-      ∙ either_at (same_name x n) (has names n) e (get n) (at view n) (λ s. ap get (sym (same_true x n s)) ∙ is)
-
-  -- each of the names has its entry, and the other names theirs
-  pub at_all : (names : List Name) → ((n : Name) → has names n ≡ true → is_some (get n) ≡ true) → (view : View) (n : Name) → at (put_all (collect get names) view) n ≡ (if has names n then get n else at view n)
-  at_all [] f view n = refl
-  at_all (x ∷ names) f view n = at_entry x names view n (get x) refl (f x (head_has x names)) (at_all names (λ k h. f k (tail_has x names k h)) view n)
-
-  -- one name more
-  more_entry : (n : Name) (o : Option Entry) (rows more : List (Name × Entry)) → with_entry n o (rows ++ more) ≡ with_entry n o rows ++ more
-  more_entry n None rows more = refl
-  more_entry n (Some e) rows more = refl
-
-  pub fetched_append : (xs ys : List Name) → collect get (xs ++ ys) ≡ collect get xs ++ collect get ys
-  fetched_append [] ys = refl
-  fetched_append (x ∷ xs) ys = ap (with_entry x (get x)) (fetched_append xs ys) ∙ more_entry x (get x) (collect get xs) (collect get ys)
-
-all_pass : (test : Name → Bool) (names : List Name) → list_all test names ≡ true → (n : Name) → has names n ≡ true → test n ≡ true
-all_pass test [] a n h = absurd (false≢true h)
-all_pass test (x ∷ names) a n h =
-    let both = both_true (test x) (list_all test names) a in
-    by both.0 (all_pass test names both.1 n) (has_cases x names n h)
-  where
-    by : test x ≡ true → (has names n ≡ true → test n ≡ true) → (x ≡ n) ⊎ (has names n ≡ true) → test n ≡ true
-    by p f (inl e) = ap test (sym e) ∙ p
-    by p f (inr t) = f t
-
-update_is : (kind : PlanKind) → is_update kind ≡ true → kind ≡ Update
-update_is Load h = absurd (false≢true h)
-update_is Reload h = absurd (false≢true h)
-update_is Update h = refl
-
-renewed_some : (old o : Option Entry) → is_renewed old o ≡ true → is_some o ≡ true
-renewed_some old None h = h
-renewed_some old (Some e) h = refl
-
-renewed_there : (old o : Option Entry) → is_renewed old o ≡ true → is_some old ≡ true
-renewed_there old None h = absurd (false≢true h)
-renewed_there old (Some e) h = (alike old e.analysis h).there
-
-renewed_imports : (old o : Option Entry) → is_renewed old o ≡ true → imports_of o ≡ imports_of old
-renewed_imports old None h = absurd (false≢true h)
-renewed_imports old (Some e) h = sym (alike old e.analysis h).imports
+use Rattle.page_plan.proofs.Placing.{IsRising, all_names, at_all, at_head, fetched_append, fetched_there, not_behind, same_rows}
+use Rattle.page_plan.proofs.Growing.{IsFound, all_reached, growing_found, growth_found, update_is}
 
 -- The view that a plan makes rises by name.
 
@@ -216,38 +45,45 @@ made_rises roots p view =
     let names : List Name = sorted (met_of roots p view ++ names_of view) in
     subst IsRising (sym (collected_names get names)) (IsStrictlySortedBy-filter (slice_cmp nat_cmp) (λ n. is_some (get n)) names (sorted_rising (met_of roots p view ++ names_of view)))
 
--- Such an update.
+-- The view with what was fetched.
 
-module _ (p : Plan) (view : View) (h : is_renewal p view ≡ true) where
-  kind_is : p.kind ≡ Update
-  kind_is = update_is p.kind (both_true (is_update p.kind) (list_all (λ n. is_renewed (at view n) (at p.staged n)) p.replaced) h).0
-
-  pub each : (n : Name) → has p.replaced n ≡ true → is_renewed (at view n) (at p.staged n) ≡ true
-  each = all_pass (λ n. is_renewed (at view n) (at p.staged n)) p.replaced (both_true (is_update p.kind) (list_all (λ n. is_renewed (at view n) (at p.staged n)) p.replaced) h).1
-
-  pub rows_alike : AreAlike view (fetched_of p p.replaced)
-  rows_alike = fetched_alike (λ n. at p.staged n) p.replaced view each
-
+module _ (p : Plan) (view : View) (f : IsFound p view) where
   pub renewed_names : names_of (renewed_view p view) ≡ names_of view
-  renewed_names = all_names (fetched_of p p.replaced) view rows_alike
+  renewed_names = all_names (fetched_of p p.replaced) view (fetched_there (λ n. at p.staged n) p.replaced view f.there)
 
   pub at_renewed : (n : Name) → at (renewed_view p view) n ≡ (if has p.replaced n then at p.staged n else at view n)
-  at_renewed n = at_all (λ k. at p.staged k) p.replaced (λ k t. renewed_some (at view k) (at p.staged k) (each k t)) view n
+  at_renewed n = at_all (λ k. at p.staged k) p.replaced f.fetched view n
 
-  -- what is replaced is on the page
-  pub replaced_there : (n : Name) → has p.replaced n ≡ true → is_in view n ≡ true
-  replaced_there n t = renewed_there (at view n) (at p.staged n) (each n t)
-
-  -- and what isn't has its old entry
+  -- what isn't replaced has its old entry
   pub kept_at : (n : Name) → has p.replaced n ≡ false → at (renewed_view p view) n ≡ at view n
   kept_at n e = at_renewed n ∙ ap (λ b. if b then at p.staged n else at view n) e
 
-  either_imports : (n : Name) (b : Bool) → has p.replaced n ≡ b → imports_of (if b then at p.staged n else at view n) ≡ imports_of (at view n)
-  either_imports n true e = renewed_imports (at view n) (at p.staged n) (each n e)
-  either_imports n false e = refl
+  pub renewed_is_in : (n : Name) → is_in (renewed_view p view) n ≡ is_in view n
+  renewed_is_in n = named (renewed_view p view) n ∙ ap (λ l. has l n) renewed_names ∙ sym (named view n)
 
-  same_imports : (n m : Name) → imports (renewed_view p view) n m ≡ imports view n m
-  same_imports n m = ap (λ o. has (imports_of o) m) (at_renewed n) ∙ ap (λ l. has l m) (either_imports n (has p.replaced n) refl)
+-- Such an update.
+
+module _ (roots : List Name) (p : Plan) (view : View) (g : IsGrowth roots p view) where
+  is_found : IsFound p view
+  is_found = growth_found roots p view g
+
+  kind_is : p.kind ≡ Update
+  kind_is = update_is p.kind g.update
+
+  -- what a module imports after the update it imported before, or it is reached; and it imports what it did
+  edge_before : (n m : Name) → imports (renewed_view p view) n m ≡ true → (imports view n m ≡ true) ⊎ Reaches (imports view) roots m
+  edge_before n m h = by (has p.replaced n) refl (ap (λ o. has (imports_of o) m) (sym (at_renewed p view is_found n)) ∙ h)
+    where
+      by : (b : Bool) → has p.replaced n ≡ b → has (imports_of (if b then at p.staged n else at view n)) m ≡ true → (imports view n m ≡ true) ⊎ Reaches (imports view) roots m
+      by true t k = (g.each n t).further m k
+      by false t k = inl k
+
+  edge_after : (n m : Name) → imports view n m ≡ true → imports (renewed_view p view) n m ≡ true
+  edge_after n m h = ap (λ o. has (imports_of o) m) (at_renewed p view is_found n) ∙ by (has p.replaced n) refl
+    where
+      by : (b : Bool) → has p.replaced n ≡ b → has (imports_of (if b then at p.staged n else at view n)) m ≡ true
+      by true t = (g.each n t).kept m h
+      by false t = h
 
   kept_step : (b : Bool) (kept staged : Option Entry) → is_some kept ≡ true → kept_or_staged Update b kept staged ≡ (if b then staged else kept)
   kept_step true kept staged t = refl
@@ -256,49 +92,54 @@ module _ (p : Plan) (view : View) (h : is_renewal p view ≡ true) where
 
   -- the plan's entry of a module of the view
   entry_is : (n : Name) → is_in view n ≡ true → entry_at p view n ≡ at (renewed_view p view) n
-  entry_is n t = ap (λ k. kept_or_staged k (has p.replaced n) (at view n) (at p.staged n)) kind_is ∙ kept_step (has p.replaced n) (at view n) (at p.staged n) t ∙ sym (at_renewed n)
+  entry_is n t = ap (λ k. kept_or_staged k (has p.replaced n) (at view n) (at p.staged n)) kind_is ∙ kept_step (has p.replaced n) (at view n) (at p.staged n) t ∙ sym (at_renewed p view is_found n)
 
-  pub renewed_is_in : (n : Name) → is_in (renewed_view p view) n ≡ is_in view n
-  renewed_is_in n = named (renewed_view p view) n ∙ ap (λ l. has l n) renewed_names ∙ sym (named view n)
+  same_edges : (n m : Name) → is_in view n ≡ true → plan_imports p view n m ≡ imports (renewed_view p view) n m
+  same_edges n m t = ap (λ o. has (imports_of o) m) (entry_is n t)
 
-  same_edges : (n m : Name) → is_in view n ≡ true → plan_imports p view n m ≡ imports view n m
-  same_edges n m t = ap (λ o. has (imports_of o) m) (entry_is n t) ∙ same_imports n m
+  -- one edge more from what was reached
+  reached_on : (n m : Name) → Reaches (imports view) roots n → imports (renewed_view p view) n m ≡ true → Reaches (imports view) roots m
+  reached_on n m r h = by (edge_before n m h)
+    where
+      by : (imports view n m ≡ true) ⊎ Reaches (imports view) roots m → Reaches (imports view) roots m
+      by (inl e) = reaches_on (imports view) roots n m r e
+      by (inr s) = s
 
-  pub reached_renewed : (roots : List Name) (m : Name) → Reaches (imports (renewed_view p view)) roots m ↔ Reaches (imports view) roots m
-  reached_renewed roots m = (
-    reaches_within (imports (renewed_view p view)) roots (Reaches (imports view) roots) (reaches_start (imports view) roots) (λ n k r by. reaches_on (imports view) roots n k r (sym (same_imports n k) ∙ by)) m,
-    reaches_within (imports view) roots (Reaches (imports (renewed_view p view)) roots) (reaches_start (imports (renewed_view p view)) roots) (λ n k r by. reaches_on (imports (renewed_view p view)) roots n k r (same_imports n k ∙ by)) m,
+  pub reached_renewed : (m : Name) → Reaches (imports (renewed_view p view)) roots m ↔ Reaches (imports view) roots m
+  reached_renewed m = (
+    reaches_within (imports (renewed_view p view)) roots (Reaches (imports view) roots) (reaches_start (imports view) roots) reached_on m,
+    reaches_within (imports view) roots (Reaches (imports (renewed_view p view)) roots) (reaches_start (imports (renewed_view p view)) roots) (λ n k r by. reaches_on (imports (renewed_view p view)) roots n k r (edge_after n k by)) m,
   )
 
   -- nothing else is dropped
-  pub dropped_renewed : (roots : List Name) → dropped_of (renewed_view p view) roots ≡ dropped_of view roots
-  dropped_renewed roots =
+  pub dropped_renewed : dropped_of (renewed_view p view) roots ≡ dropped_of view roots
+  dropped_renewed =
       let reached : (m : Name) → has (reached_in (renewed_view p view) roots) m ≡ has (reached_in view roots) m =
       λ m. same_test _ _
-      (λ t. (reached_is view roots m).1 ((reached_renewed roots m).0 ((reached_is (renewed_view p view) roots m).0 t)))
-      (λ t. (reached_is (renewed_view p view) roots m).1 ((reached_renewed roots m).1 ((reached_is view roots m).0 t))) in
-      ap (λ l. sorted (filter (λ n. not (has (reached_in (renewed_view p view) roots) n)) l)) renewed_names
+      (λ t. (reached_is view roots m).1 ((reached_renewed m).0 ((reached_is (renewed_view p view) roots m).0 t)))
+      (λ t. (reached_is (renewed_view p view) roots m).1 ((reached_renewed m).1 ((reached_is view roots m).0 t))) in
+      ap (λ l. sorted (filter (λ n. not (has (reached_in (renewed_view p view) roots) n)) l)) (renewed_names p view is_found)
       ∙ ap sorted (filter_agree (λ n. not (has (reached_in (renewed_view p view) roots) n)) (λ n. not (has (reached_in view roots) n)) (λ n. ap not (reached n)) (names_of view))
 
   -- on a page from which nothing is missing
-  module _ (roots : List Name) (closed : IsClosed roots view) where
+  module _ (closed : IsClosed roots view) where
     pub renewed_closed : IsClosed roots (renewed_view p view)
-    renewed_closed n r = renewed_is_in n ∙ closed n ((reached_renewed roots n).0 r)
+    renewed_closed n r = renewed_is_in p view is_found n ∙ closed n ((reached_renewed n).0 r)
 
     met_reached : (m : Name) → Reaches (plan_imports p view) roots m → Reaches (imports view) roots m
     met_reached m r = reaches_within (plan_imports p view) roots (Reaches (imports view) roots) (reaches_start (imports view) roots)
-        (λ n k s by. reaches_on (imports view) roots n k s (sym (same_edges n k (closed n s)) ∙ by)) m r
+        (λ n k s by. reached_on n k s (sym (same_edges n k (closed n s)) ∙ by)) m r
 
     reached_met : (m : Name) → Reaches (imports view) roots m → Reaches (plan_imports p view) roots m
     reached_met m r = (reaches_within (imports view) roots (λ k. Reaches (imports view) roots k × Reaches (plan_imports p view) roots k)
         (λ k c. (reaches_start (imports view) roots k c, reaches_start (plan_imports p view) roots k c))
-        (λ n k s by. (reaches_on (imports view) roots n k s.0 by, reaches_on (plan_imports p view) roots n k s.1 (same_edges n k (closed n s.0) ∙ by))) m r).1
+        (λ n k s by. (reaches_on (imports view) roots n k s.0 by, reaches_on (plan_imports p view) roots n k s.1 (same_edges n k (closed n s.0) ∙ edge_after n k by))) m r).1
 
     met_there : (m : Name) → has (met_of roots p view) m ≡ true → is_in view m ≡ true
     met_there m t = closed m (met_reached m ((met_is roots p view m).0 t))
 
     some_entry : (n : Name) → is_in view n ≡ true → is_some (entry_at p view n) ≡ true
-    some_entry n t = ap is_some (entry_is n t) ∙ renewed_is_in n ∙ t
+    some_entry n t = ap is_some (entry_is n t) ∙ renewed_is_in p view is_found n ∙ t
 
     -- nothing is left to be fetched
     pub none_unfetched : unfetched_of roots p view ≡ []
@@ -308,23 +149,15 @@ module _ (p : Plan) (view : View) (h : is_renewal p view ≡ true) where
 
     -- where each module is reached
     module _ (rising : IsRising (names_of view)) (whole : dropped_of view roots ≡ []) where
-      all_reached : (n : Name) → is_in view n ≡ true → Reaches (imports view) roots n
-      all_reached n t = by (cases_bool (has (reached_in view roots) n))
-        where
-          by : (has (reached_in view roots) n ≡ true) ⊎ (has (reached_in view roots) n ≡ false) → Reaches (imports view) roots n
-          by (inl e) = (reached_is view roots n).0 e
-          by (inr e) = absurd (false≢true (ap (λ l. has l n) (sym whole)
-              ∙ (has_is (dropped_of view roots) n).0 ((dropped_are view roots n).1 (record { listed = (has_is (names_of view) n).1 (sym (named view n) ∙ t); unreached = λ r. false≢true (sym e ∙ (reached_is view roots n).1 r) }))))
-
       not_there : (n : Name) (b : Bool) → has p.replaced n ≡ b → is_in view n ≡ false → (if b then at p.staged n else at view n) ≡ at view n
-      not_there n true e t = absurd (false≢true (sym t ∙ renewed_there (at view n) (at p.staged n) (each n e)))
+      not_there n true e t = absurd (false≢true (sym t ∙ is_found.there n e))
       not_there n false e t = refl
 
       entry_by : (n : Name) (there met : Bool) → is_in view n ≡ there → has (met_of roots p view) n ≡ met → new_entry met p view n ≡ at (renewed_view p view) n
       entry_by n true true t m = entry_is n t
-      entry_by n true false t m = absurd (false≢true (sym m ∙ (met_is roots p view n).1 (reached_met n (all_reached n t))))
+      entry_by n true false t m = absurd (false≢true (sym m ∙ (met_is roots p view n).1 (reached_met n (all_reached roots view whole n t))))
       entry_by n false true t m = absurd (false≢true (sym t ∙ met_there n m))
-      entry_by n false false t m = ap (λ k. unmet_entry k (at view n)) kind_is ∙ sym (at_renewed n ∙ not_there n (has p.replaced n) refl t)
+      entry_by n false false t m = ap (λ k. unmet_entry k (at view n)) kind_is ∙ sym (at_renewed p view is_found n ∙ not_there n (has p.replaced n) refl t)
 
       at_made : (n : Name) → at (new_view roots p view) n ≡ at (renewed_view p view) n
       at_made n = at_new roots p view n ∙ entry_by n (is_in view n) (has (met_of roots p view) n) refl refl
@@ -332,7 +165,7 @@ module _ (p : Plan) (view : View) (h : is_renewal p view ≡ true) where
       -- the view that the plan makes
       pub view_is : new_view roots p view ≡ renewed_view p view
       view_is = same_rows (new_view roots p view) (renewed_view p view) (made_rises roots p view)
-          (same_rising (names_of (new_view roots p view)) (names_of (renewed_view p view)) (made_rises roots p view) (subst IsRising (sym renewed_names) rising)
+          (same_rising (names_of (new_view roots p view)) (names_of (renewed_view p view)) (made_rises roots p view) (subst IsRising (sym (renewed_names p view is_found)) rising)
           (λ n. sym (named (new_view roots p view) n) ∙ ap is_some (at_made n) ∙ named (renewed_view p view) n))
           at_made
 
@@ -347,10 +180,10 @@ pub same_told : (told kept : List (Name × ℕ)) → told ≡ kept → row_diffe
 same_told told kept e = subst (λ l. row_differing (differing told l) told l ≡ done) e (ap (λ ns. row_differing ns told told) (none_differ told (sorted (names_of told ++ names_of told))))
 
 -- all fits where the table told is that of the view with what was fetched
-pub renewal_fits : (roots : List Name) (p : Plan) (view : View) (told : List (Name × ℕ)) → is_renewal p view ≡ true → IsClosed roots view → IsRising (names_of view) → dropped_of view roots ≡ [] → told ≡ table_of (renewed_view p view) → applied_row roots p view told ≡ done
-renewal_fits roots p view told h closed rising whole e =
-    ap (λ ns. row_unfetched ns (row_differing (differing told (table_of (new_view roots p view))) told (table_of (new_view roots p view)))) (none_unfetched p view h roots closed)
-    ∙ same_told told (table_of (new_view roots p view)) (e ∙ ap table_of (sym (view_is p view h roots closed rising whole)))
+pub growth_fits : (roots : List Name) (p : Plan) (view : View) (told : List (Name × ℕ)) → IsGrowth roots p view → IsClosed roots view → IsRising (names_of view) → dropped_of view roots ≡ [] → told ≡ table_of (renewed_view p view) → applied_row roots p view told ≡ done
+growth_fits roots p view told g closed rising whole e =
+    ap (λ ns. row_unfetched ns (row_differing (differing told (table_of (new_view roots p view))) told (table_of (new_view roots p view)))) (none_unfetched roots p view g closed)
+    ∙ same_told told (table_of (new_view roots p view)) (e ∙ ap table_of (sym (view_is roots p view g closed rising whole)))
 
 -- From a page whose plan is applied nothing is missing.
 
@@ -418,18 +251,19 @@ placed (t ∷ told) (suc i) n v s e =
     past false f = refl
 
 -- the table told is that of the view with what was fetched
-pub told_renewed : (p : Plan) (view : View) (told : List (Name × ℕ)) → is_renewal p view ≡ true → IsRising (names_of view) → are_fitting p told view ≡ true → ((n : Name) → has p.replaced n ≡ true → IsToldOf p told n) → told ≡ table_of (renewed_view p view)
+pub told_renewed : (p : Plan) (view : View) (told : List (Name × ℕ)) → is_growing p view ≡ true → IsRising (names_of view) → are_fitting p told view ≡ true → ((n : Name) → has p.replaced n ≡ true → IsToldOf p told n) → told ≡ table_of (renewed_view p view)
 told_renewed p view told h rising fits each_told =
+    let f : IsFound p view = growing_found p view h in
     let names : names_of told ≡ names_of view = fitting_names p told view fits in
     let rises : IsRising (names_of told) = subst IsRising (sym names) rising in
-    same_rows told (table_of (renewed_view p view)) rises (names ∙ sym (table_names (renewed_view p view) ∙ renewed_names p view h)) (λ n. by n rises (has p.replaced n) refl)
+    same_rows told (table_of (renewed_view p view)) rises (names ∙ sym (table_names (renewed_view p view) ∙ renewed_names p view f)) (λ n. by n rises (has p.replaced n) refl)
   where
     by : (n : Name) → IsRising (names_of told) → (b : Bool) → has p.replaced n ≡ b → at told n ≡ at (table_of (renewed_view p view)) n
     by n rises true e =
         let t : IsToldOf p told n = each_told n e in
         (placed told t.place n t.entry.version rises t.row).0
-        ∙ sym (at_table (renewed_view p view) n ∙ ap (option_map (λ (x : Entry). x.version)) (at_renewed p view h n ∙ ap (λ b. if b then at p.staged n else at view n) e ∙ t.fetched))
-    by n rises false e = fitting_at p n e told view fits ∙ at_table view n ∙ sym (at_table (renewed_view p view) n ∙ ap (option_map (λ (x : Entry). x.version)) (at_renewed p view h n ∙ ap (λ b. if b then at p.staged n else at view n) e))
+        ∙ sym (at_table (renewed_view p view) n ∙ ap (option_map (λ (x : Entry). x.version)) (at_renewed p view (growing_found p view h) n ∙ ap (λ b. if b then at p.staged n else at view n) e ∙ t.fetched))
+    by n rises false e = fitting_at p n e told view fits ∙ at_table view n ∙ sym (at_table (renewed_view p view) n ∙ ap (option_map (λ (x : Entry). x.version)) (at_renewed p view (growing_found p view h) n ∙ ap (λ b. if b then at p.staged n else at view n) e))
 
 -- One row more of the table.
 
@@ -457,17 +291,13 @@ fitting_more p told view i t None fits h is found e f all = absurd (false≢true
 fitting_more p told view i t (Some row) fits h is found e f all =
     sym (fitting_found p told view i t row h is found ∙ ap (λ b. b && are_fitting p (drop (i + 1) told) (drop (i + 1) view)) (sym e ∙ f)) ∙ all
 
-drop_all : {X : Type 0} (xs : List X) → drop (length xs) xs ≡ []
-drop_all [] = refl
-drop_all (x ∷ xs) = drop_all xs
-
 -- past the last row the view ends, or doesn't fit
 pub fitting_end : {X : Type 0} (p : Plan) (told : List (Name × ℕ)) (view : View) (i : ℕ) (f : X → Name × Entry) (o : Option X) (ends : Bool) → i ≡ length told → option_map f o ≡ slice_get view i → is_some o ≡ not ends
     → are_fitting p (drop i told) (drop i view) ≡ are_fitting p told view → ends ≡ are_fitting p told view
-fitting_end p told view i f None true is found e all = sym (ap (λ l. are_fitting p l (drop i view)) (ap (λ k. drop k told) is ∙ drop_all told) ∙ ap (are_fitting p []) (drop_none view i found)) ∙ all
+fitting_end p told view i f None true is found e all = sym (ap (λ l. are_fitting p l (drop i view)) (ap (λ k. drop k told) is ∙ drop_all (length told) told (omega arith)) ∙ ap (are_fitting p []) (drop_none view i found)) ∙ all
 fitting_end p told view i f None false is found e all = absurd (false≢true e)
 fitting_end p told view i f (Some x) true is found e all = absurd (false≢true (sym e))
-fitting_end p told view i f (Some x) false is found e all = sym (ap (λ l. are_fitting p l (drop i view)) (ap (λ k. drop k told) is ∙ drop_all told) ∙ ap (are_fitting p []) (drop_found view i (f x) found)) ∙ all
+fitting_end p told view i f (Some x) false is found e all = sym (ap (λ l. are_fitting p l (drop i view)) (ap (λ k. drop k told) is ∙ drop_all (length told) told (omega arith)) ∙ ap (are_fitting p []) (drop_found view i (f x) found)) ∙ all
 
 -- what stands at a place of the list
 pub placed_row : {X : Type 0} (rows : List X) (i : ℕ) (d : X) → i < length rows → slice_get rows i ≡ Some (get_or rows i d)

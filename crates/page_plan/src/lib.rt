@@ -23,7 +23,7 @@ pub use apply::Applied;
 pub use module_graph::NameSet;
 pub use numbers::{Numbers, new_names};
 pub use plan::Plan;
-pub use renewal::{Renewed, put_in_place};
+pub use renewal::{Renewed, put_first, put_in_place};
 pub use tasks::Task;
 pub use view::made_view;
 pub use walker::Walker;

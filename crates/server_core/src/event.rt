@@ -83,7 +83,8 @@ impl Event {
     }
 }
 
-fn copy_text(alloc: Global, text: &Option<Vec<u8>>) -> Result<Option<Vec<u8>>, AllocError>
+/// An equal text, where there is one. It fails only where memory runs out.
+pub fn copy_text(alloc: Global, text: &Option<Vec<u8>>) -> Result<Option<Vec<u8>>, AllocError>
     ensures { IfOk result (λ copy. option_map (λ t. t.items) copy ≡ option_map (λ t. t.items) text.now) }
 {
     match text {

@@ -20,6 +20,6 @@ mod reads;
 mod requests;
 mod unlinked;
 
-pub use event::{Event, NewFault, Reply};
+pub use event::{Event, NewFault, Reply, copy_text};
 pub use fresh::Fresh;
 pub use page_core::Core;

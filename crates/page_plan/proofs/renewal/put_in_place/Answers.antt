@@ -3,7 +3,7 @@ use Rattle.std.proofs.Math.Path.{subst}
 use Rattle.std.proofs.lemmas.Grind.{common_steps}
 use Rattle.core_model.specs.View.{View}
 use Rattle.page_plan.specs.Renewals.{AreAlike, put_all}
-use Rattle.page_plan.proofs.Renewals.{alike_last, put_last_first, still_alike}
+use Rattle.page_plan.proofs.Placing.{alike_last, put_last_first, still_alike}
 use Rattle.page_plan.proofs.renewal.put_in_place.Goals as goal
 
 pub renew-requires : goal.renew-requires

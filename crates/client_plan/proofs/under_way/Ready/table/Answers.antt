@@ -13,4 +13,4 @@ returns-in-Anew c = λ r p i view rises same.
 pub returns-in-Renewed : goal.returns-in-Renewed
 returns-in-Renewed c = λ r p i view rises same.
     subst (λ v. IfOk c.renewed_table.result (λ table. table ≡ table_of v))
-    (table_renewed r p c.args.plan.now c.args.view.now c.deref.result.now (subst (AreModules r p) c.in-Renewed.is i.modules) same view rises i.none_needed (c.deref.ensures.value ∙ i.names)) c.renewed_table.ensures
+    (table_renewed r p c.args.plan.now c.args.view.now c.deref.result.now (subst (AreModules r p) c.in-Renewed.is i.modules) same view rises i.none_needed (c.deref.ensures.value ∙ i.names)) (c.renewed_table.ensures rises)

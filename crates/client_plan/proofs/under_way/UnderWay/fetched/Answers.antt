@@ -4,10 +4,10 @@ use Rattle.std.proofs.Math.Path.{subst}
 use Rattle.module_semantics.specs.ModuleText.{parsing}
 use Rattle.client_model.specs.Runtime.{broken}
 use Rattle.module_language.specs.ModuleLanguage.{module_language}
-use Rattle.client_plan.specs.Planned.{IsPlanned}
 use Rattle.client_plan.specs.Reads.{IsRead}
 use Rattle.client_plan.specs.UnderWay.{IsFetched, IsUnderWay, with_cause_of}
 use Rattle.client_plan.specs.declared.cause.Cause.TheVariants.{Broken}
+use Rattle.client_plan.specs.declared.under_way.UnderWay.{UnderWay}
 use Rattle.client_plan.proofs.Caused.{bad_fetched, caused}
 use Rattle.client_plan.proofs.under_way.UnderWay.fetched.Goals as goal
 
@@ -24,10 +24,11 @@ returns-in_ok-copy_name-in-None-clause-under_way c = λ r p roots view is needs.
     let read : IsRead name (parsing c.args.text.now) None =
     subst (λ bytes. IsRead name (parsing bytes) None) (c.as_bytes.ensures.value ∙ c.as_str.ensures)
     (subst (IsRead name (parsing c.as_bytes.result.now)) c.in-None.is c.in_ok-found.ensures) in
-    bad_fetched (module_language.transformed name c.args.text.now) r p name c.args.version c.args.text.now c.give_cause.new.self read
-    (subst (λ n. IsUnderWay (with_cause_of (broken n) r) p c.give_cause.new.self) c.in_ok-copy_name-in-None.ensures
-    (subst (IsUnderWay (with_cause_of (broken c.in_ok-copy_name-in-None.field-0) r) p) (sym c.give_cause.ensures) (caused r p (Broken c.in_ok-copy_name-in-None.field-0) c.args.self.now is)))
+    let left : UnderWay = record c.args.self.now { cause = c.put.new.place } in
+    bad_fetched (module_language.transformed name c.args.text.now) r p name c.args.version c.args.text.now left read
+    (subst (λ n. IsUnderWay (with_cause_of (broken n) r) p left) c.in_ok-copy_name-in-None.ensures
+    (subst (λ o. IsUnderWay (with_cause_of (broken c.in_ok-copy_name-in-None.field-0) r) p (record c.args.self.now { cause = o })) (sym c.put.ensures) (caused r p (Broken c.in_ok-copy_name-in-None.field-0) c.args.self.now is)))
 
 pub returns-in_ok-copy_name-in-None-clause-planned : goal.returns-in_ok-copy_name-in-None-clause-planned
 returns-in_ok-copy_name-in-None-clause-planned c = λ loaded planned counted.
-    subst (IsPlanned loaded) (sym c.give_cause.ensures) (record { staged = planned.staged; trees = planned.trees; loads = planned.loads })
+    record { staged = planned.staged; trees = planned.trees; loads = planned.loads }

@@ -8,16 +8,16 @@ use Rattle.client_records.specs.Record.{Kept}
 use Rattle.client_records.proofs.Applying.{applied_answers, done_so}
 use Rattle.client_records.proofs.client_record.ClientRecord.applied.Goals as goal
 
-pub returns-in-Some-clause-stands : goal.returns-in-Some-clause-stands
-returns-in-Some-clause-stands c = λ i d h.
+pub returns-in_ok-renew-in-Some-clause-stands : goal.returns-in_ok-renew-in-Some-clause-stands
+returns-in_ok-renew-in-Some-clause-stands c = λ i d h.
     let k : Kept = c.args.self.now in
     let made = put_all c.in-Some.renewal.rows.items k.view in
     let fits : IsFitting k c.args.table.now made =
     subst (λ (r : Option Renewal). IfSome r (λ w. IsFitting k c.args.table.now (put_all w.rows.items k.view))) c.in-Some.is c.in_ok-found.ensures.fits in
-    done_so i c.args.sources.now d k c.renew.new.self fits.plan c.args.table.now made h fits.under_way fits.done (c.renew.ensures d h)
+    done_so i c.args.sources.now d k c.renew.new.self fits.plan c.args.table.now made h fits.under_way fits.done (c.in_ok-renew-in-Some.ensures.made d h)
 
-pub returns-in-Some-clause-reply : goal.returns-in-Some-clause-reply
-returns-in-Some-clause-reply c = λ i d h.
+pub returns-in_ok-renew-in-Some-clause-reply : goal.returns-in_ok-renew-in-Some-clause-reply
+returns-in_ok-renew-in-Some-clause-reply c = λ i d h.
     let k : Kept = c.args.self.now in
     let fits : IsFitting k c.args.table.now (put_all c.in-Some.renewal.rows.items k.view) =
     subst (λ (r : Option Renewal). IfSome r (λ w. IsFitting k c.args.table.now (put_all w.rows.items k.view))) c.in-Some.is c.in_ok-found.ensures.fits in

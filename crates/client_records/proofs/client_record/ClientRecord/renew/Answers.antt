@@ -12,42 +12,47 @@ use Rattle.client_records.specs.InPlace.{IsInPlace}
 use Rattle.client_records.specs.Inside.{AreCounted, kept_of}
 use Rattle.client_records.specs.Made.{AreRenewed, HasMade}
 use Rattle.client_records.specs.Record.{IsRecord, Kept}
-use Rattle.client_records.proofs.InPlace.{alike_rows, closed_in_place, counted_in_place, dropped_in_place, has_made, known_in_place, marked_in_place, none_in_queue, queue_is, rising_in_place}
+use Rattle.client_records.proofs.InPlace.{closed_in_place, counted_in_place, dropped_in_place, first_alike, first_same, has_made, known_in_place, marked_in_place, none_in_queue, queue_is, rising_in_place}
 use Rattle.client_records.proofs.client_record.ClientRecord.renew.Goals as goal
 
 pub put_in_place-requires : goal.put_in_place-requires
 put_in_place-requires c =
     let k : Kept = kept_of c.self.inside in
-    alike_rows k c.args.renewal.names.items c.args.renewal.rows.items (subst (λ (x : Kept). IsInPlace x c.args.renewal.names.items c.args.renewal.rows.items) (sym c.self.view_is) c.requires)
+    let names = c.args.renewal.names.items in
+    let rows = c.args.renewal.rows.items in
+    let w : IsInPlace k names rows = subst (λ (x : Kept). IsInPlace x names rows) (sym c.self.view_is) c.requires in
+    first_alike k names rows w c.deref.result.now c.put_first.new.view c.deref.ensures.value c.in_ok-put_first.ensures.ok
 
-pub returns : goal.returns
-returns c = λ d h.
+pub returns-clause-made : goal.returns-clause-made
+returns-clause-made c = λ d h.
     let k : Kept = kept_of c.self.inside in
     let s = c.args.sources.now in
     let names = c.args.renewal.names.items in
     let rows = c.args.renewal.rows.items in
     let w : IsInPlace k names rows = subst (λ (x : Kept). IsInPlace x names rows) (sym c.self.view_is) c.requires in
+    let placed : c.put_in_place.new.view ≡ put_all rows k.view = first_same k names rows w c.deref.result.now c.put_first.new.view c.put_in_place.new.view c.deref.ensures.value c.in_ok-put_first.ensures.ok c.put_in_place.ensures in
     let f : AreRenewed names (put_all rows k.view) s k.queue c.renew_all.new.queue =
-    subst (λ (l : List Name). AreRenewed l (put_all rows k.view) s k.queue c.renew_all.new.queue) c.deref.ensures.value
-    (subst (λ (v : View). AreRenewed c.deref.result.now v s k.queue c.renew_all.new.queue) c.put_in_place.ensures c.renew_all.ensures) in
+    subst (λ (l : List Name). AreRenewed l (put_all rows k.view) s k.queue c.renew_all.new.queue) c.deref-2.ensures.value
+    (subst (λ (v : View). AreRenewed c.deref-2.result.now v s k.queue c.renew_all.new.queue) placed c.renew_all.ensures) in
     subst (λ (x : Kept). HasMade s (put_all rows x.view) x (record k { view = c.put_in_place.new.view; queue = c.release.new.self; plan = None })) c.self.view_is
-    (subst (λ (v : View). HasMade s (put_all rows k.view) k (record k { view = v; queue = c.release.new.self; plan = None })) (sym c.put_in_place.ensures)
+    (subst (λ (v : View). HasMade s (put_all rows k.view) k (record k { view = v; queue = c.release.new.self; plan = None })) (sym placed)
     (has_made k names rows w s c.renew_all.new.queue f c.self.invariant.known c.unforce_all.new.self c.release.new.self c.unforce_all.ensures c.release.ensures d (subst (IsRecord s d) (sym c.self.view_is) h) c.self.invariant.dropped))
 
-pub invariant_of-self : goal.invariant_of-self
-invariant_of-self c =
+pub invariant_of-self-2 : goal.invariant_of-self-2
+invariant_of-self-2 c =
     let k : Kept = kept_of c.self.inside in
     let s = c.args.sources.now in
     let names = c.args.renewal.names.items in
     let rows = c.args.renewal.rows.items in
     let i = c.self.invariant in
     let w : IsInPlace k names rows = subst (λ (x : Kept). IsInPlace x names rows) (sym c.self.view_is) c.requires in
+    let placed : c.put_in_place.new.view ≡ put_all rows k.view = first_same k names rows w c.deref.result.now c.put_first.new.view c.put_in_place.new.view c.deref.ensures.value c.in_ok-put_first.ensures.ok c.put_in_place.ensures in
     let f : AreRenewed names (put_all rows k.view) s k.queue c.renew_all.new.queue =
-    subst (λ (l : List Name). AreRenewed l (put_all rows k.view) s k.queue c.renew_all.new.queue) c.deref.ensures.value
-    (subst (λ (v : View). AreRenewed c.deref.result.now v s k.queue c.renew_all.new.queue) c.put_in_place.ensures c.renew_all.ensures) in
+    subst (λ (l : List Name). AreRenewed l (put_all rows k.view) s k.queue c.renew_all.new.queue) c.deref-2.ensures.value
+    (subst (λ (v : View). AreRenewed c.deref-2.result.now v s k.queue c.renew_all.new.queue) placed c.renew_all.ensures) in
     let queue : c.release.new.self ≡ record k.queue { known = c.renew_all.new.queue.known; forced = []; held = None } =
     queue_is k names rows w s c.renew_all.new.queue f i.known c.unforce_all.new.self c.release.new.self c.unforce_all.ensures c.release.ensures in
-    let view = sym c.put_in_place.ensures in
+    let view = sym placed in
     record {
       rising = subst (λ (v : View). IsStrictlySortedBy (slice_cmp nat_cmp) (names_of v)) view (rising_in_place k names rows w i.rising i.closed i.dropped);
       counted = subst AreCounted view (counted_in_place k names rows w i.rising i.closed i.dropped i.counted i.staged);

@@ -15,7 +15,7 @@ returns-clause-in_place c =
     let rows = c.in_ok-rows.rows.items in
     let p = c.in-Some.plan in
     subst (λ (x : Kept). IsInPlace x names rows) c.self.view_is
-    (in_place k names rows p (sym c.is_whole.ensures ∙ c.if-not-is_whole.false) c.in-Some.is (c.fits.ensures.renewal c.if-not-fits.false) c.in_ok-names.ensures (c.in_ok-rows.ensures ∙ ap (fetched_of p) c.deref-2.ensures.value))
+    (in_place k names rows p (sym c.is_whole.ensures ∙ c.if-not-is_whole.false) c.self.invariant.dropped c.in-Some.is (c.fits.ensures.growing c.if-not-fits.false) c.in_ok-names.ensures (c.in_ok-rows.ensures ∙ ap (fetched_of p) c.deref-2.ensures.value))
 
 pub returns-clause-fits : goal.returns-clause-fits
 returns-clause-fits c =
@@ -23,7 +23,7 @@ returns-clause-fits c =
     let names = c.in_ok-names.names.items in
     let rows = c.in_ok-rows.rows.items in
     let p = c.in-Some.plan in
-    let w : IsInPlace k names rows = in_place k names rows p (sym c.is_whole.ensures ∙ c.if-not-is_whole.false) c.in-Some.is (c.fits.ensures.renewal c.if-not-fits.false) c.in_ok-names.ensures (c.in_ok-rows.ensures ∙ ap (fetched_of p) c.deref-2.ensures.value) in
+    let w : IsInPlace k names rows = in_place k names rows p (sym c.is_whole.ensures ∙ c.if-not-is_whole.false) c.self.invariant.dropped c.in-Some.is (c.fits.ensures.growing c.if-not-fits.false) c.in_ok-names.ensures (c.in_ok-rows.ensures ∙ ap (fetched_of p) c.deref-2.ensures.value) in
     let i = c.self.invariant in
     subst (λ (x : Kept). IsFitting x c.args.table.now (put_all rows x.view)) c.self.view_is
     (fits_in_place k names rows w i.rising i.closed i.dropped c.args.table.now (c.fits.ensures.told c.if-not-fits.false))
