@@ -1,5 +1,6 @@
 // Lines that no run of a script shows: the largest numbers, and words for what takes too long to come to.
 // The other lines are those of `examples/` and of the test cases of `tests/`.
+use hmr_types::limits::LARGEST_NUMBER;
 use hmr_types::{EditRefusal, FaultWord, ModName, Sequence, TextFault};
 use output_lines::{EditWord, EndWord, OutLine, RemoveWord, SettleWord};
 use play_text::render;
@@ -36,7 +37,7 @@ fn line(row: usize, name: ModName) -> OutLine {
         },
         2 => OutLine::Edit {
             name,
-            outcome: EditWord::Job(9_007_199_254_740_991),
+            outcome: EditWord::Job(LARGEST_NUMBER),
         },
         3 => OutLine::Edit {
             name,
@@ -58,7 +59,7 @@ fn line(row: usize, name: ModName) -> OutLine {
         _ => OutLine::Error {
             client: 1,
             name,
-            line: 9_007_199_254_740_992,
+            line: LARGEST_NUMBER + 1,
             column: u64::MAX,
             word: FaultWord::NotUtf8,
         },

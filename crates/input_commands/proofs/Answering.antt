@@ -10,14 +10,18 @@ use Rattle.core_model.specs.Sources.{Text}
 use Rattle.play_script.specs.declared.fault.ScriptFault.{ScriptFault}
 use Rattle.play_script.specs.Script.{Contents}
 use Rattle.input_commands.specs.Ends.{EndsBefore}
-use Rattle.input_commands.specs.Outputs.{Output, ended, instances_limit, lines_text, output_of_script, whole}
+use Rattle.command_ends.specs.Ends.{limit_line}
+use Rattle.command_ends.specs.declared.limit.Limit.TheVariants.{Instances}
+use Rattle.input_commands.specs.Outputs.{Output, ended, lines_text, output_of_script, whole}
 use Rattle.input_commands.specs.Playing.{script_played}
 use Rattle.input_commands.specs.Writing.{WritesBehind}
 
 -- a front of the lines is a front of the whole output
 run_front : (a b : Option (List ℕ)) (text : List ℕ) (over : Bool)
     → WritesFront a b text → WritesFront a b (whole (ended over text))
-run_front a b text true w = front_more a a b [] text instances_limit (text ++ instances_limit) (Appends-nil a) w refl
+run_front a b text true w =
+    let last = limit_line Instances in
+    front_more a a b [] text last (text ++ last) (Appends-nil a) w refl
 run_front a b text false w = front_more a a b [] text [] (text ++ []) (Appends-nil a) w refl
 
 -- the same of the output of bytes that mean this script

@@ -1,3 +1,7 @@
+pub mod MadeSteps
+pub mod MadeNames
+pub mod MadeFormats
+mod MadeExamples
 pub mod Playing
 pub mod Writing
 pub mod Stepping

@@ -1,6 +1,6 @@
 -- A run is played and recorded.
-use Rattle.std.proofs.Common.{◌≡◌, ℕ, true, false, List, [], ◌∷◌, ap, sym, refl, inl, inr}
-use Rattle.std.specs.Prelude.{◌⊎◌, Result, Ok, Err, is_err}
+use Rattle.std.proofs.Common.{◌≡◌, ℕ, true, false, List, [], ◌∷◌, ap, sym, refl}
+use Rattle.std.specs.Prelude.{Result, Ok, Err, is_err}
 use Prim.{⊥}
 use Rattle.std.specs.Global.{Vec}
 use Rattle.std.proofs.Math.Path.{subst}
@@ -17,7 +17,9 @@ use Rattle.event_world.specs.declared.event_log.EventLog.{EventLog}
 use Rattle.event_world.specs.declared.event_world.EventWorld.{EventWorld}
 use Rattle.play_script.specs.declared.fault.ScriptFault.{ScriptFault}
 use Rattle.play_script.specs.declared.script_line.ScriptLine.{ScriptLine}
-use Rattle.play_script.specs.Script.{Contents, no_memory}
+use Rattle.play_script.specs.Script.{Contents, IsReading}
+use Rattle.play_script.specs.declared.fault.ScriptRefusal.{ScriptRefusal}
+use Rattle.play_script.specs.declared.fault.ScriptRefusal.TheVariants as refusals
 use Rattle.input_commands.specs.declared.stop.Stop.{Stop}
 use Rattle.input_commands.specs.declared.stop.Stop.TheVariants.{NotACommand, TooLong, TextTooLong, RecordTooLong, Faulty, Unread, Unwritten, TranscriptFull, InstancesFull, NoMemory}
 use Rattle.input_commands.specs.Ends.{IsFaultStop}
@@ -36,20 +38,20 @@ faulty_alone : (shelves : List (List (Text × ℕ))) (meant : Result Contents Sc
 faulty_alone shelves meant fault stop e h =
     subst (λ m. Records (record_of_script shelves m) (Err stop)) (sym e) (record { ends = tt; text = tt; stops = h })
 
-pub fault_recorded : (shelves : List (List (Text × ℕ))) (meant : Result Contents ScriptFault) (fault : ScriptFault) (stop : Stop) →
-    (fault ≡ no_memory) ⊎ (meant ≡ Err fault) → IsFaultStop fault stop → Records (record_of_script shelves meant) (Err stop)
-fault_recorded shelves meant fault NotACommand read h = absurd h
-fault_recorded shelves meant fault TooLong read h = absurd h
-fault_recorded shelves meant fault TextTooLong read h = absurd h
-fault_recorded shelves meant fault RecordTooLong read h = absurd h
-fault_recorded shelves meant fault (Faulty line) (inl none) h = absurd (h.1 none)
-fault_recorded shelves meant fault (Faulty line) (inr e) h =
-    faulty_alone shelves meant fault (Faulty line) e (record { status_is = refl; lines_are = refl; last_is = sym h.0 })
-fault_recorded shelves meant fault Unread read h = absurd h
-fault_recorded shelves meant fault Unwritten read h = absurd h
-fault_recorded shelves meant fault TranscriptFull read h = absurd h
-fault_recorded shelves meant fault InstancesFull read h = absurd h
-fault_recorded shelves meant fault NoMemory read h = record { ends = tt; text = tt; stops = tt }
+pub fault_recorded : (shelves : List (List (Text × ℕ))) (meant : Result Contents ScriptFault) (refusal : ScriptRefusal) (stop : Stop) →
+    IsReading {X = Contents} (Err refusal) meant → IsFaultStop refusal stop → Records (record_of_script shelves meant) (Err stop)
+fault_recorded shelves meant refusal NotACommand read h = absurd h
+fault_recorded shelves meant refusal TooLong read h = absurd h
+fault_recorded shelves meant refusal TextTooLong read h = absurd h
+fault_recorded shelves meant refusal RecordTooLong read h = absurd h
+fault_recorded shelves meant (refusals.Faulty fault) (Faulty line) e h =
+    faulty_alone shelves meant fault (Faulty line) e (record { status_is = refl; lines_are = refl; last_is = sym h })
+fault_recorded shelves meant refusals.NoMemory (Faulty line) read h = absurd h
+fault_recorded shelves meant refusal Unread read h = absurd h
+fault_recorded shelves meant refusal Unwritten read h = absurd h
+fault_recorded shelves meant refusal TranscriptFull read h = absurd h
+fault_recorded shelves meant refusal InstancesFull read h = absurd h
+fault_recorded shelves meant refusal NoMemory read h = record { ends = tt; text = tt; stops = tt }
 
 pub script_recorded : (shelves : List (List (Text × ℕ))) (meant : Result Contents ScriptFault) (script : Contents) (result : Result (Vec ℕ) Stop) →
     meant ≡ Ok script → Records (record_of_script shelves (Ok script)) result → Records (record_of_script shelves meant) result

@@ -14,7 +14,7 @@ use Rattle.event_world.specs.Runs.{EventRun}
 use Rattle.event_world.specs.Standing.{StandsFor}
 use Rattle.event_world.specs.declared.event_world.EventWorld.{EventWorld}
 use Rattle.play_script.specs.declared.script_line.ScriptLine.{ScriptLine}
-use Rattle.page_maker.specs.Making.{generated}
+use Rattle.input_commands.specs.Making.{generated}
 use Rattle.input_commands.specs.declared.stop.Stop.{Stop}
 use Rattle.input_commands.specs.Playing.{page_played, perform, script_played, stage_on}
 use Rattle.input_commands.specs.Standing.{IsAt}

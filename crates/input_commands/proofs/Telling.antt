@@ -7,6 +7,7 @@ use Rattle.std.proofs.Math.Path.{subst}
 use Rattle.hmr_base.specs.Causes.{Rose}
 use Rattle.hmr_base.specs.Fronts.{WritesFront}
 use Rattle.hmr_base.proofs.Fronts.{front_all}
+use Rattle.command_ends.specs.Ends.{number}
 use Rattle.command_words.specs.declared.command.Command.{Command}
 use Rattle.command_words.specs.Words.{usage_line}
 use Rattle.input_commands.specs.declared.stop.Stop.{Stop}
@@ -89,7 +90,7 @@ output_by : (o : Output) (a b c : Option (List ℕ)) (before between now : ℕ) 
     → OnOk ended (Finishes o a b) → WritesFront a b (whole o) → IfErr ended (StopsAt o a b)
     → WritesFront b c (last_of ended) → ((Rose between now → ⊥) → Appends b c (last_of ended))
     → (IsSilent ended → b ≡ c) → before ≤ between
-    → WritesOutput (Some o) a c before now (status_of ended)
+    → WritesOutput (Some o) a c before now (number (status_of ended))
 output_by o a b c before between now (Ok u) done front stops line all silent later =
     writes_all o a b c before now done (silent tt)
 output_by o a b c before between now (Err NotACommand) done front stops line all silent later =
@@ -119,14 +120,14 @@ pub writes_output : (told : Option Output) (a b c : Option (List ℕ)) (before b
     → IfErr ended (λ stop. IfSome told (λ o. StopsAt o a b stop))
     → WritesFront b c (last_of ended) → ((Rose between now → ⊥) → Appends b c (last_of ended))
     → (IsSilent ended → b ≡ c) → before ≤ between
-    → WritesOutput told a c before now (status_of ended)
+    → WritesOutput told a c before now (number (status_of ended))
 writes_output None a b c before between now ended done front stops line all silent later =
-    nothing_written a c before now (status_of ended)
+    nothing_written a c before now (number (status_of ended))
 writes_output (Some o) a b c before between now ended done front stops line all silent later =
     output_by o a b c before between now ended done front stops line all silent later
 
 complete_by : (o : Output) (a b : Option (List ℕ)) (ended : End) → OnOk ended (Finishes o a b)
-    → IfErr ended (StopsAt o a b) → IsComplete (Some o) (status_of ended)
+    → IfErr ended (StopsAt o a b) → IsComplete (Some o) (number (status_of ended))
 complete_by o a b (Ok u) done stops = record {
   done = λ e. inl refl;
   faults = λ e. absurd (omega (arith, e, done.status_is));
@@ -186,8 +187,8 @@ complete_by o a b (Err NoMemory) done stops = record {
 -- which status an output has
 pub is_complete : (told : Option Output) (a b : Option (List ℕ)) (ended : End)
     → OnOk ended (IfSome told (λ o. Finishes o a b))
-    → IfErr ended (λ stop. IfSome told (λ o. StopsAt o a b stop)) → IsComplete told (status_of ended)
-is_complete None a b ended done stops = nothing_complete (status_of ended)
+    → IfErr ended (λ stop. IfSome told (λ o. StopsAt o a b stop)) → IsComplete told (number (status_of ended))
+is_complete None a b ended done stops = nothing_complete (number (status_of ended))
 is_complete (Some o) a b ended done stops = complete_by o a b ended done stops
 
 -- the words are a command, or there is no memory for them
@@ -205,7 +206,7 @@ pub answers_words : (command : Option Command) (a b c : Option (List ℕ)) (befo
     → (ended ≡ Err NotACommand → command ≡ None) → (command ≡ None → EndsAtWords ended)
     → (ended ≡ Err NotACommand → b ≡ a) → WritesFront b c (last_of ended)
     → ((Rose between now → ⊥) → Appends b c (last_of ended)) → before ≤ between
-    → AnswersWords command a c before now (status_of ended)
+    → AnswersWords command a c before now (number (status_of ended))
 answers_words command a b c before between now (Ok u) words none same line all later =
     words_else command 0 a c before now (λ s. omega (arith, s)) (λ is. absurd (none is))
 answers_words command a b c before between now (Err NotACommand) words none same line all later = record {
@@ -249,7 +250,7 @@ pub reads_input_so : (command : Option Command) (left : Option (List ℕ)) (befo
     (a b c : Option (List ℕ)) (ended : End)
     → OnOk ended (reads_input command ≡ true → IsAtEnd left) → (ended ≡ Err Unread → Rose before now)
     → (ended ≡ Err Unread → Keeps a b) → (ended ≡ Err Unread → reads_input command ≡ true)
-    → (IsSilent ended → b ≡ c) → ReadsInput command left before now a c (status_of ended)
+    → (IsSilent ended → b ≡ c) → ReadsInput command left before now a c (number (status_of ended))
 reads_input_so command left before now a b c (Ok u) end unread keeps reads silent =
     reads_else command 0 left before now a c (λ s. omega (arith, s)) (λ s. end)
 reads_input_so command left before now a b c (Err NotACommand) end unread keeps reads silent =

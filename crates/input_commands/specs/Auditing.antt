@@ -1,13 +1,14 @@
 -- What `audit` tells of a record.
 use Rattle.std.specs.Prelude.{ℕ, List, ◌++◌, codes, decimal}
+use Rattle.command_ends.specs.declared.limit.TheConstants.{RECORD_BYTES}
 use Rattle.record_laws.specs.declared.verdict.Verdict.{Verdict}
 use Rattle.record_laws.specs.declared.verdict.Verdict.TheVariants.{Yes, No}
 use Rattle.record_laws.specs.declared.verdict.Why.{Why}
 use Rattle.record_laws.specs.declared.verdict.Why.TheVariants.{BadLine, Roots, Reply, Rest, Limit}
 
--- the most bytes of a record that is read: 256 MiB
+-- the most bytes of a record that is read
 abbrev pub record_bytes : ℕ
-record_bytes = 268_435_456
+record_bytes = RECORD_BYTES
 
 -- the word for what is wrong with a line
 abbrev pub why_word : Why → List ℕ

@@ -7,21 +7,23 @@ use Rattle.hmr_base.specs.declared.read.ReadFault.{ReadFault}
 use Rattle.hmr_base.specs.declared.read.ReadFault.TheVariants as reading
 use Rattle.core_model.specs.Names.{Name}
 use Rattle.core_model.specs.Roots.{are_distinct}
+use Rattle.command_ends.specs.Ends.{limit_line, number}
+use Rattle.command_ends.specs.declared.limit.Limit.{Limit}
+use Rattle.command_ends.specs.declared.limit.Limit.TheVariants as limits
+use Rattle.command_ends.specs.declared.status.Status.{Status}
+use Rattle.command_ends.specs.declared.status.Status.TheVariants as statuses
 use Rattle.command_words.specs.declared.command.WordsFault.{WordsFault}
 use Rattle.command_words.specs.declared.command.WordsFault.TheVariants as words
 use Rattle.command_words.specs.Words.{usage_line}
-use Rattle.text_check.specs.Checking.{limit_line}
 use Rattle.hmr_world.specs.declared.stop.WorldStop.{WorldStop}
 use Rattle.hmr_world.specs.declared.stop.WorldStop.TheVariants as worlds
-use Rattle.play_script.specs.declared.fault.ScriptFault.{ScriptFault}
-use Rattle.play_script.specs.Script.{no_memory}
+use Rattle.play_script.specs.declared.fault.ScriptRefusal.{ScriptRefusal}
+use Rattle.play_script.specs.declared.fault.ScriptRefusal.TheVariants as refusals
 use Rattle.input_commands.specs.declared.stop.Stop.{Stop}
 use Rattle.input_commands.specs.declared.stop.Stop.TheVariants.{NotACommand, TooLong, TextTooLong, Faulty}
 use Rattle.input_commands.specs.declared.stop.Stop.TheVariants.{RecordTooLong, Unread, Unwritten}
 use Rattle.input_commands.specs.declared.stop.Stop.TheVariants.{TranscriptFull, InstancesFull, NoMemory}
-use Rattle.input_commands.specs.Outputs.{Output, fault_line, whole, input_limit, instances_limit}
-use Rattle.input_commands.specs.Outputs.{record_limit}
-use Rattle.input_commands.specs.Recording.{transcript_limit}
+use Rattle.input_commands.specs.Outputs.{Output, fault_line, whole}
 
 -- the stop for words that weren't read
 abbrev pub stop_of_words : WordsFault → Stop
@@ -58,7 +60,7 @@ pub record AreFew (roots : List Name) : Type 0 where
 
 -- the output has no last line, and all of it is written
 pub record Finishes (o : Output) (old new : Option (List ℕ)) : Type 0 where
-  pub status_is : o.status ≡ 0
+  pub status_is : o.status ≡ number statuses.Done
   pub out : Appends old new (whole o)
 
 -- the output has this last line, and all before it is written
@@ -67,18 +69,23 @@ pub record EndsBefore (o : Output) (status : ℕ) (last : List ℕ) (old new : O
   pub last_is : o.last ≡ last
   pub out : Appends old new o.lines
 
+-- the last line is that of a limit
+abbrev pub EndsAtLimit : Output → Limit → Option (List ℕ) → Option (List ℕ) → Type 0
+EndsAtLimit o limit old new = EndsBefore o (number statuses.Limit) (limit_line limit) old new
+
 -- what a stop says: of words, of a limit and of a fault, that the output is so; of the input and the output,
 -- how much is written, and that the output isn't of those that come before them
 abbrev pub StopsAt : Output → Option (List ℕ) → Option (List ℕ) → Stop → Type 0
-StopsAt o old new NotACommand = EndsBefore o 2 usage_line old new
-StopsAt o old new TooLong = EndsBefore o 8 input_limit old new
-StopsAt o old new TextTooLong = EndsBefore o 8 limit_line old new
-StopsAt o old new RecordTooLong = EndsBefore o 8 record_limit old new
-StopsAt o old new (Faulty line) = EndsBefore o 3 line.items old new
-StopsAt o old new Unread = Keeps old new × (o.status ≡ 2 → ⊥)
-StopsAt o old new Unwritten = (o.status ≡ 2 → ⊥) × (o.status ≡ 3 → ⊥)
-StopsAt o old new TranscriptFull = EndsBefore o 8 transcript_limit old new
-StopsAt o old new InstancesFull = EndsBefore o 8 instances_limit old new
+StopsAt o old new NotACommand = EndsBefore o (number statuses.NotACommand) usage_line old new
+StopsAt o old new TooLong = EndsAtLimit o limits.Script old new
+StopsAt o old new TextTooLong = EndsAtLimit o limits.Text old new
+StopsAt o old new RecordTooLong = EndsAtLimit o limits.Record old new
+StopsAt o old new (Faulty line) = EndsBefore o (number statuses.NoScript) line.items old new
+StopsAt o old new Unread = Keeps old new × (o.status ≡ number statuses.NotACommand → ⊥)
+StopsAt o old new Unwritten =
+    (o.status ≡ number statuses.NotACommand → ⊥) × (o.status ≡ number statuses.NoScript → ⊥)
+StopsAt o old new TranscriptFull = EndsAtLimit o limits.Transcript old new
+StopsAt o old new InstancesFull = EndsAtLimit o limits.Instances old new
 StopsAt o old new NoMemory = ⊤
 
 -- words that are no command end so, or memory ran out
@@ -95,45 +102,50 @@ EndsAtWords (Err TranscriptFull) = ⊥
 EndsAtWords (Err InstancesFull) = ⊥
 EndsAtWords (Err NoMemory) = ⊤
 
--- the stop for a script's fault: its line, or want of memory
-abbrev pub IsFaultStop : ScriptFault → Stop → Type 0
-IsFaultStop fault NotACommand = ⊥
-IsFaultStop fault TooLong = ⊥
-IsFaultStop fault TextTooLong = ⊥
-IsFaultStop fault RecordTooLong = ⊥
-IsFaultStop fault (Faulty line) = (line.items ≡ fault_line fault) × (fault ≡ no_memory → ⊥)
-IsFaultStop fault Unread = ⊥
-IsFaultStop fault Unwritten = ⊥
-IsFaultStop fault TranscriptFull = ⊥
-IsFaultStop fault InstancesFull = ⊥
-IsFaultStop fault NoMemory = ⊤
+-- the line of a script's fault; where memory ran out there is none
+abbrev pub IsFaultLine : ScriptRefusal → List ℕ → Type 0
+IsFaultLine (refusals.Faulty fault) line = line ≡ fault_line fault
+IsFaultLine refusals.NoMemory line = ⊥
+
+-- the stop where a script isn't read: the line of its fault, or that memory ran out
+abbrev pub IsFaultStop : ScriptRefusal → Stop → Type 0
+IsFaultStop refusal NotACommand = ⊥
+IsFaultStop refusal TooLong = ⊥
+IsFaultStop refusal TextTooLong = ⊥
+IsFaultStop refusal RecordTooLong = ⊥
+IsFaultStop refusal (Faulty line) = IsFaultLine refusal line.items
+IsFaultStop refusal Unread = ⊥
+IsFaultStop refusal Unwritten = ⊥
+IsFaultStop refusal TranscriptFull = ⊥
+IsFaultStop refusal InstancesFull = ⊥
+IsFaultStop refusal NoMemory = ⊤
 
 -- the exit status of an end
-abbrev pub status_of : Result (Unit {0}) Stop → ℕ
-status_of (Ok u) = 0
-status_of (Err NotACommand) = 2
-status_of (Err TooLong) = 8
-status_of (Err TextTooLong) = 8
-status_of (Err RecordTooLong) = 8
-status_of (Err (Faulty line)) = 3
-status_of (Err Unread) = 4
-status_of (Err Unwritten) = 5
-status_of (Err TranscriptFull) = 8
-status_of (Err InstancesFull) = 8
-status_of (Err NoMemory) = 9
+abbrev pub status_of : Result (Unit {0}) Stop → Status
+status_of (Ok u) = statuses.Done
+status_of (Err NotACommand) = statuses.NotACommand
+status_of (Err TooLong) = statuses.Limit
+status_of (Err TextTooLong) = statuses.Limit
+status_of (Err RecordTooLong) = statuses.Limit
+status_of (Err (Faulty line)) = statuses.NoScript
+status_of (Err Unread) = statuses.Unread
+status_of (Err Unwritten) = statuses.Unwritten
+status_of (Err TranscriptFull) = statuses.Limit
+status_of (Err InstancesFull) = statuses.Limit
+status_of (Err NoMemory) = statuses.NoMemory
 
 -- the line that is written at an end
 abbrev pub last_of : Result (Unit {0}) Stop → List ℕ
 last_of (Ok u) = []
 last_of (Err NotACommand) = usage_line
-last_of (Err TooLong) = input_limit
-last_of (Err TextTooLong) = limit_line
-last_of (Err RecordTooLong) = record_limit
+last_of (Err TooLong) = limit_line limits.Script
+last_of (Err TextTooLong) = limit_line limits.Text
+last_of (Err RecordTooLong) = limit_line limits.Record
 last_of (Err (Faulty line)) = line.items
 last_of (Err Unread) = []
 last_of (Err Unwritten) = []
-last_of (Err TranscriptFull) = transcript_limit
-last_of (Err InstancesFull) = instances_limit
+last_of (Err TranscriptFull) = limit_line limits.Transcript
+last_of (Err InstancesFull) = limit_line limits.Instances
 last_of (Err NoMemory) = []
 
 -- the ends without a line

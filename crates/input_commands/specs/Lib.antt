@@ -1,3 +1,6 @@
+pub mod Checking
+pub mod Making
+pub mod Summary
 pub mod Playing
 pub mod Instances
 pub mod Auditing

@@ -15,34 +15,26 @@ use Rattle.event_world.specs.Playing.{Played}
 use Rattle.play_script.specs.declared.fault.ScriptFault.{ScriptFault}
 use Rattle.play_script.specs.Script.{Contents, kind_word, script_of}
 use Rattle.play_text.specs.Lines.{line_text}
+use Rattle.command_ends.specs.Ends.{limit_line, number}
+use Rattle.command_ends.specs.declared.limit.Limit.{Limit}
+use Rattle.command_ends.specs.declared.limit.Limit.TheVariants as limits
+use Rattle.command_ends.specs.declared.status.Status.TheVariants as statuses
 use Rattle.command_words.specs.declared.command.Command.{Command}
 use Rattle.command_words.specs.declared.command.Command.TheVariants as commands
 use Rattle.command_words.specs.Words.{command_of, usage_line}
-use Rattle.text_check.specs.Checking.{limit_line, report}
-use Rattle.page_maker.specs.Making.{generated}
-use Rattle.page_maker.specs.Summary.{summary}
+use Rattle.input_commands.specs.Checking.{report}
+use Rattle.input_commands.specs.Making.{generated}
+use Rattle.input_commands.specs.Summary.{summary}
 use Rattle.record_laws.specs.Course.{verdict_of}
 use Rattle.input_commands.specs.Auditing.{record_bytes, verdict_line}
 use Rattle.input_commands.specs.Instances.{first_made}
 use Rattle.input_commands.specs.Playing.{script_played, stage_on}
-use Rattle.input_commands.specs.Recording.{events_of, events_text, transcript_limit}
+use Rattle.input_commands.specs.Recording.{events_of, events_text}
 
 -- the line for an input that is no script
 abbrev pub fault_line : ScriptFault → List ℕ
 fault_line fault =
     codes "script fault at line " ++ decimal fault.line ++ codes ": " ++ kind_word fault.kind ++ codes "\n"
-
--- the line for a script of too many bytes
-abbrev pub input_limit : List ℕ
-input_limit = codes "limit input 16777216\n"
-
--- the line for a record of too many bytes
-abbrev pub record_limit : List ℕ
-record_limit = codes "limit input 268435456\n"
-
--- the line where a client would make too many instances
-abbrev pub instances_limit : List ℕ
-instances_limit = codes "limit instances 20000\n"
 
 -- what there is to write: the status that it comes with, the text of the lines that the command makes, and
 -- the line behind them, of the fault or the limit, where there is one
@@ -51,14 +43,26 @@ pub record Output : Type 0 where
   pub lines : List ℕ
   pub last : List ℕ
 
+-- these lines, and all is done
+abbrev pub finished : List ℕ → Output
+finished text = record { status = number statuses.Done; lines = text; last = [] }
+
+-- these lines, and behind them the line of a limit
+abbrev pub at_limit : Limit → List ℕ → Output
+at_limit limit text = record { status = number statuses.Limit; lines = text; last = limit_line limit }
+
+-- the line of a script's fault alone
+abbrev pub at_fault : ScriptFault → Output
+at_fault fault = record { status = number statuses.NoScript; lines = []; last = fault_line fault }
+
 -- the bytes of lines
 abbrev pub lines_text : List OutLine → List ℕ
 lines_text lines = flat_map line_text lines
 
 -- the output of a run that came to its end, or didn't
 abbrev pub ended : Bool → List ℕ → Output
-ended false text = record { status = 0; lines = text; last = [] }
-ended true text = record { status = 8; lines = text; last = instances_limit }
+ended false text = finished text
+ended true text = at_limit limits.Instances text
 
 abbrev pub output_of_run : Played → Output
 output_of_run p = ended p.over (lines_text p.lines)
@@ -66,12 +70,12 @@ output_of_run p = ended p.over (lines_text p.lines)
 -- the output of a script, or of its first fault
 abbrev pub output_of_script : List (List (Text × ℕ)) → Result Contents ScriptFault → Output
 output_of_script shelves (Ok script) = output_of_run (script_played shelves script)
-output_of_script shelves (Err fault) = record { status = 3; lines = []; last = fault_line fault }
+output_of_script shelves (Err fault) = at_fault fault
 
 -- the output of an input of at most so many bytes, or of more
 abbrev pub output_within : List (List (Text × ℕ)) → List ℕ → Bool → Output
 output_within shelves bytes true = output_of_script shelves (script_of bytes)
-output_within shelves bytes false = record { status = 8; lines = []; last = input_limit }
+output_within shelves bytes false = at_limit limits.Script []
 
 -- the output of `play`: the lines of the script that the input is
 abbrev pub output_of_play : List (List (Text × ℕ)) → List ℕ → Output
@@ -79,8 +83,8 @@ output_of_play shelves bytes = output_within shelves bytes (nat_le (length bytes
 
 -- the output of a check of a text of at most so many bytes, or of more
 abbrev pub check_within : Name → List ℕ → Bool → Output
-check_within name text true = record { status = 0; lines = report name text; last = [] }
-check_within name text false = record { status = 8; lines = []; last = limit_line }
+check_within name text true = finished (report name text)
+check_within name text false = at_limit limits.Text []
 
 -- the output of `check`: the report of the module text that the input is
 abbrev pub output_of_check : Name → List ℕ → Output
@@ -88,8 +92,8 @@ output_of_check name text = check_within name text (nat_le (length text) TEXT_BY
 
 -- the output of a generated run that came to its end, or didn't: its summary, or the limit alone
 abbrev pub summed_up : Bool → List ℕ → Output
-summed_up false text = record { status = 0; lines = text; last = [] }
-summed_up true text = record { status = 8; lines = []; last = instances_limit }
+summed_up false text = finished text
+summed_up true text = at_limit limits.Instances []
 
 abbrev pub summary_of_run : Stage → ℕ → Played → Output
 summary_of_run stage count p = summed_up p.over (summary count (first_made stage p) p.lines)
@@ -102,8 +106,8 @@ output_of_make shelves count seed =
 
 -- the output of an audit of at most so many bytes, or of more
 abbrev pub audit_within : List ℕ → Bool → Output
-audit_within bytes true = record { status = 0; lines = verdict_line (verdict_of bytes); last = [] }
-audit_within bytes false = record { status = 8; lines = []; last = record_limit }
+audit_within bytes true = finished (verdict_line (verdict_of bytes))
+audit_within bytes false = at_limit limits.Record []
 
 -- the output of `audit`: the verdict on the bytes of the input
 abbrev pub output_of_audit : List ℕ → Output
@@ -112,9 +116,9 @@ output_of_audit bytes = audit_within bytes (nat_le (length bytes) record_bytes)
 -- the output of a run whose events have places in a transcript or not, and that came to its end or didn't:
 -- their record, or a limit alone
 abbrev pub recorded : Bool → Bool → List Name → List Event → Output
-recorded true false roots events = record { status = 0; lines = events_text roots events; last = [] }
-recorded true true roots events = record { status = 8; lines = []; last = instances_limit }
-recorded false over roots events = record { status = 8; lines = []; last = transcript_limit }
+recorded true false roots events = finished (events_text roots events)
+recorded true true roots events = at_limit limits.Instances []
+recorded false over roots events = at_limit limits.Transcript []
 
 abbrev pub record_of_run : Stage → Played → Output
 record_of_run stage p =
@@ -125,12 +129,12 @@ record_of_run stage p =
 abbrev pub record_of_script : List (List (Text × ℕ)) → Result Contents ScriptFault → Output
 record_of_script shelves (Ok script) =
     record_of_run (stage_on shelves script.roots) (script_played shelves script)
-record_of_script shelves (Err fault) = record { status = 3; lines = []; last = fault_line fault }
+record_of_script shelves (Err fault) = at_fault fault
 
 -- the record of an input of at most so many bytes, or of more
 abbrev pub record_within : List (List (Text × ℕ)) → List ℕ → Bool → Output
 record_within shelves bytes true = record_of_script shelves (script_of bytes)
-record_within shelves bytes false = record { status = 8; lines = []; last = input_limit }
+record_within shelves bytes false = at_limit limits.Script []
 
 -- the output of `record`: the record of the run of the script that the input is
 abbrev pub output_of_record : List (List (Text × ℕ)) → List ℕ → Output
@@ -138,7 +142,7 @@ output_of_record shelves bytes = record_within shelves bytes (nat_le (length byt
 
 -- the output where the words are no command
 abbrev pub usage : Output
-usage = record { status = 2; lines = []; last = usage_line }
+usage = record { status = number statuses.NotACommand; lines = []; last = usage_line }
 
 -- the output of a command, or of none, where the input tells the bytes that it reads and each client's
 -- embedding program has these closures. What `serve` and `join` write hangs on others: it is told apart.

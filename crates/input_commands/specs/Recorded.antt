@@ -9,12 +9,15 @@ use Rattle.event_world.specs.Logs.{IsLogOf}
 use Rattle.event_world.specs.Playing.{Played}
 use Rattle.event_world.specs.declared.event_log.EventLog.{EventLog}
 use Rattle.event_world.specs.declared.event_world.EventWorld.{EventWorld}
+use Rattle.command_ends.specs.Ends.{limit_line, number}
+use Rattle.command_ends.specs.declared.limit.Limit.TheVariants as limits
+use Rattle.command_ends.specs.declared.status.Status.TheVariants as statuses
 use Rattle.input_commands.specs.declared.stop.Stop.{Stop}
 use Rattle.input_commands.specs.declared.stop.Stop.TheVariants.{NotACommand, TooLong, TextTooLong, Faulty}
 use Rattle.input_commands.specs.declared.stop.Stop.TheVariants.{RecordTooLong, Unread, Unwritten}
 use Rattle.input_commands.specs.declared.stop.Stop.TheVariants.{TranscriptFull, InstancesFull, NoMemory}
-use Rattle.input_commands.specs.Outputs.{Output, instances_limit, whole}
-use Rattle.input_commands.specs.Recording.{events_of, transcript_limit}
+use Rattle.input_commands.specs.Outputs.{Output, whole}
+use Rattle.input_commands.specs.Recording.{events_of}
 use Rattle.input_commands.specs.Standing.{IsAt}
 
 -- A part of a script ended so, and the log is that of what the core was told in it.
@@ -54,15 +57,15 @@ IsRecordStop o NotACommand = ⊥
 IsRecordStop o TooLong = ⊥
 IsRecordStop o TextTooLong = ⊥
 IsRecordStop o RecordTooLong = ⊥
-IsRecordStop o (Faulty line) = IsAlone o 3 line.items
+IsRecordStop o (Faulty line) = IsAlone o (number statuses.NoScript) line.items
 IsRecordStop o Unread = ⊥
 IsRecordStop o Unwritten = ⊥
-IsRecordStop o TranscriptFull = IsAlone o 8 transcript_limit
-IsRecordStop o InstancesFull = IsAlone o 8 instances_limit
+IsRecordStop o TranscriptFull = IsAlone o (number statuses.Limit) (limit_line limits.Transcript)
+IsRecordStop o InstancesFull = IsAlone o (number statuses.Limit) (limit_line limits.Instances)
 IsRecordStop o NoMemory = ⊤
 
 -- The text is the whole output; or this is a fault or a limit alone, or memory ran out.
 pub record Records (o : Output) (result : Result (Vec ℕ) Stop) : Type 0 where
-  pub ends : OnOk result (o.status ≡ 0)
+  pub ends : OnOk result (o.status ≡ number statuses.Done)
   pub text : IfOk result (λ text. text.items ≡ whole o)
   pub stops : IfErr result (λ stop. IsRecordStop o stop)

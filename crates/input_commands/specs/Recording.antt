@@ -1,5 +1,5 @@
 -- What `record` writes of a run: the record of the events that the core was told.
-use Rattle.std.specs.Prelude.{ℕ, List, codes}
+use Rattle.std.specs.Prelude.{ℕ, List}
 use Rattle.core_model.specs.Core.{Event}
 use Rattle.world_model.specs.Playing.{Stage}
 use Rattle.event_world.specs.Logs.{core_events}
@@ -7,10 +7,6 @@ use Rattle.event_world.specs.Playing.{Played}
 use Rattle.core_model.specs.Names.{Name}
 use Rattle.record_laws.specs.Written.{record_told}
 use Rattle.record_text.specs.Texts.{record_text}
-
--- the line where the events have no places in a transcript
-abbrev pub transcript_limit : List ℕ
-transcript_limit = codes "limit transcript 1000000\n"
 
 -- the events that the core is told in a part of a script, also in a step that ends the run
 abbrev pub events_of : Stage → Played → List Event

@@ -3,7 +3,7 @@ use Rattle.std.specs.Prelude.{◌≡◌, ℕ, true, false, Result, IfErr, IfOk, 
 use Rattle.std.specs.Global.{Vec}
 use Rattle.world_model.specs.Playing.{Stage}
 use Rattle.event_world.specs.Playing.{Played}
-use Rattle.page_maker.specs.Summary.{summary}
+use Rattle.input_commands.specs.Summary.{summary}
 use Rattle.input_commands.specs.declared.stop.Stop.{Stop}
 use Rattle.input_commands.specs.declared.stop.Stop.TheVariants.{InstancesFull}
 use Rattle.input_commands.specs.Instances.{first_made}

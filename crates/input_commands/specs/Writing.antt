@@ -79,7 +79,7 @@ pub record Plays {F : Type 0} (stage : Stage) (old new : Taken) (part : Played)
   pub state : OnOk result (IsAt stage part.course after)
   pub stopped : IsErrOf result InstancesFull → LogsAt stage part.course after
 
--- writing stops only at the output or for want of memory
+-- writing stops only at the output or where memory ran out
 abbrev pub IsWriteStop : Stop → Type 0
 IsWriteStop NotACommand = ⊥
 IsWriteStop TooLong = ⊥
@@ -105,7 +105,7 @@ IsPlayStop TranscriptFull = ⊥
 IsPlayStop InstancesFull = ⊤
 IsPlayStop NoMemory = ⊤
 
--- where nothing is written, it stops only there or for want of memory
+-- where nothing is written, it stops only there or where memory ran out
 abbrev pub IsKeepStop : Stop → Type 0
 IsKeepStop NotACommand = ⊥
 IsKeepStop TooLong = ⊥

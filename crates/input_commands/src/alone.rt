@@ -6,6 +6,7 @@ ghost use Rattle.handler_table.specs.Shelf.{marks_of};
 ghost use Rattle.hmr_base.specs.Causes.{Rose};
 ghost use Rattle.hmr_base.specs.Fronts.{WritesFront};
 ghost use Rattle.hmr_world.specs.Shelves.{AreHosts};
+ghost use Rattle.command_ends.specs.Ends.{limit_line, number};
 ghost use Rattle.command_words.specs.Words.{Gives, HasRanges, command_of};
 ghost use Rattle.input_commands.specs.declared.stop.Stop.TheVariants.{NotACommand, Unread, Unwritten};
 ghost use Rattle.input_commands.specs.Ends.{EndsAtWords, Finishes, IsSilent, StopsAt, last_of, status_of};
@@ -17,15 +18,15 @@ use crate::check::check;
 use crate::make::make;
 use crate::record::record;
 use crate::script::play;
-use crate::shelves::discard;
 use crate::stop::Stop;
+use command_ends::{Limit, Status};
 use command_words::{Command, WordsFault, usage};
 use const_eval::Ran;
 use handler_table::Shelf;
 use hmr_base::{Sink, Source, write_all};
+use hmr_world::discard;
 use retained_data::Bag;
 use std::alloc::{AllocError, Global};
-use text_check::limit_line;
 
 /// Carries out `play`, `check`, `make`, `record` or `audit`, for words that were read so, and writes the line
 /// of what ended it before its end: of the words, of a fault, or of a limit. It answers the exit status; what
@@ -65,54 +66,51 @@ pub fn run_alone<F: FnOnce(Bag) -> Result<Ran, AllocError> + Drop, S: Source, K:
     ensures unwritten { result ≡ 5 → Rose (K.faults out.old) (K.faults out.new) }
 {
     let ended = carry_out(alloc, words, read, input, out, shelves);
-    tell_end(ended, out)
+    tell_end(ended, out).number()
 }
 
 // Writes the line of an end, and answers its exit status.
-fn tell_end<K: Sink>(ended: Result<(), Stop>, out: &mut K) -> u8
+fn tell_end<K: Sink>(ended: Result<(), Stop>, out: &mut K) -> Status
     ensures is { result ≡ status_of ended }
-    ensures known { IsOwnStatus result }
+    ensures known { IsOwnStatus (number result) }
     ensures front { WritesFront (K.written out.old) (K.written out.new) (last_of ended) }
     ensures whole { ¬ Rose (K.faults out.old) (K.faults out.new)
         → Appends (K.written out.old) (K.written out.new) (last_of ended) }
     ensures silent { IsSilent ended → out.new ≡ out.old }
-    ensures unwritten { result ≡ 5 → ended ≡ Err Stop.Unwritten }
+    ensures unwritten { number result ≡ 5 → ended ≡ Err Stop.Unwritten }
     ensures later { K.faults out.old ≤ K.faults out.new }
 {
     match ended {
-        Ok(()) => 0,
+        Ok(()) => Status::Done,
         Err(Stop::NotACommand) => {
             let _ = write_all(out, usage().as_bytes());
-            2
-        }
-        Err(Stop::TooLong) => {
-            let _ = write_all(out, b"limit input 16777216\n");
-            8
-        }
-        Err(Stop::TextTooLong) => {
-            let _ = write_all(out, limit_line().as_bytes());
-            8
-        }
-        Err(Stop::RecordTooLong) => {
-            let _ = write_all(out, b"limit input 268435456\n");
-            8
+            Status::NotACommand
         }
         Err(Stop::Faulty(line)) => {
             let _ = write_all(out, &line);
-            3
+            Status::NoScript
         }
-        Err(Stop::Unread) => 4,
-        Err(Stop::Unwritten) => 5,
-        Err(Stop::TranscriptFull) => {
-            let _ = write_all(out, b"limit transcript 1000000\n");
-            8
-        }
-        Err(Stop::InstancesFull) => {
-            let _ = write_all(out, b"limit instances 20000\n");
-            8
-        }
-        Err(Stop::NoMemory) => 9,
+        Err(Stop::TooLong) => tell_limit(Limit::Script, out),
+        Err(Stop::TextTooLong) => tell_limit(Limit::Text, out),
+        Err(Stop::RecordTooLong) => tell_limit(Limit::Record, out),
+        Err(Stop::TranscriptFull) => tell_limit(Limit::Transcript, out),
+        Err(Stop::InstancesFull) => tell_limit(Limit::Instances, out),
+        Err(Stop::Unread) => Status::Unread,
+        Err(Stop::Unwritten) => Status::Unwritten,
+        Err(Stop::NoMemory) => Status::NoMemory,
     }
+}
+
+// Writes the line of a limit, and answers the exit status of limits.
+fn tell_limit<K: Sink>(limit: Limit, out: &mut K) -> Status
+    ensures is { result ≡ Status.Limit }
+    ensures front { WritesFront (K.written out.old) (K.written out.new) (limit_line limit) }
+    ensures whole { ¬ Rose (K.faults out.old) (K.faults out.new)
+        → Appends (K.written out.old) (K.written out.new) (limit_line limit) }
+    ensures later { K.faults out.old ≤ K.faults out.new }
+{
+    let _ = write_all(out, limit.line().as_bytes());
+    Status::Limit
 }
 
 /// Carries out the command that the words are.

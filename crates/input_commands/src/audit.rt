@@ -10,12 +10,10 @@ ghost use Rattle.input_commands.specs.Ends.{Finishes, StopsAt, stop_of_record};
 ghost use Rattle.input_commands.specs.Outputs.{output_of_audit, whole};
 
 use crate::stop::Stop;
+use command_ends::RECORD_BYTES;
 use hmr_base::{ReadFault, Sink, Source, read_all, write_all};
 use record_laws::{Verdict, Why};
 use std::alloc::{AllocError, Global};
-
-// The most bytes of a record that is read: 256 MiB.
-const RECORD_BYTES: usize = 268_435_456;
 
 /// Reads a record, and writes the verdict on it. What there is to write for an input is the definition
 /// `output_of_audit`. Beside the record it takes what a core takes that is told its events.

@@ -1,20 +1,18 @@
 // The command `check`: a module text is read from the input, and its report is written.
-ghost use Rattle.std.specs.Prelude.{◌≡◌, ◌≢◌, ◌≤◌, IfErr, IfOk, IfSome, IsErrOf, OnOk, length};
+ghost use Rattle.std.specs.Prelude.{◌≡◌, ◌≢◌, ◌≤◌, IfErr, IfSome, IsErrOf, OnOk};
 ghost use Rattle.std.specs.Io.KnownBytes.{IsAtEnd, Keeps};
 ghost use Rattle.hmr_base.specs.Causes.{Rose};
 ghost use Rattle.hmr_base.specs.Fronts.{WritesFront};
-ghost use Rattle.hmr_types.specs.declared.limits.TheConstants.{TEXT_BYTES};
-ghost use Rattle.text_check.specs.Checking.{report};
 ghost use Rattle.input_commands.specs.declared.stop.Stop.TheVariants.{Unread, Unwritten};
 ghost use Rattle.input_commands.specs.Ends.{Finishes, StopsAt, stop_of_text};
 ghost use Rattle.input_commands.specs.Outputs.{output_of_check, whole};
 
 use crate::stop::Stop;
+use crate::text_report::report_of;
 use hmr_base::{ReadFault, Sink, Source, read_all, write_all};
 use hmr_types::ModName;
 use hmr_types::limits::TEXT_BYTES;
-use std::alloc::{AllocError, Global};
-use text_check::check_text;
+use std::alloc::Global;
 
 /// Reads a module text as that of the module `name`, and writes the report of its check. What there is to
 /// write for an input is the definition `output_of_check`.
@@ -49,14 +47,6 @@ pub fn check<S: Source, K: Sink>(
         }
         Err(fault) => Err(stop_of_text(fault)),
     }
-}
-
-/// The report of a text that isn't over the limit.
-fn report_of(alloc: Global, name: &ModName, text: &[u8]) -> Result<Vec<u8>, AllocError>
-    requires short { length text.now ≤ TEXT_BYTES }
-    ensures { IfOk result (λ bytes. bytes.items ≡ report name.now text.now) }
-{
-    Ok(check_text(alloc, name, text)?.report)
 }
 
 /// The stop for a module text that wasn't read.

@@ -28,7 +28,6 @@ ghost use Rattle.input_commands.specs.Standing.{IsAt};
 use crate::line_sink::DroppedLines;
 use crate::play::play_lines;
 use crate::script::stop_of_fault;
-use crate::shelves::discard;
 use crate::stop::Stop;
 use const_eval::Ran;
 use event_world::{EventLog, EventWorld};
@@ -36,7 +35,7 @@ use handler_table::Shelf;
 use hmr_base::{Sink, Source, read_all, write_all};
 use hmr_types::ModName;
 use hmr_types::limits::SCRIPT_BYTES;
-use hmr_world::World;
+use hmr_world::{World, discard};
 use module_graph::copy_of;
 use play_script::{Commands, Script, read_script};
 use retained_data::Bag;
@@ -148,9 +147,9 @@ fn record_of<F: FnOnce(Bag) -> Result<Ran, AllocError> + Drop>(
 {
     match read_script(alloc, bytes) {
         Ok(script) => record_script(alloc, &script, shelves),
-        Err(fault) => {
+        Err(refusal) => {
             discard(shelves);
-            Err(stop_of_fault(alloc, fault))
+            Err(stop_of_fault(alloc, refusal))
         }
     }
 }

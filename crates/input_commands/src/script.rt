@@ -18,16 +18,15 @@ ghost use Rattle.input_commands.specs.Standing.{IsAt};
 ghost use Rattle.input_commands.specs.Writing.{HasCause, IsPlayStop, Performs, written_as};
 
 use crate::play::play_lines;
-use crate::shelves::discard;
 use crate::stop::Stop;
 use const_eval::Ran;
 use event_world::EventWorld;
 use handler_table::Shelf;
 use hmr_base::{Sink, Source, read_all};
 use hmr_types::limits::SCRIPT_BYTES;
-use hmr_world::World;
+use hmr_world::{World, discard};
 use module_graph::copy_of;
-use play_script::{Commands, Script, ScriptFault, ScriptKind, read_script, script_word};
+use play_script::{Commands, Script, ScriptFault, ScriptRefusal, read_script, script_word};
 use retained_data::Bag;
 use server_core::NewFault;
 use std::alloc::{AllocError, Global};
@@ -96,9 +95,9 @@ fn play_bytes<F: FnOnce(Bag) -> Result<Ran, AllocError> + Drop, K: Sink>(
 {
     match read_script(alloc, bytes) {
         Ok(script) => play_script(alloc, &script, out, shelves),
-        Err(fault) => {
+        Err(refusal) => {
             discard(shelves);
-            Err(stop_of_fault(alloc, fault))
+            Err(stop_of_fault(alloc, refusal))
         }
     }
 }
@@ -158,16 +157,16 @@ fn play_on<F: FnOnce(Bag) -> Result<Ran, AllocError> + Drop, K: Sink>(
     played
 }
 
-/// The stop for a script's fault: its line, or that memory ran out.
-pub fn stop_of_fault(alloc: Global, fault: ScriptFault) -> Stop
-    ensures { IsFaultStop fault result }
+/// The stop where a script isn't read: the line of its fault, or that memory ran out.
+pub fn stop_of_fault(alloc: Global, refusal: ScriptRefusal) -> Stop
+    ensures { IsFaultStop refusal result }
 {
-    if fault.kind == ScriptKind::NoMemory {
-        return Stop::NoMemory;
-    }
-    match fault_line(alloc, fault) {
-        Ok(line) => Stop::Faulty(line),
-        Err(_) => Stop::NoMemory,
+    match refusal {
+        ScriptRefusal::Faulty(fault) => match fault_line(alloc, fault) {
+            Ok(line) => Stop::Faulty(line),
+            Err(_) => Stop::NoMemory,
+        },
+        ScriptRefusal::NoMemory => Stop::NoMemory,
     }
 }
 

@@ -1,4 +1,4 @@
-// The closures of the embedding program: shelves for clients to come, and how they are let go.
+// The closures of the embedding program: shelves for clients to come.
 ghost use Rattle.std.specs.Prelude.{◌≡◌, ◌++◌, ◌∷◌, [], ℕ, IfOk, OnOk, codes, map, replicate};
 ghost use Rattle.handler_table.specs.Held.{IsHost};
 ghost use Rattle.handler_table.specs.Shelf.{marks_of, numbered};
@@ -7,6 +7,7 @@ ghost use Rattle.hmr_world.specs.Shelves.{AreHosts};
 use const_eval::Ran;
 use handler_table::Shelf;
 use hmr_types::Text;
+use hmr_world::discard;
 use retained_data::Bag;
 use std::alloc::{AllocError, Global};
 
@@ -69,12 +70,4 @@ fn put_shelf<F: FnOnce(Bag) -> Result<Ran, AllocError> + Drop, M: Fn(u32) -> F>(
             Err(AllocError)
         }
     }
-}
-
-/// Lets all closures go without a call.
-pub fn discard<F: Drop>(mut shelves: Vec<Shelf<F>>) {
-    while let Some(shelf) = shelves.pop() {
-        shelf.end();
-    }
-    shelves.destroy_empty();
 }

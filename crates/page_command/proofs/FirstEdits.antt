@@ -21,7 +21,7 @@ use Rattle.version_map.specs.declared.outcome.EditOutcome.{EditOutcome}
 use Rattle.version_map.specs.declared.outcome.EditOutcome.TheVariants as edits
 use Rattle.page_command.specs.Opening.{AreAccepted, Edit, IsAccepted, opened, opened_by, with_result}
 use Rattle.page_command.specs.Stops.{HasRefused, IsEditStop, StopsEdits}
-use Rattle.page_command.specs.declared.stop.Limit.TheVariants as limits
+use Rattle.command_ends.specs.declared.limit.Limit.TheVariants as limits
 use Rattle.page_command.specs.declared.stop.PageStop.{PageStop}
 use Rattle.page_command.specs.declared.stop.PageStop.TheVariants.{NoMemory, Tree, Unread, Unwritten}
 use Rattle.page_command.specs.declared.stop.PageStop.TheVariants.{Limit as AtLimit}
@@ -115,6 +115,11 @@ stops_at done e left all Tree whole accepted h = h
 stops_at done e left all (AtLimit limits.Text) whole accepted h = refused_at TextTooLong done e left all whole accepted h
 stops_at done e left all (AtLimit limits.Names) whole accepted h = inl (refused_at TooManyNames done e left all whole accepted h)
 stops_at done e left all (AtLimit limits.Sources) whole accepted h = refused_at SourceTotal done e left all whole accepted h
+stops_at done e left all (AtLimit limits.Script) whole accepted h = h
+stops_at done e left all (AtLimit limits.Record) whole accepted h = h
+stops_at done e left all (AtLimit limits.Instances) whole accepted h = h
+stops_at done e left all (AtLimit limits.Transcript) whole accepted h = h
+stops_at done e left all (AtLimit limits.Passes) whole accepted h = h
 stops_at done e left all (AtLimit limits.Turns) whole accepted h = h
 stops_at done e left all NoMemory whole accepted h = tt
 

@@ -17,7 +17,7 @@ use Rattle.folder_watch.specs.declared.scan_stop.ScanStop.TheVariants as scans
 use Rattle.folder_watch.specs.Edits.{rows_of}
 use Rattle.folder_watch.specs.Listings.{Rises}
 use Rattle.folder_watch.specs.Scans.{StopsFor}
-use Rattle.page_command.specs.declared.stop.Limit.TheVariants as limits
+use Rattle.command_ends.specs.declared.limit.Limit.TheVariants as limits
 use Rattle.page_command.specs.declared.stop.PageStop.{PageStop}
 use Rattle.page_command.specs.declared.stop.PageStop.TheVariants.{NoMemory, Tree, Unread, Unwritten}
 use Rattle.page_command.specs.declared.stop.PageStop.TheVariants.{Limit as AtLimit}

@@ -3,11 +3,11 @@ use Rattle.std.specs.Prelude.{◌≡◌, ◌⊎◌, ⊤, ℕ, List, [], Option, 
 use Rattle.std.specs.Io.KnownBytes.{Appends}
 use Rattle.hmr_base.specs.Causes.{Rose}
 use Rattle.hmr_base.specs.Fronts.{WritesFront}
+use Rattle.command_ends.specs.declared.limit.Limit.TheVariants as limits
 use Rattle.http_exchange.specs.declared.exchange.HttpEnd.{HttpEnd}
 use Rattle.http_exchange.specs.declared.exchange.HttpEnd.TheVariants as ends
 use Rattle.http_exchange.specs.Serving.{Serves}
 use Rattle.http_modules.specs.Rewriting.{body_of}
-use Rattle.page_command.specs.declared.stop.Limit.TheVariants as limits
 use Rattle.page_command.specs.declared.stop.PageStop.{PageStop}
 use Rattle.page_command.specs.declared.stop.PageStop.TheVariants.{Unread, Unwritten, NoMemory}
 use Rattle.page_command.specs.declared.stop.PageStop.TheVariants.{Limit as AtLimit}

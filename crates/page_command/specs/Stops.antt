@@ -1,33 +1,26 @@
--- Why the command stops, and the line of a limit.
-use Rattle.std.specs.Prelude.{◌≡◌, ◌⊎◌, ◌<◌, ⊤, ℕ, List, [], ◌∷◌, ◌++◌, codes, length}
+-- Why the command stops, and the line that it writes then.
+use Rattle.std.specs.Prelude.{◌≡◌, ◌⊎◌, ◌<◌, ⊤, ℕ, List, [], ◌∷◌, ◌++◌, length}
 use Rattle.std.specs.Prelude.{Result, Ok, Err}
 use Prim.{⊥}
+use Rattle.command_ends.specs.Ends.{limit_line}
+use Rattle.command_ends.specs.declared.limit.Limit.TheVariants as limits
 use Rattle.hmr_types.specs.declared.limits.TheConstants.{SOURCE_NAMES}
 use Rattle.hmr_types.specs.declared.words.EditRefusal.{EditRefusal}
 use Rattle.hmr_types.specs.declared.words.EditRefusal.TheVariants.{TextTooLong, TooManyNames, SourceTotal}
 use Rattle.core_model.specs.Sources.{EditAnswer, edit_answer, edit_refused, sources_after}
 use Rattle.folder_watch.specs.declared.scan_stop.ScanStop.{ScanStop}
 use Rattle.folder_watch.specs.declared.scan_stop.ScanStop.TheVariants as scans
-use Rattle.page_command.specs.declared.stop.Limit.{Limit}
-use Rattle.page_command.specs.declared.stop.Limit.TheVariants as limits
 use Rattle.page_command.specs.declared.stop.PageStop.{PageStop}
 use Rattle.page_command.specs.declared.stop.PageStop.TheVariants.{Unread, Unwritten, Tree, NoMemory}
 use Rattle.page_command.specs.declared.stop.PageStop.TheVariants.{Limit as AtLimit}
 use Rattle.page_command.specs.Opening.{AreAccepted, Edit, opened}
-
--- the line for a limit
-abbrev pub limit_text : Limit → List ℕ
-limit_text limits.Text = codes "limit text 131072\n"
-limit_text limits.Names = codes "limit names 8192\n"
-limit_text limits.Sources = codes "limit sources 33554432\n"
-limit_text limits.Turns = codes "limit turns 500000\n"
 
 -- the line of a limit, where it ended by one
 abbrev pub stop_text : PageStop → List ℕ
 stop_text Unread = []
 stop_text Unwritten = []
 stop_text Tree = []
-stop_text (AtLimit limit) = limit_text limit
+stop_text (AtLimit limit) = limit_line limit
 stop_text NoMemory = []
 
 abbrev pub last_text : Result ⊤ PageStop → List ℕ
@@ -49,6 +42,11 @@ IsEditStop answer Tree = ⊥
 IsEditStop answer (AtLimit limits.Text) = answer ≡ edit_refused TextTooLong
 IsEditStop answer (AtLimit limits.Names) = answer ≡ edit_refused TooManyNames
 IsEditStop answer (AtLimit limits.Sources) = answer ≡ edit_refused SourceTotal
+IsEditStop answer (AtLimit limits.Script) = ⊥
+IsEditStop answer (AtLimit limits.Record) = ⊥
+IsEditStop answer (AtLimit limits.Instances) = ⊥
+IsEditStop answer (AtLimit limits.Transcript) = ⊥
+IsEditStop answer (AtLimit limits.Passes) = ⊥
 IsEditStop answer (AtLimit limits.Turns) = ⊥
 IsEditStop answer NoMemory = ⊤
 
@@ -69,5 +67,10 @@ StopsEdits edits Tree = ⊥
 StopsEdits edits (AtLimit limits.Text) = HasRefused TextTooLong edits
 StopsEdits edits (AtLimit limits.Names) = HasRefused TooManyNames edits ⊎ (SOURCE_NAMES < length edits)
 StopsEdits edits (AtLimit limits.Sources) = HasRefused SourceTotal edits
+StopsEdits edits (AtLimit limits.Script) = ⊥
+StopsEdits edits (AtLimit limits.Record) = ⊥
+StopsEdits edits (AtLimit limits.Instances) = ⊥
+StopsEdits edits (AtLimit limits.Transcript) = ⊥
+StopsEdits edits (AtLimit limits.Passes) = ⊥
 StopsEdits edits (AtLimit limits.Turns) = ⊥
 StopsEdits edits NoMemory = ⊤

@@ -9,7 +9,8 @@ ghost use Rattle.page_command.specs.Pages.{Answered, Pages, end_of};
 ghost use Rattle.page_command.specs.Stops.{last_text};
 
 use crate::opening::open_folder;
-use crate::stop::{Limit, PageStop};
+use crate::stop::PageStop;
+use command_ends::Limit;
 use folders::Tree;
 use hmr_base::{Sink, Source, write_all};
 use http_modules::{HttpEnd, serve_http};

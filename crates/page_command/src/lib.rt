@@ -13,4 +13,4 @@ mod opening;
 mod stop;
 
 pub use answering::page;
-pub use stop::{Limit, PageStop};
+pub use stop::PageStop;

@@ -17,7 +17,8 @@ ghost use Rattle.page_command.specs.Folder.{Opens, StopsEarly};
 ghost use Rattle.page_command.specs.Opening.{AreAccepted, Edit, IsAccepted, opened, opened_by};
 ghost use Rattle.page_command.specs.Stops.{IsEditStop, StopsEdits};
 
-use crate::stop::{Limit, PageStop};
+use crate::stop::PageStop;
+use command_ends::Limit;
 use folder_watch::{Listing, edits_between, scan};
 use folders::Tree;
 use hmr_types::limits::{SOURCE_NAMES, TEXT_BYTES};

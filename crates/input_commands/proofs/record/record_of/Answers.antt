@@ -15,5 +15,5 @@ returns-in-Ok g c =
 
 pub returns-in-Err : goal.returns-in-Err
 returns-in-Err g c =
-    fault_recorded (map marks_of c.args.shelves.items) (script_of c.args.bytes.now) c.in-Err.fault
+    fault_recorded (map marks_of c.args.shelves.items) (script_of c.args.bytes.now) c.in-Err.refusal
     c.stop_of_fault.result c.in-Err.ensures c.stop_of_fault.ensures
