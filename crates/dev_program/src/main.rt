@@ -6,6 +6,7 @@
 #![tactic(auto)]
 
 use const_eval::Ran;
+use folder_server::Outside;
 use folders::FolderTree;
 use handler_table::host_run;
 use hmr_base::{StdSink, StdSource};
@@ -16,7 +17,7 @@ use std::alloc::AllocError;
 use std::env;
 use std::io::ErrorKind;
 use std::process::ExitCode;
-use top_call::run;
+use top_call::{Embedding, run};
 use ws_links::TcpNet;
 
 /// The status where memory runs out.
@@ -44,21 +45,16 @@ fn main(rt: HostRuntime) -> ExitCode {
         return ExitCode::from(NO_MEMORY);
     };
     let mut input = StdSource::new(rt.stdin());
-    let mut out = StdSink::new(rt.stdout());
-    let mut tree = FolderTree::new(rt);
-    let mut net = TcpNet::new(rt);
-    let mut spawner = ThreadSpawner::new();
-    let status = run(
-        &rt,
-        alloc,
-        &words,
-        &mut input,
-        &mut out,
-        &mut tree,
-        &mut net,
-        &mut spawner,
-        OpenGate,
+    let mut outside = Outside {
+        out: StdSink::new(rt.stdout()),
+        tree: FolderTree::new(rt),
+        net: TcpNet::new(rt),
+        spawner: ThreadSpawner::new(),
+    };
+    let embedding = Embedding {
+        gate: OpenGate,
         shelves,
-    );
+    };
+    let status = run(&rt, alloc, &words, &mut input, &mut outside, embedding);
     ExitCode::from(status)
 }

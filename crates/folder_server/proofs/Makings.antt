@@ -247,7 +247,7 @@ scan_stop coming many read accepted scans.TooManyNames h = inl h
 scan_stop coming many read accepted (scans.TextTooLong path) h = inl (path, h)
 scan_stop coming many read accepted scans.NoMemory h = refl
 
--- a stop between two rounds: of the scan, or for want of memory
+-- a stop between two rounds: of the scan, or since memory ran out
 pub rounds_scan : (coming coming' : Option (List Files)) (listing listing' : Files) (many all : ℕ) (before now : List Made) (stop : ScanStop)
     → Rounds coming coming' listing listing' many before now → many < all → ScanStops coming many stop → MakesEdits coming listing [] all before now (Err (stop_of_scan stop))
 unfolding all_front

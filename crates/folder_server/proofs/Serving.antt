@@ -256,7 +256,7 @@ reported_none asked p old = record { logs = []; front = front_none old (report_w
 pub reported_memory : (asked : Bool) (p : Pass) (r : End) (old : Option (List ℕ)) → r ≡ Err NoMemory → Reported asked p r old old
 reported_memory asked p r old e = subst (λ x. Reported asked p x old old) (sym e) (reported_none asked p old)
 
--- an end for want of memory before the passes were joined
+-- an end where memory ran out before the passes were joined
 pub ends_before : (asked : Bool) (hub : Hub) (p : Pass) (full : Bool) (old : Option (List ℕ)) → IsPassOf hub p → HasTranscript p
     → EndsReported asked hub p full (Err NoMemory) old old
 ends_before asked hub p full old of transcript = record {

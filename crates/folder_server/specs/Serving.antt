@@ -131,7 +131,7 @@ abbrev pub HasCause : Pass → End → Type 0
 HasCause p (Ok done) = ⊤
 HasCause p (Err stop) = IsCause p stop
 
--- the server ended as its editor and its jobs did, or else by the output or for want of memory at the end
+-- the server ended as its editor and its jobs did, or else by the output or since memory ran out at the end
 abbrev pub EndsBy : JobEnds → End → End → Type 0
 EndsBy jobs edited ended =
     (ended ≡ status_by jobs edited) ⊎ ((ended ≡ Err Unwritten) ⊎ (ended ≡ Err NoMemory))
@@ -186,7 +186,7 @@ pub record WroteReport (asked : Bool) (port : ℕ) (p : Pass) (ended : End)
   pub whole : IsReported ended → Appends old new (header port ++ report_with asked p logs)
   pub confirmed : IsReported ended → IsConfirmedPart asked p
 
--- The server ended before it listened, and not by its output. Where it wasn't for want of memory, a pass of
+-- The server ended before it listened, and not by its output. Where it wasn't since memory ran out, a pass of
 -- a hub with these roots has seen just what the first scan and its edits had come to, and the cause.
 pub record StopsEarly (roots : List Name) (coming : Option (List Files)) (ended : End) : Type 0 where
   pub cause : (ended ≡ Err NoMemory) ⊎ ((p : Pass) × EndsEarly roots coming p ended)

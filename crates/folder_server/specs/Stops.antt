@@ -1,5 +1,7 @@
 -- Why a server ends before its work is done.
-use Rattle.std.specs.Prelude.{ℕ, List, [], codes, Result, Ok, Err}
+use Rattle.std.specs.Prelude.{ℕ, List, [], Result, Ok, Err}
+use Rattle.command_ends.specs.Ends.{limit_line}
+use Rattle.command_ends.specs.declared.limit.Limit.TheVariants as told
 use Rattle.folder_watch.specs.declared.scan_stop.ScanStop.{ScanStop}
 use Rattle.folder_watch.specs.declared.scan_stop.ScanStop.TheVariants as scans
 use Rattle.hub_editor.specs.declared.stop.EditStop.{EditStop}
@@ -16,11 +18,11 @@ use Rattle.folder_server.specs.declared.stop.ServeStop.TheVariants.{Limit as AtL
 
 -- the line for a limit
 abbrev pub limit_text : Limit → List ℕ
-limit_text limits.Text = codes "limit text 131072\n"
-limit_text limits.Names = codes "limit names 8192\n"
-limit_text limits.Sources = codes "limit sources 33554432\n"
-limit_text limits.Transcript = codes "limit transcript 1000000\n"
-limit_text limits.Passes = codes "limit passes 18446744073709551615\n"
+limit_text limits.Text = limit_line told.Text
+limit_text limits.Names = limit_line told.Names
+limit_text limits.Sources = limit_line told.Sources
+limit_text limits.Transcript = limit_line told.Transcript
+limit_text limits.Passes = limit_line told.Passes
 
 -- the stop for a scan that gave no listing
 abbrev pub stop_of_scan : ScanStop → ServeStop

@@ -9,14 +9,15 @@ ghost use Rattle.server_threads.specs.Gathers.{IsGathered};
 ghost use Rattle.serve_reports.specs.Texts.{report_text};
 ghost use Rattle.folder_server.specs.Serving.{EndsReported, IsConfirmedPart, record_part, status_after};
 
+use crate::context::ServerContext;
 use crate::recording::{entries_in, put_record};
 use crate::running::RunEnd;
 use crate::stop::{Limit, ServeStop};
 use hmr_base::{Sink, write_all};
-use hmr_hub::{Hub, Pass, ReportLine};
+use hmr_hub::{Pass, ReportLine};
 use hmr_types::ModName;
-use server_threads::Gathered;
 use serve_reports::{put_report_line, wind_up};
+use server_threads::Gathered;
 use std::alloc::{AllocError, Global};
 use std::sync::Wait;
 
@@ -40,31 +41,30 @@ pub(crate) fn end_of(run: &RunEnd) -> Result<(), ServeStop>
 
 /// Joins the passes of the jobs, and writes the report, the lines of the program's own clients, and the record
 /// of the transcript that is reported, where that is asked for. It is left away where memory ran out before,
-/// and where memory runs out for it nothing of it is written. The end is the one that was given, or
+/// and where memory runs out for it nothing of it is written. The end is that of the run as it is given, or
 /// `Unwritten` where the output failed, or `NoMemory`.
 pub(crate) fn write_end<R: Wait, K: Sink>(
-    rt: &R,
-    alloc: Global,
-    hub: &Hub,
+    context: &ServerContext<R>,
     pass: &mut Pass,
     roots: &[ModName],
     recorded: bool,
-    gathered: Gathered,
-    ended: Result<(), ServeStop>,
+    left: RunEnd,
     out: &mut K,
 ) -> Result<(), ServeStop>
-    requires of { IsPassOf hub.now pass.old }
+    requires of { IsPassOf context.now.caller.hub.now pass.old }
     requires knows { KnowsOwn pass.old }
     requires transcript { HasTranscript pass.old }
     requires roots { roots_of pass.old ≡ roots.now }
-    requires gathered { IsGathered hub.now gathered }
-    requires ended { ended ≢ Err ServeStop.Unwritten }
-    ensures reported { EndsReported recorded hub.now pass.old gathered.full result
+    requires gathered { IsGathered context.now.caller.hub.now left.gathered }
+    requires ended { left.ended ≢ Err ServeStop.Unwritten }
+    ensures reported { EndsReported recorded context.now.caller.hub.now pass.old left.gathered.full result
         (K.written out.old) (K.written out.new) }
-    ensures end { (result ≡ ended) ⊎ (result ≡ Err ServeStop.Unwritten) ⊎ (result ≡ Err ServeStop.NoMemory) }
+    ensures end { (result ≡ left.ended) ⊎ (result ≡ Err ServeStop.Unwritten)
+        ⊎ (result ≡ Err ServeStop.NoMemory) }
     ensures unwritten { result ≡ Err ServeStop.Unwritten → Rose (K.faults out.old) (K.faults out.new) }
     ensures later { K.faults out.old ≤ K.faults out.new }
 {
+    let RunEnd { gathered, ended } = left;
     if let Err(ServeStop::NoMemory) = ended {
         return Err(ServeStop::NoMemory);
     }
@@ -75,8 +75,8 @@ pub(crate) fn write_end<R: Wait, K: Sink>(
         full: _,
         fault: _,
     } = gathered;
-    let report = wind_up(rt, hub, pass, passes, logs)?;
-    let text = whole_text(rt, alloc, hub, pass, roots, recorded, &report)?;
+    let report = wind_up(context.caller.rt, context.caller.hub, pass, passes, logs)?;
+    let text = whole_text(context, pass, roots, recorded, &report)?;
     write_all(out, &text)?;
     ended
 }
@@ -84,24 +84,22 @@ pub(crate) fn write_end<R: Wait, K: Sink>(
 // The bytes of a report of all that the pass has seen, and of the record of that, where it is asked for: one of
 // which the check of records says yes.
 fn whole_text<R: Wait>(
-    rt: &R,
-    alloc: Global,
-    hub: &Hub,
+    context: &ServerContext<R>,
     pass: &mut Pass,
     roots: &[ModName],
     recorded: bool,
     report: &[ReportLine],
 ) -> Result<Vec<u8>, AllocError>
-    requires of { IsPassOf hub.now pass.old }
+    requires of { IsPassOf context.now.caller.hub.now pass.old }
     requires transcript { HasTranscript pass.old }
     requires roots { roots_of pass.old ≡ roots.now }
     requires steps { (more : List ReportLine) × (report.now ≡ Steps (length (seen_of pass.old)) ∷ more) }
     ensures text { IfOk result (λ text. text.items ≡ report_text report.now ++ record_part recorded pass.old) }
     ensures confirmed { OnOk result (IsConfirmedPart recorded pass.old) }
 {
-    let mut text = text_of(alloc, report)?;
+    let mut text = text_of(context.caller.alloc, report)?;
     if recorded {
-        put_record(rt, alloc, hub, pass, roots, entries_in(report), &mut text)?;
+        put_record(context, pass, roots, entries_in(report), &mut text)?;
     }
     Ok(text)
 }

@@ -1,17 +1,19 @@
 //! A server of a folder: its modules are edits of one hub, and so is what changes in it; sessions answer
 //! clients over a net, and workers transform the texts.
 //!
-//! [`serve`] is the whole of it, from the first scan to the report. Stands on `folder_watch` for folders, on
-//! `hub_editor` for edits, on `server_threads` for the jobs in threads, and on `serve_reports` for the end.
-//! Keeps: what is written is the report of one transcript, which begins with the first scan and has each
-//! later edit once and in order; a status of failure comes only where the count of what failed rose. A call
-//! takes memory only where its result can say that memory ran out. Knows nothing of the command line, nor of
-//! what carries a connection.
+//! [`serve`] is the whole of a task, from the first scan to the report, over an [`Outside`]. Stands on
+//! `folder_watch` for folders, on `hub_editor` for edits, on `server_threads` for the jobs in threads, and on
+//! `serve_reports` for the end. Keeps: what is written is the report of one transcript, which begins with the
+//! first scan and has each later edit once and in order; a status of failure comes only where the count of
+//! what failed rose. A call takes memory only where its result can say that memory ran out. Knows nothing of
+//! the command line, nor of what carries a connection.
 #![tactic(auto)]
 
 mod changes;
+mod context;
 mod ending;
 mod opening;
+mod outside;
 mod plan;
 mod recording;
 mod rounds;
@@ -19,6 +21,7 @@ mod running;
 mod stop;
 mod top;
 
-pub use plan::Plan;
+pub use outside::Outside;
+pub use plan::{Plan, ServeTask};
 pub use stop::{Limit, ServeStop};
 pub use top::serve;

@@ -10,6 +10,7 @@ ghost use Rattle.folder_server.specs.Causes.{IsFirstCause};
 ghost use Rattle.folder_server.specs.Openings.{Opens};
 
 use crate::changes::changes_between;
+use crate::context::ServerContext;
 use crate::stop::ServeStop;
 use folder_watch::{Listing, scan};
 use folders::Tree;
@@ -38,34 +39,38 @@ pub(crate) fn new_hub(alloc: Global, roots: Vec<ModName>) -> Result<(Hub, Pass),
 /// Scans the folder for the first time, makes the edits that bring its modules in order of their names, and
 /// settles them by so many workers. It gives what it listed.
 pub(crate) fn open_folder<T: Tree, R: Threads + Wait + Sync>(
-    rt: &R,
-    alloc: Global,
-    hub: &Hub,
+    context: &ServerContext<R>,
     pass: &mut Pass,
     tree: &mut T,
-    folder: &str,
     workers: u32,
 ) -> Result<Listing, ServeStop>
-    requires of { IsPassOf hub.now pass.old }
+    requires of { IsPassOf context.now.caller.hub.now pass.old }
     requires number { number_of pass.old ≡ 0 }
     requires alone { is_alone pass.old ≡ true }
     requires fresh { seen_of pass.old ≡ [] }
     requires transcript { HasTranscript pass.old }
-    requires may { MayOpen (T.asked tree.old) folder.now }
-    ensures of { IsPassOf hub.now pass.new }
+    requires may { MayOpen (T.asked tree.old) context.now.folder.now }
+    ensures of { IsPassOf context.now.caller.hub.now pass.new }
     ensures same { SameKnower pass.old pass.new }
     ensures transcript { HasTranscript pass.new }
     ensures opens { IfOk result (λ listing. Opens (T.coming tree.old) listing (seen_of pass.new)) }
-    ensures no_other { MayOpen (T.asked tree.new) folder.now }
-    ensures asked { OnOk result (T.asked tree.new ≡ Some folder.now) }
+    ensures no_other { MayOpen (T.asked tree.new) context.now.folder.now }
+    ensures asked { OnOk result (T.asked tree.new ≡ Some context.now.folder.now) }
     ensures coming { OnOk result (T.coming tree.new ≡ option_map files_after (T.coming tree.old)) }
     ensures later { T.faults tree.old ≤ T.faults tree.new }
     ensures tree_fault { IsErrOf result ServeStop.Tree → Rose (T.faults tree.old) (T.faults tree.new) }
     ensures cause { IfErr result (IsFirstCause (T.coming tree.old) pass.new) }
 {
-    let listing = scan(alloc, tree, folder)?;
-    let none = Listing::new(alloc);
-    let edits = changes_between(alloc, &none, &listing)?;
-    open_sources(rt, alloc, hub, pass, edits, workers as usize)?;
+    let listing = scan(context.caller.alloc, tree, context.folder)?;
+    let none = Listing::new(context.caller.alloc);
+    let edits = changes_between(context.caller.alloc, &none, &listing)?;
+    open_sources(
+        context.caller.rt,
+        context.caller.alloc,
+        context.caller.hub,
+        pass,
+        edits,
+        workers as usize,
+    )?;
     Ok(listing)
 }

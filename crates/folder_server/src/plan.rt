@@ -1,4 +1,5 @@
-// How much a server is to do.
+// What a server is to do, and how much of it.
+use hmr_types::{ModName, Text};
 
 /// How much a server is to do, and where it listens.
 #[derive(Clone, Copy, Debug, PartialEq, Eq)]
@@ -17,4 +18,17 @@ pub struct Plan {
     pub rounds: u32,
     /// Whether the record of the transcript is written behind the report.
     pub recorded: bool,
+}
+
+/// What a server is to do, with what.
+#[derive(Drop)]
+pub struct ServeTask {
+    /// How much it does, and where it listens.
+    pub plan: Plan,
+    /// The path of the folder.
+    pub folder: Text,
+    /// The roots of the page.
+    pub roots: Vec<ModName>,
+    /// The edits that it makes last, each of a name and its new text, or none where the module goes.
+    pub script: Vec<(ModName, Option<Vec<u8>>)>,
 }

@@ -15,102 +15,92 @@ ghost use Rattle.folder_server.specs.Causes.{IsEditCause};
 ghost use Rattle.folder_server.specs.Rounds.{MakesEach, MakesEdits};
 
 use crate::changes::changes_between;
+use crate::context::{Editing, LaterEdits, ServerContext};
 use crate::stop::ServeStop;
 use folder_watch::{Listing, scan};
 use folders::Tree;
-use hmr_hub::{Hub, Pass};
+use hmr_hub::Pass;
 use hmr_types::ModName;
-use hub_editor::{EditStop, Editor};
-use std::alloc::Global;
+use hub_editor::EditStop;
 use std::sync::Wait;
-use transform_pool::{JobPass, JobQueue};
 
 /// Scans the folder so many times more, from a listing on, makes the edits between each two scans, and then
 /// those of the script. The first stop ends it: of a scan, or of an edit; what came before it was made.
 pub(crate) fn make_edits<T: Tree, R: Wait>(
-    rt: &R,
-    alloc: Global,
-    hub: &Hub,
+    context: &ServerContext<R>,
     pass: &mut Pass,
-    queue: &JobQueue,
-    jobs: &mut JobPass,
-    editor: &mut Editor,
+    editing: &mut Editing,
     tree: &mut T,
-    folder: &str,
-    rounds: u32,
-    listing: Listing,
-    script: Vec<(ModName, Option<Vec<u8>>)>,
+    later: LaterEdits,
 ) -> Result<(), ServeStop>
-    requires of { IsPassOf hub.now pass.old }
+    requires of { IsPassOf context.now.caller.hub.now pass.old }
     requires number { number_of pass.old ≡ 0 }
-    requires may { MayOpen (T.asked tree.old) folder.now }
-    requires going { IsGoing (made_by editor.old) }
-    requires short { All (λ e. length_of e ≤ MESSAGE_BYTES) (edits_in script.items) }
-    requires of_queue { pool.IsPassOf queue.now jobs.old }
-    requires puts { (pool.role_of jobs.old).puts ≡ true }
-    requires unclosed { (pool.role_of jobs.old).closed ≡ false }
-    ensures of { IsPassOf hub.now pass.new }
+    requires may { MayOpen (T.asked tree.old) context.now.folder.now }
+    requires going { IsGoing (made_by editing.old.editor) }
+    requires short { All (λ e. length_of e ≤ MESSAGE_BYTES) (edits_in later.script.items) }
+    requires of_queue { pool.IsPassOf editing.old.queue.now editing.old.jobs }
+    requires puts { (pool.role_of editing.old.jobs).puts ≡ true }
+    requires unclosed { (pool.role_of editing.old.jobs).closed ≡ false }
+    ensures of { IsPassOf context.now.caller.hub.now pass.new }
     ensures same { SameKnower pass.old pass.new }
     ensures transcript { HasTranscript pass.old → HasTranscript pass.new }
-    ensures edited { (p : Pass) → Edited p pass.old (made_by editor.old)
-        → Edited p pass.new (made_by editor.new) }
-    ensures makes { MakesEdits (T.coming tree.old) listing (edits_in script.items) rounds
-        (made_by editor.old) (made_by editor.new) result }
-    ensures of_queue { pool.IsPassOf queue.now jobs.new }
-    ensures puts { (pool.role_of jobs.new).puts ≡ true }
-    ensures no_other { MayOpen (T.asked tree.new) folder.now }
+    ensures edited { (p : Pass) → Edited p pass.old (made_by editing.old.editor)
+        → Edited p pass.new (made_by editing.new.editor) }
+    ensures makes { MakesEdits (T.coming tree.old) later.listing (edits_in later.script.items) later.rounds
+        (made_by editing.old.editor) (made_by editing.new.editor) result }
+    ensures of_queue { pool.IsPassOf editing.new.queue.now editing.new.jobs }
+    ensures puts { (pool.role_of editing.new.jobs).puts ≡ true }
+    ensures no_other { MayOpen (T.asked tree.new) context.now.folder.now }
     ensures later { T.faults tree.old ≤ T.faults tree.new }
     ensures tree_fault { result ≡ Err ServeStop.Tree → Rose (T.faults tree.old) (T.faults tree.new) }
     ensures cause { IfErr result (IsEditCause pass.new) }
 {
-    edit_rounds(
-        rt, alloc, hub, pass, queue, jobs, editor, tree, folder, rounds, listing,
-    )?;
-    edit_each(rt, alloc, hub, pass, queue, jobs, editor, script)?;
+    let LaterEdits {
+        rounds,
+        listing,
+        script,
+    } = later;
+    edit_rounds(context, pass, editing, tree, rounds, listing)?;
+    edit_each(context, pass, editing, script)?;
     Ok(())
 }
 
 // The edits between each two scans.
 fn edit_rounds<T: Tree, R: Wait>(
-    rt: &R,
-    alloc: Global,
-    hub: &Hub,
+    context: &ServerContext<R>,
     pass: &mut Pass,
-    queue: &JobQueue,
-    jobs: &mut JobPass,
-    editor: &mut Editor,
+    editing: &mut Editing,
     tree: &mut T,
-    folder: &str,
     rounds: u32,
     mut listing: Listing,
 ) -> Result<(), ServeStop>
-    requires of { IsPassOf hub.now pass.old }
+    requires of { IsPassOf context.now.caller.hub.now pass.old }
     requires number { number_of pass.old ≡ 0 }
-    requires may { MayOpen (T.asked tree.old) folder.now }
-    requires going { IsGoing (made_by editor.old) }
-    requires of_queue { pool.IsPassOf queue.now jobs.old }
-    requires puts { (pool.role_of jobs.old).puts ≡ true }
-    requires unclosed { (pool.role_of jobs.old).closed ≡ false }
-    ensures of { IsPassOf hub.now pass.new }
+    requires may { MayOpen (T.asked tree.old) context.now.folder.now }
+    requires going { IsGoing (made_by editing.old.editor) }
+    requires of_queue { pool.IsPassOf editing.old.queue.now editing.old.jobs }
+    requires puts { (pool.role_of editing.old.jobs).puts ≡ true }
+    requires unclosed { (pool.role_of editing.old.jobs).closed ≡ false }
+    ensures of { IsPassOf context.now.caller.hub.now pass.new }
     ensures same { SameKnower pass.old pass.new }
     ensures transcript { HasTranscript pass.old → HasTranscript pass.new }
-    ensures edited { (p : Pass) → Edited p pass.old (made_by editor.old)
-        → Edited p pass.new (made_by editor.new) }
-    ensures going { IsGoing (made_by editor.new) }
+    ensures edited { (p : Pass) → Edited p pass.old (made_by editing.old.editor)
+        → Edited p pass.new (made_by editing.new.editor) }
+    ensures going { IsGoing (made_by editing.new.editor) }
     ensures makes { MakesEdits (T.coming tree.old) listing [] rounds
-        (made_by editor.old) (made_by editor.new) result }
-    ensures of_queue { pool.IsPassOf queue.now jobs.new }
-    ensures puts { (pool.role_of jobs.new).puts ≡ true }
-    ensures unclosed { (pool.role_of jobs.new).closed ≡ false }
-    ensures no_other { MayOpen (T.asked tree.new) folder.now }
+        (made_by editing.old.editor) (made_by editing.new.editor) result }
+    ensures of_queue { pool.IsPassOf editing.new.queue.now editing.new.jobs }
+    ensures puts { (pool.role_of editing.new.jobs).puts ≡ true }
+    ensures unclosed { (pool.role_of editing.new.jobs).closed ≡ false }
+    ensures no_other { MayOpen (T.asked tree.new) context.now.folder.now }
     ensures later { T.faults tree.old ≤ T.faults tree.new }
     ensures tree_fault { result ≡ Err ServeStop.Tree → Rose (T.faults tree.old) (T.faults tree.new) }
     ensures cause { IfErr result (IsEditCause pass.new) }
 {
     for _ in 0..rounds {
-        let next = scan(alloc, tree, folder)?;
-        let edits = changes_between(alloc, &listing, &next)?;
-        edit_each(rt, alloc, hub, pass, queue, jobs, editor, edits)?;
+        let next = scan(context.caller.alloc, tree, context.folder)?;
+        let edits = changes_between(context.caller.alloc, &listing, &next)?;
+        edit_each(context, pass, editing, edits)?;
         listing = next;
     }
     Ok(())
@@ -118,36 +108,39 @@ fn edit_rounds<T: Tree, R: Wait>(
 
 // Makes edits one after another.
 fn edit_each<R: Wait>(
-    rt: &R,
-    alloc: Global,
-    hub: &Hub,
+    context: &ServerContext<R>,
     pass: &mut Pass,
-    queue: &JobQueue,
-    jobs: &mut JobPass,
-    editor: &mut Editor,
+    editing: &mut Editing,
     edits: Vec<(ModName, Option<Vec<u8>>)>,
 ) -> Result<(), EditStop>
-    requires of { IsPassOf hub.now pass.old }
+    requires of { IsPassOf context.now.caller.hub.now pass.old }
     requires number { number_of pass.old ≡ 0 }
-    requires going { IsGoing (made_by editor.old) }
+    requires going { IsGoing (made_by editing.old.editor) }
     requires short { All (λ e. length_of e ≤ MESSAGE_BYTES) (edits_in edits.items) }
-    requires of_queue { pool.IsPassOf queue.now jobs.old }
-    requires puts { (pool.role_of jobs.old).puts ≡ true }
-    requires unclosed { (pool.role_of jobs.old).closed ≡ false }
-    ensures of { IsPassOf hub.now pass.new }
+    requires of_queue { pool.IsPassOf editing.old.queue.now editing.old.jobs }
+    requires puts { (pool.role_of editing.old.jobs).puts ≡ true }
+    requires unclosed { (pool.role_of editing.old.jobs).closed ≡ false }
+    ensures of { IsPassOf context.now.caller.hub.now pass.new }
     ensures same { SameKnower pass.old pass.new }
     ensures transcript { HasTranscript pass.old → HasTranscript pass.new }
-    ensures edited { (p : Pass) → Edited p pass.old (made_by editor.old)
-        → Edited p pass.new (made_by editor.new) }
-    ensures going { IsGoing (made_by editor.new) }
-    ensures makes { MakesEach (edits_in edits.items) (made_by editor.old) (made_by editor.new) result }
-    ensures of_queue { pool.IsPassOf queue.now jobs.new }
-    ensures puts { (pool.role_of jobs.new).puts ≡ true }
-    ensures unclosed { (pool.role_of jobs.new).closed ≡ false }
+    ensures edited { (p : Pass) → Edited p pass.old (made_by editing.old.editor)
+        → Edited p pass.new (made_by editing.new.editor) }
+    ensures going { IsGoing (made_by editing.new.editor) }
+    ensures makes { MakesEach (edits_in edits.items) (made_by editing.old.editor)
+        (made_by editing.new.editor) result }
+    ensures of_queue { pool.IsPassOf editing.new.queue.now editing.new.jobs }
+    ensures puts { (pool.role_of editing.new.jobs).puts ≡ true }
+    ensures unclosed { (pool.role_of editing.new.jobs).closed ≡ false }
     ensures cause { IfErr result (IsCause pass.new) }
 {
     for (name, text) in edits {
-        editor.edit(rt, alloc, hub, pass, queue, jobs, name, text)?;
+        editing.editor.edit(
+            &context.caller,
+            pass,
+            editing.queue,
+            &mut editing.jobs,
+            (name, text),
+        )?;
     }
     Ok(())
 }

@@ -5,9 +5,9 @@ ghost use Rattle.folder_server.specs.Stops.{limit_text, stop_by, stop_of_edit, s
 use folder_watch::ScanStop;
 use hmr_base::WriteFault;
 use hub_editor::EditStop;
-use transport::OutFault;
 use server_threads::Cause;
 use std::alloc::{AllocError, AllocFailed};
+use transport::OutFault;
 
 /// A limit of a server that was passed.
 #[derive(Clone, Copy, Debug, PartialEq, Eq)]
@@ -45,11 +45,11 @@ impl Limit {
         ensures { result.now ≡ limit_text self }
     {
         match self {
-            Limit::Text => "limit text 131072\n",
-            Limit::Names => "limit names 8192\n",
-            Limit::Sources => "limit sources 33554432\n",
-            Limit::Transcript => "limit transcript 1000000\n",
-            Limit::Passes => "limit passes 18446744073709551615\n",
+            Limit::Text => command_ends::Limit::Text.line(),
+            Limit::Names => command_ends::Limit::Names.line(),
+            Limit::Sources => command_ends::Limit::Sources.line(),
+            Limit::Transcript => command_ends::Limit::Transcript.line(),
+            Limit::Passes => command_ends::Limit::Passes.line(),
         }
     }
 }

@@ -12,24 +12,27 @@ ghost use Rattle.hmr_hub.specs.declared.pass.Pass.{Pass};
 ghost use Rattle.folder_server.specs.Stops.{last_text};
 ghost use Rattle.folder_server.specs.Serving.{Served, StopsEarly, Wrote, WroteEarly, WroteReport};
 
+use crate::context::{LaterEdits, ServerContext};
 use crate::ending::{end_of, write_end};
 use crate::opening::{new_hub, open_folder};
-use crate::plan::Plan;
-use crate::running::run;
+use crate::outside::Outside;
+use crate::plan::ServeTask;
+use crate::running::{RunEnd, Staff, run};
 use crate::stop::ServeStop;
 use const_eval::Ran;
 use folders::Tree;
 use handler_table::Shelf;
 use hmr_base::{Sink, write_all};
-use hmr_types::ModName;
+use hub_editor::HubCaller;
 use jobs::{Gate, Spawner};
-use transport::Net;
 use module_graph::copy_of;
 use retained_data::Bag;
+use server_threads::{Clients, CrewPlan, Workers};
 use std::alloc::{AllocError, Global};
 use std::sync::{Arc, Wait};
 use std::thread::Threads;
 use transform_pool::JobQueue;
+use transport::Net;
 
 /// Serves the modules of a folder, from its first scan to the report.
 ///
@@ -39,8 +42,8 @@ use transform_pool::JobQueue;
 /// thread is the editor: it scans the folder `rounds` times more, makes the edits between each two scans,
 /// and then those of the script, each of a name and a text of at most 16,777,216 bytes together. At the end
 /// all jobs are finished, what is left of results is settled, all ends are given back to the net, and the
-/// report is written with the lines of the program's own clients, and behind it, where the plan asks for it, the
-/// record of the transcript that it reports. The closures of the shelves are for these.
+/// report is written with the lines of the program's own clients, and behind it, where the plan asks for
+/// it, the record of the transcript that it reports. The closures of the shelves are for these.
 /// After the net refused an end it is asked for no more, and where it did, the answer isn't Ok.
 ///
 /// [`ServeStop::Unwritten`], [`ServeStop::Tree`] and [`ServeStop::Fault`] come only where the count of
@@ -59,50 +62,50 @@ pub fn serve<
 >(
     rt: &R,
     alloc: Global,
-    plan: &Plan,
-    folder: &str,
-    roots: Vec<ModName>,
-    script: Vec<(ModName, Option<Vec<u8>>)>,
-    out: &mut K,
-    tree: &mut T,
-    net: &mut N,
-    spawner: &mut P,
+    task: ServeTask,
+    outside: &mut Outside<K, T, N, P>,
     gate: G,
     shelves: &mut [Shelf<F>],
 ) -> Result<(), ServeStop>
 where
     N::End: Drop + Send + 'static,
-    requires roots { AreRoots roots.items }
-    requires workers { (1 ≤ plan.now.workers) × (plan.now.workers ≤ 16) }
-    requires few { (plan.now.clients ≤ 32) × (plan.now.outside ≤ 32) }
-    requires short { All (λ e. length_of e ≤ MESSAGE_BYTES) (edits_in script.items) }
-    requires unopened { T.asked tree.old ≡ None }
-    requires unasked { (N.asked net.old ≡ None) × (N.heard net.old ≡ None) }
-    requires none_begun { P.begun spawner.old ≡ none_begun }
+    requires roots { AreRoots task.roots.items }
+    requires workers { (1 ≤ task.plan.workers) × (task.plan.workers ≤ 16) }
+    requires few { (task.plan.clients ≤ 32) × (task.plan.outside ≤ 32) }
+    requires short { All (λ e. length_of e ≤ MESSAGE_BYTES) (edits_in task.script.items) }
+    requires unopened { T.asked outside.old.tree ≡ None }
+    requires unasked { (N.asked outside.old.net ≡ None) × (N.heard outside.old.net ≡ None) }
+    requires none_begun { P.begun outside.old.spawner ≡ none_begun }
     requires callable { (f : F) → F.IsAlwaysCallable f }
     requires hosts { All (All (IsHost F.post)) shelves.old }
-    ensures wrote { ((port : ℕ) × (p : Pass) × (N.heard net.new ≡ Some port)
-        × Served roots.items (T.coming tree.old) (edits_in script.items) plan.now.rounds result p
-        × Wrote plan.now.recorded port p result (K.written out.old) (K.written out.new) (K.faults out.old) (K.faults out.new))
-        ⊎ (StopsEarly roots.items (T.coming tree.old) result
-        × WroteEarly result (K.written out.old) (K.written out.new) (K.faults out.old) (K.faults out.new)) }
-    ensures begun { OnOk result (P.begun spawner.new
-        ≡ plan.now.workers ∷ (plan.now.clients + plan.now.outside) ∷ plan.now.clients ∷ []) }
-    ensures unwritten { result ≡ Err ServeStop.Unwritten → Rose (K.faults out.old) (K.faults out.new) }
-    ensures tree_fault { result ≡ Err ServeStop.Tree → Rose (T.faults tree.old) (T.faults tree.new) }
+    ensures wrote { ((port : ℕ) × (p : Pass) × (N.heard outside.new.net ≡ Some port)
+        × Served task.roots.items (T.coming outside.old.tree) (edits_in task.script.items)
+        task.plan.rounds result p
+        × Wrote task.plan.recorded port p result (K.written outside.old.out) (K.written outside.new.out)
+        (K.faults outside.old.out) (K.faults outside.new.out))
+        ⊎ (StopsEarly task.roots.items (T.coming outside.old.tree) result
+        × WroteEarly result (K.written outside.old.out) (K.written outside.new.out)
+        (K.faults outside.old.out) (K.faults outside.new.out)) }
+    ensures begun { OnOk result (P.begun outside.new.spawner
+        ≡ task.plan.workers ∷ (task.plan.clients + task.plan.outside) ∷ task.plan.clients ∷ []) }
+    ensures unwritten { result ≡ Err ServeStop.Unwritten
+        → Rose (K.faults outside.old.out) (K.faults outside.new.out) }
+    ensures tree_fault { result ≡ Err ServeStop.Tree
+        → Rose (T.faults outside.old.tree) (T.faults outside.new.tree) }
     ensures fault { result ≡ Err ServeStop.Fault
-        → Rose (N.faults net.old) (N.faults net.new) ⊎ Rose (P.faults spawner.old) (P.faults spawner.new) }
-    ensures asked { (N.asked net.new ≡ None) ⊎ (N.asked net.new ≡ Some (Asked.Listen plan.now.port)) }
-    ensures ends { N.lent net.new ≡ N.lent net.old }
-    ensures stops { N.refused net.old ≡ false → N.late net.new ≡ N.late net.old }
-    ensures goes { OnOk result (N.refused net.new ≡ N.refused net.old) }
-    ensures opened { MayOpen (T.asked tree.new) folder.now }
+        → Rose (N.faults outside.old.net) (N.faults outside.new.net)
+        ⊎ Rose (P.faults outside.old.spawner) (P.faults outside.new.spawner) }
+    ensures asked { (N.asked outside.new.net ≡ None)
+        ⊎ (N.asked outside.new.net ≡ Some (Asked.Listen task.plan.port)) }
+    ensures ends { N.lent outside.new.net ≡ N.lent outside.old.net }
+    ensures stops { N.refused outside.old.net ≡ false
+        → N.late outside.new.net ≡ N.late outside.old.net }
+    ensures goes { OnOk result (N.refused outside.new.net ≡ N.refused outside.old.net) }
+    ensures opened { MayOpen (T.asked outside.new.tree) task.folder }
     ensures hosts { All (All (IsHost F.post)) shelves.new }
 {
-    let ended = serve_folder(
-        rt, alloc, plan, folder, roots, script, out, tree, net, spawner, gate, shelves,
-    );
-    write_last(out, ended);
+    let ended = serve_folder(rt, alloc, task, outside, gate, shelves);
+    write_last(&mut outside.out, ended);
     ended
 }
 
@@ -138,69 +141,104 @@ fn serve_folder<
 >(
     rt: &R,
     alloc: Global,
-    plan: &Plan,
-    folder: &str,
-    roots: Vec<ModName>,
-    script: Vec<(ModName, Option<Vec<u8>>)>,
-    out: &mut K,
-    tree: &mut T,
-    net: &mut N,
-    spawner: &mut P,
+    task: ServeTask,
+    outside: &mut Outside<K, T, N, P>,
     gate: G,
     shelves: &mut [Shelf<F>],
 ) -> Result<(), ServeStop>
 where
     N::End: Drop + Send + 'static,
-    requires roots { AreRoots roots.items }
-    requires workers { (1 ≤ plan.now.workers) × (plan.now.workers ≤ 16) }
-    requires few { (plan.now.clients ≤ 32) × (plan.now.outside ≤ 32) }
-    requires short { All (λ e. length_of e ≤ MESSAGE_BYTES) (edits_in script.items) }
-    requires unopened { T.asked tree.old ≡ None }
-    requires unasked { (N.asked net.old ≡ None) × (N.heard net.old ≡ None) }
-    requires none_begun { P.begun spawner.old ≡ none_begun }
+    requires roots { AreRoots task.roots.items }
+    requires workers { (1 ≤ task.plan.workers) × (task.plan.workers ≤ 16) }
+    requires few { (task.plan.clients ≤ 32) × (task.plan.outside ≤ 32) }
+    requires short { All (λ e. length_of e ≤ MESSAGE_BYTES) (edits_in task.script.items) }
+    requires unopened { T.asked outside.old.tree ≡ None }
+    requires unasked { (N.asked outside.old.net ≡ None) × (N.heard outside.old.net ≡ None) }
+    requires none_begun { P.begun outside.old.spawner ≡ none_begun }
     requires callable { (f : F) → F.IsAlwaysCallable f }
     requires hosts { All (All (IsHost F.post)) shelves.old }
-    ensures wrote { ((port : ℕ) × (p : Pass) × (N.heard net.new ≡ Some port)
-        × Served roots.items (T.coming tree.old) (edits_in script.items) plan.now.rounds result p
-        × WroteReport plan.now.recorded port p result (K.written out.old) (K.written out.new))
-        ⊎ (StopsEarly roots.items (T.coming tree.old) result × (K.written out.new ≡ K.written out.old)) }
-    ensures begun { OnOk result (P.begun spawner.new
-        ≡ plan.now.workers ∷ (plan.now.clients + plan.now.outside) ∷ plan.now.clients ∷ []) }
-    ensures unwritten { result ≡ Err ServeStop.Unwritten → Rose (K.faults out.old) (K.faults out.new) }
-    ensures later { K.faults out.old ≤ K.faults out.new }
-    ensures tree_fault { result ≡ Err ServeStop.Tree → Rose (T.faults tree.old) (T.faults tree.new) }
+    ensures wrote { ((port : ℕ) × (p : Pass) × (N.heard outside.new.net ≡ Some port)
+        × Served task.roots.items (T.coming outside.old.tree) (edits_in task.script.items)
+        task.plan.rounds result p
+        × WroteReport task.plan.recorded port p result (K.written outside.old.out)
+        (K.written outside.new.out))
+        ⊎ (StopsEarly task.roots.items (T.coming outside.old.tree) result
+        × (K.written outside.new.out ≡ K.written outside.old.out)) }
+    ensures begun { OnOk result (P.begun outside.new.spawner
+        ≡ task.plan.workers ∷ (task.plan.clients + task.plan.outside) ∷ task.plan.clients ∷ []) }
+    ensures unwritten { result ≡ Err ServeStop.Unwritten
+        → Rose (K.faults outside.old.out) (K.faults outside.new.out) }
+    ensures later { K.faults outside.old.out ≤ K.faults outside.new.out }
+    ensures tree_fault { result ≡ Err ServeStop.Tree
+        → Rose (T.faults outside.old.tree) (T.faults outside.new.tree) }
     ensures fault { result ≡ Err ServeStop.Fault
-        → Rose (N.faults net.old) (N.faults net.new) ⊎ Rose (P.faults spawner.old) (P.faults spawner.new) }
-    ensures asked { (N.asked net.new ≡ None) ⊎ (N.asked net.new ≡ Some (Asked.Listen plan.now.port)) }
-    ensures ends { N.lent net.new ≡ N.lent net.old }
-    ensures stops { N.refused net.old ≡ false → N.late net.new ≡ N.late net.old }
-    ensures goes { OnOk result (N.refused net.new ≡ N.refused net.old) }
-    ensures opened { MayOpen (T.asked tree.new) folder.now }
+        → Rose (N.faults outside.old.net) (N.faults outside.new.net)
+        ⊎ Rose (P.faults outside.old.spawner) (P.faults outside.new.spawner) }
+    ensures asked { (N.asked outside.new.net ≡ None)
+        ⊎ (N.asked outside.new.net ≡ Some (Asked.Listen task.plan.port)) }
+    ensures ends { N.lent outside.new.net ≡ N.lent outside.old.net }
+    ensures stops { N.refused outside.old.net ≡ false
+        → N.late outside.new.net ≡ N.late outside.old.net }
+    ensures goes { OnOk result (N.refused outside.new.net ≡ N.refused outside.old.net) }
+    ensures opened { MayOpen (T.asked outside.new.tree) task.folder }
     ensures hosts { All (All (IsHost F.post)) shelves.new }
 {
-    let names = copy_of(alloc, &roots)?;
-    let (hub, mut pass) = new_hub(alloc, roots)?;
-    let listing = open_folder(rt, alloc, &hub, &mut pass, tree, folder, plan.workers)?;
+    let plan = task.plan;
+    let script = task.script;
+    let names = copy_of(alloc, &task.roots)?;
+    let (hub, mut pass) = new_hub(alloc, task.roots)?;
     let hub = Arc::new(alloc, hub)?;
-    let (queue, jobs, takers) = JobQueue::new(alloc, plan.workers as usize)?;
-    let queue = Arc::new(alloc, queue)?;
-    let port = net.listen(alloc, plan.port)?;
-    let line = format!(in alloc; "listening {port}\n")?;
-    write_all(out, line.as_bytes())?;
-    let left = run(
-        rt, alloc, plan, port, folder, &hub, queue, jobs, takers, &mut pass, listing, script, tree,
-        net, spawner, gate, shelves,
-    )?;
-    let ended = end_of(&left);
-    write_end(
+    let own = Arc::try_clone(&hub)?;
+    let caller = HubCaller {
         rt,
         alloc,
-        &hub,
+        hub: &hub,
+    };
+    let context = ServerContext {
+        caller,
+        folder: task.folder.as_str(),
+    };
+    let listing = open_folder(&context, &mut pass, &mut outside.tree, plan.workers)?;
+    let (queue, jobs, takers) = JobQueue::new(alloc, plan.workers as usize)?;
+    let queue = Arc::new(alloc, queue)?;
+    let shared = Arc::try_clone(&queue)?;
+    let port = outside.net.listen(alloc, plan.port)?;
+    let line = format!(in alloc; "listening {port}\n")?;
+    write_all(&mut outside.out, line.as_bytes())?;
+    let workers = Workers {
+        queue: shared,
+        takers,
+        gate,
+    };
+    let clients = Clients {
+        own: plan.clients,
+        turns: plan.turns,
+        port,
+        outside: plan.outside,
+    };
+    let staff = Staff {
+        hub: own,
+        queue,
+        jobs,
+        crew: CrewPlan { workers, clients },
+    };
+    let later = LaterEdits {
+        rounds: plan.rounds,
+        listing,
+        script,
+    };
+    let left = run(&context, &mut pass, staff, later, outside, shelves);
+    let ended = end_of(&left);
+    let over = RunEnd {
+        gathered: left.gathered,
+        ended,
+    };
+    write_end(
+        &context,
         &mut pass,
         &names,
         plan.recorded,
-        left.gathered,
-        ended,
-        out,
+        over,
+        &mut outside.out,
     )
 }

@@ -14,10 +14,11 @@ ghost use Rattle.hub_editor.specs.Edits.{has_version, length_of, text_in};
 ghost use Rattle.hub_editor.specs.Editing.{Added, Edited, Fronted, HaveLastResults};
 ghost use Rattle.hub_editor.specs.Editing.{IsGoing, SameEdits, StoppedAt, made_by};
 
+use crate::caller::HubCaller;
 use crate::editor::Editor;
 use crate::stop::EditStop;
 use crate::telling::told_work;
-use hmr_hub::{Hub, Pass};
+use hmr_hub::Pass;
 use hmr_types::{ModName, Ver};
 use std::alloc::Global;
 use std::sync::Wait;
@@ -43,41 +44,39 @@ impl Editor {
     /// keeps a copy of the text.
     pub fn edit<R: Wait>(
         &mut self,
-        rt: &R,
-        alloc: Global,
-        hub: &Hub,
+        caller: &HubCaller<R>,
         pass: &mut Pass,
         queue: &JobQueue,
         jobs: &mut JobPass,
-        name: ModName,
-        text: Option<Vec<u8>>,
+        edit: (ModName, Option<Vec<u8>>),
     ) -> Result<(), EditStop>
-        requires of { IsPassOf hub.now pass.old }
+        requires of { IsPassOf caller.now.hub.now pass.old }
         requires number { number_of pass.old ≡ 0 }
-        requires short { length_of (name, text_in text) ≤ MESSAGE_BYTES }
+        requires short { length_of (edit.0, text_in edit.1) ≤ MESSAGE_BYTES }
         requires going { IsGoing (made_by self.old) }
         requires of_queue { pool.IsPassOf queue.now jobs.old }
         requires puts { (pool.role_of jobs.old).puts ≡ true }
         requires unclosed { (pool.role_of jobs.old).closed ≡ false }
-        ensures of { IsPassOf hub.now pass.new }
+        ensures of { IsPassOf caller.now.hub.now pass.new }
         ensures same { SameKnower pass.old pass.new }
         ensures transcript { HasTranscript pass.old → HasTranscript pass.new }
         ensures edited { (p : Pass) → Edited p pass.old (made_by self.old)
             → Edited p pass.new (made_by self.new) }
         ensures going { IsGoing (made_by self.new) }
-        ensures front { Fronted (made_by self.old) (made_by self.new) ((name, text_in text) ∷ []) }
-        ensures added { OnOk result (Added (name, text_in text) (made_by self.old) (made_by self.new)
+        ensures front { Fronted (made_by self.old) (made_by self.new) ((edit.0, text_in edit.1) ∷ []) }
+        ensures added { OnOk result (Added (edit.0, text_in edit.1) (made_by self.old) (made_by self.new)
             (pool.role_of jobs.old) (pool.role_of jobs.new)) }
         ensures of_queue { pool.IsPassOf queue.now jobs.new }
         ensures puts { (pool.role_of jobs.new).puts ≡ true }
         ensures unclosed { (pool.role_of jobs.new).closed ≡ false }
         ensures stopped { IfErr result
-            (StoppedAt (name, text_in text) (made_by self.old) (made_by self.new)) }
+            (StoppedAt (edit.0, text_in edit.1) (made_by self.old) (made_by self.new)) }
         ensures cause { IfErr result (IsCause pass.new) }
     {
+        let (name, text) = edit;
         self.works.reserve(1)?;
-        let mut work = told_work(rt, alloc, hub, pass, name, text)?;
-        let placed = work.place(rt, alloc, hub, pass, queue, jobs);
+        let mut work = told_work(caller.rt, caller.alloc, caller.hub, pass, name, text)?;
+        let placed = work.place(caller, pass, queue, jobs);
         self.works.push_reserved(work);
         placed
     }
@@ -87,18 +86,16 @@ impl Editor {
     /// each among the edits from the first on. It waits.
     pub fn close<R: Wait>(
         &mut self,
-        rt: &R,
-        alloc: Global,
-        hub: &Hub,
+        caller: &HubCaller<R>,
         pass: &mut Pass,
         queue: &JobQueue,
         jobs: &mut JobPass,
     ) -> Result<(), EditStop>
-        requires of { IsPassOf hub.now pass.old }
+        requires of { IsPassOf caller.now.hub.now pass.old }
         requires number { number_of pass.old ≡ 0 }
         requires of_queue { pool.IsPassOf queue.now jobs.old }
         requires puts { (pool.role_of jobs.old).puts ≡ true }
-        ensures of { IsPassOf hub.now pass.new }
+        ensures of { IsPassOf caller.now.hub.now pass.new }
         ensures same { SameKnower pass.old pass.new }
         ensures transcript { HasTranscript pass.old → HasTranscript pass.new }
         ensures edited { (p : Pass) → Edited p pass.old (made_by self.old)
@@ -112,11 +109,11 @@ impl Editor {
         ensures cause { IfErr result (IsCause pass.new) }
     {
         let mut ended = Ok(());
-        for _ in rt.forever() {
-            let Some(job) = queue.close(rt, jobs) else {
+        for _ in caller.rt.forever() {
+            let Some(job) = queue.close(caller.rt, jobs) else {
                 return ended;
             };
-            self.take_back(rt, alloc, hub, pass, job.ver(), &mut ended);
+            self.take_back(caller, pass, job.ver(), &mut ended);
         }
         unreachable!()
     }
@@ -124,18 +121,16 @@ impl Editor {
     // Works the job of this version, unless a stop came before.
     fn take_back<R: Wait>(
         &mut self,
-        rt: &R,
-        alloc: Global,
-        hub: &Hub,
+        caller: &HubCaller<R>,
         pass: &mut Pass,
         ver: Ver,
         ended: &mut Result<(), EditStop>,
     )
-        requires of { IsPassOf hub.now pass.old }
+        requires of { IsPassOf caller.now.hub.now pass.old }
         requires number { number_of pass.old ≡ 0 }
         requires room { IfErr ended.old IsRoomStop }
         requires cause { IfErr ended.old (IsCause pass.old) }
-        ensures of { IsPassOf hub.now pass.new }
+        ensures of { IsPassOf caller.now.hub.now pass.new }
         ensures same { SameKnower pass.old pass.new }
         ensures transcript { HasTranscript pass.old → HasTranscript pass.new }
         ensures edited { (p : Pass) → Edited p pass.old (made_by self.old)
@@ -148,7 +143,7 @@ impl Editor {
             return;
         }
         if let Some(at) = self.place_of(ver) {
-            *ended = self.works[at].work_left(rt, alloc, hub, pass);
+            *ended = self.works[at].work_left(caller, pass);
         }
     }
 
@@ -170,15 +165,13 @@ impl Editor {
     /// waits.
     pub fn settle_rest<R: Wait>(
         &mut self,
-        rt: &R,
-        alloc: Global,
-        hub: &Hub,
+        caller: &HubCaller<R>,
         pass: &mut Pass,
     ) -> Result<(), EditStop>
-        requires of { IsPassOf hub.now pass.old }
+        requires of { IsPassOf caller.now.hub.now pass.old }
         requires number { number_of pass.old ≡ 0 }
         requires knows { KnowsOwn pass.old }
-        ensures of { IsPassOf hub.now pass.new }
+        ensures of { IsPassOf caller.now.hub.now pass.new }
         ensures same { SameKnower pass.old pass.new }
         ensures transcript { HasTranscript pass.old → HasTranscript pass.new }
         ensures edited { (p : Pass) → Edited p pass.old (made_by self.old)
@@ -192,7 +185,7 @@ impl Editor {
         let mut left = self.works.len();
         while left > 0 {
             left -= 1;
-            self.works[left].settle_outstanding(rt, alloc, hub, pass)?;
+            self.works[left].settle_outstanding(caller, pass)?;
         }
         Ok(())
     }

@@ -13,11 +13,11 @@ ghost use Rattle.hub_editor.specs.Editing.{Settled, Told, Went};
 ghost use Rattle.hub_editor.specs.declared.worked.Worked.TheVariants.{No};
 
 use crate::stop::EditStop;
-use crate::work::{Work, copy_text};
+use crate::work::Work;
 use hmr_hub::{Hub, Pass};
 use hmr_types::{EditRefusal, ModName, Ver};
 use import_scan::Transformed;
-use server_core::{Event, Reply};
+use server_core::{Event, Reply, copy_text};
 use std::alloc::Global;
 use std::sync::Wait;
 use transform_pool::TextJob;

@@ -9,6 +9,7 @@ ghost use Rattle.hub_editor.specs.declared.worked.Worked.TheVariants.{No};
 
 use crate::worked::Worked;
 use hmr_types::{EditRefusal, ModName, Ver};
+use server_core::copy_text;
 use std::alloc::{AllocError, Global};
 use std::marker::Model;
 use transform_pool::TextJob;
@@ -112,18 +113,5 @@ impl Work {
         ensures { self.new ≡ record self.old { worked = worked } }
     {
         self.worked = worked;
-    }
-}
-
-// A copy of a text.
-pub(crate) fn copy_text(
-    alloc: Global,
-    text: &Option<Vec<u8>>,
-) -> Result<Option<Vec<u8>>, AllocError>
-    ensures { IfOk result (λ copy. text_in copy ≡ text_in text.now) }
-{
-    match text {
-        Some(text) => Ok(Some(Vec::from_slice(alloc, text)?)),
-        None => Ok(None),
     }
 }

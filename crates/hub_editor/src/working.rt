@@ -12,12 +12,12 @@ ghost use Rattle.hub_editor.specs.Results.{HasOwnResults, HasResult, last_in};
 ghost use Rattle.hub_editor.specs.Editing.{IsAnswered, Steps, WorkedOut};
 ghost use Rattle.hub_editor.specs.declared.worked.Worked.TheVariants.{AtEnd, AtOnce, No};
 
+use crate::caller::HubCaller;
 use crate::stop::EditStop;
 use crate::telling::{settle, stop_by};
 use crate::work::Work;
 use crate::worked::Worked;
-use hmr_hub::{Hub, Pass};
-use std::alloc::Global;
+use hmr_hub::Pass;
 use std::sync::Wait;
 use transform_pool::{JobPass, JobQueue, TextJob};
 
@@ -26,21 +26,19 @@ impl Work {
     // has no place for it, the editor works it. A refusal of the edit stops the editor.
     pub(crate) fn place<R: Wait>(
         &mut self,
-        rt: &R,
-        alloc: Global,
-        hub: &Hub,
+        caller: &HubCaller<R>,
         pass: &mut Pass,
         queue: &JobQueue,
         jobs: &mut JobPass,
     ) -> Result<(), EditStop>
-        requires of { IsPassOf hub.now pass.old }
+        requires of { IsPassOf caller.now.hub.now pass.old }
         requires number { number_of pass.old ≡ 0 }
         requires answered { IsAnswered pass.old self.old }
         requires unworked { self.old.worked ≡ No }
         requires of_queue { pool.IsPassOf queue.now jobs.old }
         requires puts { (pool.role_of jobs.old).puts ≡ true }
         requires unclosed { (pool.role_of jobs.old).closed ≡ false }
-        ensures of { IsPassOf hub.now pass.new }
+        ensures of { IsPassOf caller.now.hub.now pass.new }
         ensures same { SameKnower pass.old pass.new }
         ensures transcript { HasTranscript pass.old → HasTranscript pass.new }
         ensures steps { Steps AtOnce self.old self.new pass.old pass.new }
@@ -57,31 +55,29 @@ impl Work {
         if let Err(refusal) = self.answer() {
             return Err(stop_by(refusal));
         }
-        let Some(job) = self.job(alloc)? else {
+        let Some(job) = self.job(caller.alloc)? else {
             return Ok(());
         };
-        match queue.put(rt, jobs, job) {
+        match queue.put(caller.rt, jobs, job) {
             Ok(()) => Ok(()),
-            Err(job) => self.work_out(rt, alloc, hub, pass, job, Worked::AtOnce),
+            Err(job) => self.work_out(caller, pass, job, Worked::AtOnce),
         }
     }
 
     // Works the job of the edit, tells its result and marks it so.
     fn work_out<R: Wait>(
         &mut self,
-        rt: &R,
-        alloc: Global,
-        hub: &Hub,
+        caller: &HubCaller<R>,
         pass: &mut Pass,
         job: TextJob,
         worked: Worked,
     ) -> Result<(), EditStop>
-        requires of { IsPassOf hub.now pass.old }
+        requires of { IsPassOf caller.now.hub.now pass.old }
         requires number { number_of pass.old ≡ 0 }
         requires unworked { self.old.worked ≡ No }
         requires job { jobs_of self.old ≡ job ∷ [] }
         requires version { IsVersion job.ver }
-        ensures of { IsPassOf hub.now pass.new }
+        ensures of { IsPassOf caller.now.hub.now pass.new }
         ensures same { SameKnower pass.old pass.new }
         ensures transcript { HasTranscript pass.old → HasTranscript pass.new }
         ensures worked_out { OnOk result (WorkedOut worked self.old self.new pass.old pass.new) }
@@ -89,7 +85,7 @@ impl Work {
         ensures room { IfErr result IsRoomStop }
         ensures cause { IfErr result (IsCause pass.new) }
     {
-        settle(rt, alloc, hub, pass, job)?;
+        settle(caller.rt, caller.alloc, caller.hub, pass, job)?;
         self.mark(worked);
         Ok(())
     }
@@ -97,14 +93,12 @@ impl Work {
     // Works the job after all edits, unless the editor worked it before.
     pub(crate) fn work_left<R: Wait>(
         &mut self,
-        rt: &R,
-        alloc: Global,
-        hub: &Hub,
+        caller: &HubCaller<R>,
         pass: &mut Pass,
     ) -> Result<(), EditStop>
-        requires of { IsPassOf hub.now pass.old }
+        requires of { IsPassOf caller.now.hub.now pass.old }
         requires number { number_of pass.old ≡ 0 }
-        ensures of { IsPassOf hub.now pass.new }
+        ensures of { IsPassOf caller.now.hub.now pass.new }
         ensures same { SameKnower pass.old pass.new }
         ensures transcript { HasTranscript pass.old → HasTranscript pass.new }
         ensures steps { Steps AtEnd self.old self.new pass.old pass.new }
@@ -116,25 +110,23 @@ impl Work {
         if !self.is_waiting() {
             return Ok(());
         }
-        let Some(job) = self.job(alloc)? else {
+        let Some(job) = self.job(caller.alloc)? else {
             return Ok(());
         };
-        self.work_out(rt, alloc, hub, pass, job, Worked::AtEnd)
+        self.work_out(caller, pass, job, Worked::AtEnd)
     }
 
     // Works the job after all edits, where the hub still tells that its result hasn't come. So the job of
     // the last counted edit of its name has its result then.
     pub(crate) fn settle_outstanding<R: Wait>(
         &mut self,
-        rt: &R,
-        alloc: Global,
-        hub: &Hub,
+        caller: &HubCaller<R>,
         pass: &mut Pass,
     ) -> Result<(), EditStop>
-        requires of { IsPassOf hub.now pass.old }
+        requires of { IsPassOf caller.now.hub.now pass.old }
         requires number { number_of pass.old ≡ 0 }
         requires knows { KnowsOwn pass.old }
-        ensures of { IsPassOf hub.now pass.new }
+        ensures of { IsPassOf caller.now.hub.now pass.new }
         ensures same { SameKnower pass.old pass.new }
         ensures transcript { HasTranscript pass.old → HasTranscript pass.new }
         ensures steps { Steps AtEnd self.old self.new pass.old pass.new }
@@ -149,9 +141,9 @@ impl Work {
             return Ok(());
         }
         let name = self.name()?;
-        if !hub.outstanding(rt, pass, name) {
+        if !caller.hub.outstanding(caller.rt, pass, name) {
             return Ok(());
         }
-        self.work_left(rt, alloc, hub, pass)
+        self.work_left(caller, pass)
     }
 }

@@ -46,7 +46,7 @@ ends_as ends.NoMemory = Err NoMemory
 ends_as (ends.Unexpected wanted got) = Err BadAnswer
 ends_as ends.InstancesFull = Err InstancesFull
 
--- writing stops only at the output or for want of memory
+-- writing stops only at the output or where memory ran out
 abbrev pub IsWriteStop : JoinStop → Type 0
 IsWriteStop Unwritten = ⊤
 IsWriteStop NetFailed = ⊥

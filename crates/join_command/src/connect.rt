@@ -7,21 +7,21 @@ ghost use Rattle.hmr_base.specs.Causes.{Rose};
 ghost use Rattle.transport.specs.declared.net.Asked.{Asked};
 ghost use Rattle.join_command.specs.Joining.{JoinsAt, JoinsBy};
 
+use crate::plan::JoinPlan;
 use crate::session::run;
 use crate::stop::JoinStop;
 use const_eval::Ran;
 use handler_table::Shelf;
 use hmr_base::Sink;
-use hmr_types::ModName;
 use hot_runtime::HotRuntime;
-use transport::Net;
 use retained_data::Bag;
 use std::alloc::{AllocError, Global};
+use transport::Net;
 
-/// Connects one client in the second format to a server at a port of this machine: it sends hello, so many
-/// requests, and bye. Its page has these roots, or with none the server's, and its modules get the closures
-/// of the shelf. The lines of each answer are written before the next request is sent. It answers Ok where
-/// the bye was answered or the server closed.
+/// Connects one client in the second format to the server of a plan: it sends hello, as many requests as the
+/// plan says, and bye. Its page has the plan's roots, or with none the server's, and its modules get the
+/// closures of the shelf. The lines of each answer are written before the next request is sent. It answers
+/// Ok where the bye was answered or the server closed.
 ///
 /// [`JoinStop::Unwritten`] comes only where the output's count of faults rose in this call, and
 /// [`JoinStop::NetFailed`] only where the net's did. [`JoinStop::BadAnswer`] and
@@ -32,9 +32,7 @@ use std::alloc::{AllocError, Global};
 /// waits.
 pub fn join<F: FnOnce(Bag) -> Result<Ran, AllocError> + Drop, N: Net, K: Sink>(
     alloc: Global,
-    port: u16,
-    roots: Vec<ModName>,
-    turns: u32,
+    plan: JoinPlan,
     net: &mut N,
     out: &mut K,
     shelf: Shelf<F>,
@@ -43,18 +41,19 @@ pub fn join<F: FnOnce(Bag) -> Result<Ran, AllocError> + Drop, N: Net, K: Sink>(
     requires unheard { N.heard net.old ≡ None }
     requires callable { (f : F) → F.IsAlwaysCallable f }
     requires hosts { All (IsHost F.post) shelf }
-    ensures joins { JoinsAt (record { shelf = marks_of shelf; roots = roots.items; format = 2 }) turns
-        (N.coming net.old) (K.written out.old) (K.written out.new) result }
-    ensures over { JoinsBy (record { shelf = marks_of shelf; roots = roots.items; format = 2 }) turns
-        (N.coming net.old) (N.unread net.new) (N.spoken net.new) (K.written out.old) (K.written out.new)
-        result }
+    ensures joins { JoinsAt (record { shelf = marks_of shelf; roots = plan.roots.items; format = 2 })
+        plan.turns (N.coming net.old) (K.written out.old) (K.written out.new) result }
+    ensures over { JoinsBy (record { shelf = marks_of shelf; roots = plan.roots.items; format = 2 })
+        plan.turns (N.coming net.old) (N.unread net.new) (N.spoken net.new)
+        (K.written out.old) (K.written out.new) result }
     ensures back { N.lent net.new ≡ N.lent net.old }
-    ensures asked { N.asked net.new ≡ Some (Asked.Connect port) }
+    ensures asked { N.asked net.new ≡ Some (Asked.Connect plan.port) }
     ensures later { N.faults net.old ≤ N.faults net.new }
     ensures failed { result ≡ Err JoinStop.NetFailed → Rose (N.faults net.old) (N.faults net.new) }
     ensures out_later { K.faults out.old ≤ K.faults out.new }
     ensures unwritten { result ≡ Err JoinStop.Unwritten → Rose (K.faults out.old) (K.faults out.new) }
 {
+    let JoinPlan { port, roots, turns } = plan;
     let mut runtime = HotRuntime::new(alloc, shelf, roots, 2);
     let mut link = match net.connect(alloc, port) {
         Ok(link) => link,

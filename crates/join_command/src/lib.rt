@@ -7,9 +7,11 @@
 #![tactic(auto)]
 
 mod connect;
+mod plan;
 mod session;
 mod stop;
 mod writing;
 
 pub use connect::join;
+pub use plan::JoinPlan;
 pub use stop::JoinStop;

@@ -13,9 +13,9 @@ use client_sessions::{Ended, bye, turn};
 use const_eval::Ran;
 use hmr_base::Sink;
 use hot_runtime::HotRuntime;
-use transport::Link;
 use retained_data::Bag;
 use std::alloc::{AllocError, Global};
+use transport::Link;
 
 /// Opens a fresh link, sends hello, so many requests of a runtime that took no message yet, and bye, and
 /// closes the link. The lines of each answer are written before the next request. It waits.

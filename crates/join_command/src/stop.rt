@@ -5,8 +5,8 @@ ghost use Rattle.join_command.specs.Joining.{ends_as};
 
 use client_sessions::Ended;
 use hmr_base::WriteFault;
-use transport::OutFault;
 use std::alloc::AllocError;
+use transport::OutFault;
 
 /// Why [`join`](crate::join) stopped otherwise than by a bye or a server that closed.
 #[derive(Clone, Copy, Debug, PartialEq, Eq)]

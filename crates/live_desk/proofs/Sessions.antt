@@ -13,9 +13,9 @@ use Rattle.core_model.specs.declared.refusal.Refusal.TheVariants.{UnknownClient,
 use Rattle.core_model.specs.declared.refusal.Refusal.TheVariants.{Mismatch, Unfetched, Ignored, BadRoots}
 use Rattle.core_model.specs.Core.{disconnect}
 use Rattle.core_model.specs.Exchange.{event_of, refusal_message}
+use Rattle.client_exchange.specs.Replies.{connected_or}
 use Rattle.session_desks.specs.declared.desk.HubDesk.{HubDesk}
 use Rattle.session_desks.specs.Desks.{Dealt, DealtBy, Left, LeftBy, SameDesk, client_with, refusal_of}
-use Rattle.session_desks.specs.Exchange.{connected_or}
 use Rattle.live_desk.specs.Calls.{Call, HasCalled}
 use Rattle.live_desk.specs.Desks.{GoesOn, told_by}
 use Rattle.live_desk.specs.Sessions.{AreExchanged, Exchange, HasDealt, IsDealt, IsDealtBy, IsExchanged, IsLeftBy, IsSession, Session, calls_in, calls_of, client_then, deal_of, deals_in}

@@ -42,7 +42,7 @@ pub record HadNoPlace (entries : List Recorded) (by : ℕ) (own : List Recorded)
   pub own_are : calls (by ∷ []) before ≡ own
   pub full : is_full before event ≡ true
 
--- what came back is so at its own place; of want of memory nothing is said
+-- what came back is so at its own place; where memory ran out nothing is said
 abbrev pub IsCallAt : List Name → List Recorded → ℕ → List Recorded → Event → Result Reply HubStop → Type 0
 IsCallAt roots entries by own event (Ok reply) = IsRepliedAt roots entries by own event reply
 IsCallAt roots entries by own event (Err TranscriptFull) = HadNoPlace entries by own event

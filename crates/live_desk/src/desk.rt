@@ -8,31 +8,28 @@ ghost use Rattle.update_msgs.specs.Writable.{IsFormat, IsWritable};
 ghost use Rattle.hmr_hub.specs.Passes.{IsPassOf, seen_of};
 ghost use Rattle.hub_moves.specs.Fullness.{IsNearlyFull};
 
-use crate::bell::Bell;
 use crate::dealings::Dealings;
 use crate::exchange::{is_ask, is_change, is_idle};
-use crate::news_board::NewsBoard;
+use crate::shared::Shared;
 use hmr_hub::{Hub, Pass};
 use hmr_types::ClientId;
-use session_desks::HubDesk;
 use live_lines::{Asked, ImportedName, News, PageLog, PageNews};
 use live_site::Site;
+use session_desks::HubDesk;
 use std::alloc::Global;
 use std::snapshot::Snapshot;
 use std::sync::{Arc, Wait};
 use update_msgs::{ClientMsg, Desk, HubStop, ServerMsg};
 
-/// The desk of one page: a desk of the hub, the bell that asks wait at, where news go, and the site that
-/// says which names a text imports. It has what is known of the page. What it has dealt with only clauses
-/// read.
+/// The desk of one page: a desk of the hub, and what is shared with other threads, of which it uses the bell
+/// that asks wait at, where news go, and the site that says which names a text imports. It has what is known
+/// of the page. What it has dealt with only clauses read.
 #[derive(Drop)]
 pub struct LiveDesk<R: Drop, S: Drop> {
     rt: R,
     alloc: Global,
     desk: HubDesk<R>,
-    bell: Arc<Bell, Global>,
-    news: Arc<NewsBoard, Global>,
-    site: Arc<S, Global>,
+    shared: Shared<S>,
     log: PageLog,
     dealings: Snapshot<Dealings>,
 }
@@ -41,15 +38,7 @@ impl<R: Copy + Drop, S: Drop> LiveDesk<R, S> {
     ghost use Rattle.live_desk.specs.Desks.{told_by};
 
     /// A desk without a client.
-    pub fn new(
-        rt: R,
-        alloc: Global,
-        hub: Arc<Hub, Global>,
-        pass: Pass,
-        bell: Arc<Bell, Global>,
-        news: Arc<NewsBoard, Global>,
-        site: Arc<S, Global>,
-    ) -> Self
+    pub fn new(rt: R, alloc: Global, hub: Arc<Hub, Global>, pass: Pass, shared: Shared<S>) -> Self
         requires of { IsPassOf (arc_value hub) pass }
         ensures hub { result.desk.hub ≡ hub }
         ensures pass { result.desk.pass ≡ pass }
@@ -61,9 +50,7 @@ impl<R: Copy + Drop, S: Drop> LiveDesk<R, S> {
             rt,
             alloc,
             desk: HubDesk::new(rt, hub, pass),
-            bell,
-            news,
-            site,
+            shared,
             log: PageLog::new(alloc),
             dealings: Snapshot::of(&Dealings::Nothing),
         }
@@ -88,9 +75,7 @@ impl<R: Drop, S: Drop> LiveDesk<R, S> {
             rt: _,
             alloc: _,
             desk,
-            bell: _,
-            news: _,
-            site: _,
+            shared: _,
             log: _,
             dealings: _,
         } = self;
@@ -138,7 +123,7 @@ impl<R: Wait + Drop, S: Site + Drop> LiveDesk<R, S> {
     fn tell_gone(&self, client: ClientId) {
         if client != 0 {
             self.tell_of(client, PageNews::Closed);
-            self.bell.ring();
+            self.shared.bell.ring();
         }
     }
 
@@ -162,7 +147,7 @@ impl<R: Wait + Drop, S: Site + Drop> LiveDesk<R, S> {
     // Rings, where others may have something to do.
     fn ring_if(&self, rings: bool) {
         if rings {
-            self.bell.ring();
+            self.shared.bell.ring();
         }
     }
 
@@ -173,12 +158,12 @@ impl<R: Wait + Drop, S: Site + Drop> LiveDesk<R, S> {
         ensures untold { self.new.dealings ≡ self.old.dealings }
         ensures written { IfOk result (λ m. (format : ℕ) → IsFormat format → IsWritable format m) }
     {
-        let seen = self.bell.count();
+        let seen = self.shared.bell.count();
         let first = self.desk.deal(ClientMsg::Ask)?;
         if !is_idle(&first) {
             return Ok(first);
         }
-        self.bell.wait(&self.rt, seen);
+        self.shared.bell.wait(&self.rt, seen);
         self.desk.deal(ClientMsg::Ask)
     }
 
@@ -208,6 +193,7 @@ impl<R: Wait + Drop, S: Site + Drop> LiveDesk<R, S> {
             return Vec::new(self.alloc);
         };
         let found = self
+            .shared
             .site
             .imported_names(&self.rt, self.alloc, path, *version);
         match found {
@@ -218,7 +204,7 @@ impl<R: Wait + Drop, S: Site + Drop> LiveDesk<R, S> {
 
     // Tells something of the page of this client.
     fn tell_of(&self, client: ClientId, news: PageNews) {
-        self.news.tell(&self.rt, News::Page { client, news });
+        self.shared.news.tell(&self.rt, News::Page { client, news });
     }
 }
 

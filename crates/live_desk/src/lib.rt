@@ -3,7 +3,8 @@
 //! A [`LiveDesk`] stands round a desk of the hub: an ask to which there is nothing to say waits until a
 //! [`Bell`] rings, or for 25 seconds, and is then dealt again. What each exchange shows of the page goes to a
 //! [`NewsBoard`], from which one thread takes it. A [`LiveBoard`] stands round a board of the hub: it waits
-//! until there is a job for it, and rings for each result.
+//! until there is a job for it, and rings for each result. Bell, news and the site of a server are one
+//! [`Shared`], which each of its threads has.
 //!
 //! Stands on `session_desks` for desks and boards, on `live_lines` for what an exchange shows, and on
 //! `live_site` for the names that a text imports. Keeps: each answer is one that the hub's desk dealt, the
@@ -20,9 +21,11 @@ mod dealings;
 mod desk;
 mod exchange;
 mod news_board;
+mod shared;
 
 pub use bell::Bell;
 pub use board::LiveBoard;
 pub use dealings::Dealings;
 pub use desk::LiveDesk;
 pub use news_board::NewsBoard;
+pub use shared::Shared;

@@ -22,9 +22,10 @@ mod wanted;
 use day_time::offset_here;
 use endings::{NO_MEMORY, NO_NET, OTHER, status_of, style_of};
 use hmr_base::StdSink;
+use hmr_types::ModName;
 use jobs::ThreadSpawner;
 use keys::keys_of;
-use live_server::{LivePlan, serve_live};
+use live_server::{Folder, LivePlan, Supply, serve_live};
 use live_words::DevPlan;
 use ports::listen_next;
 use screen::{Manner, Screen};
@@ -50,7 +51,7 @@ fn main(rt: HostRuntime) -> ExitCode {
         return ExitCode::from(NO_MEMORY);
     };
     let manner = manner_of(&rt, &dev);
-    let live = plan_of(&dev);
+    let live = plan_of(&dev, &roots);
     let mut screen = Screen::new(alloc, rt, StdSink::new(rt.stdout()), manner, keys);
     // One server after another.
     for number in 1..u64::MAX {
@@ -68,20 +69,14 @@ fn main(rt: HostRuntime) -> ExitCode {
         let Ok(sides) = sides_of(&rt, alloc, &dev, port) else {
             return ExitCode::from(NO_MEMORY);
         };
-        let Sides { mut watched, site } = sides;
-        let mut spawner = ThreadSpawner::new();
-        let served = serve_live(
-            &rt,
-            alloc,
-            &live,
+        let Sides { watched, site } = sides;
+        let folder = Folder { watched, site };
+        let mut supply = Supply {
+            entrance,
             port,
-            &roots,
-            &mut watched,
-            site,
-            &mut entrance,
-            &mut spawner,
-            &mut screen,
-        );
+            spawner: ThreadSpawner::new(),
+        };
+        let served = serve_live(&rt, alloc, &live, folder, &mut supply, &mut screen);
         let Ok(report) = served else {
             return ExitCode::from(NO_MEMORY);
         };
@@ -105,11 +100,13 @@ fn manner_of(rt: &HostRuntime, dev: &DevPlan) -> Manner {
     }
 }
 
-// How much a server does.
-fn plan_of(dev: &DevPlan) -> LivePlan
-    ensures { result.workers ≡ dev.now.workers }
+// What a server begins at, and how much it does.
+fn plan_of<'a>(dev: &DevPlan, roots: &'a [ModName]) -> LivePlan<'a>
+    ensures roots { result.roots.now ≡ roots.now }
+    ensures workers { result.workers ≡ dev.now.workers }
 {
     LivePlan {
+        roots,
         workers: dev.workers,
         doors: DOORS,
         recorded: dev.record.is_some(),

@@ -2,15 +2,15 @@
 ghost use Rattle.std.specs.Prelude.{◌≡◌, ◌≤◌};
 ghost use Rattle.transport.specs.declared.link.Phase.{Phase};
 
-use crate::shared::Shared;
 use doors::{Coming, Visitor};
 use hmr_types::Text;
-use transport::Link;
 use live_answers::{Answer, Next, answer_to_long, foreign_text};
+use live_desk::Shared;
 use live_lines::{Foreign, News};
 use live_site::Site;
 use std::alloc::{AllocError, Global};
 use std::sync::Wait;
+use transport::Link;
 
 /// Answers the requests of a visitor. It says whether the visitor asks for a WebSocket, which is then to be
 /// opened; else the visitor is to be closed. It waits.

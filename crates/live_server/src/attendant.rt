@@ -7,15 +7,14 @@ ghost use Rattle.transport.specs.declared.link.Phase.{Phase};
 ghost use Rattle.hmr_hub.specs.Passes.{IsPassOf};
 
 use crate::answering::answer_heads;
-use crate::shared::Shared;
 use doors::{Attendant, Visitor};
 use hmr_hub::{Hub, Pass};
-use transport::Link;
-use live_desk::LiveDesk;
+use live_desk::{LiveDesk, Shared};
 use live_site::Site;
 use sessions::serve_session;
 use std::alloc::{AllocError, Global};
 use std::sync::{Arc, Wait};
+use transport::Link;
 
 /// What serves the visitors of one door: a hub, and the one pass with which all their sessions are held. It
 /// counts its visits, and has whether the hub answered that its transcript is full.
@@ -98,14 +97,8 @@ impl<R: Wait + Copy + Drop, S: Site + Drop> HubAttendant<R, S> {
         let Some(pass) = self.pass.take() else {
             unreachable!()
         };
-        let Shared {
-            site,
-            port: _,
-            bell,
-            news,
-        } = shared;
-        bell.ring();
-        let mut desk = LiveDesk::new(self.rt, alloc, hub, pass, bell, news, site);
+        shared.bell.ring();
+        let mut desk = LiveDesk::new(self.rt, alloc, hub, pass, shared);
         let _ended = serve_session(rt, alloc, end, &mut desk);
         desk.leave();
         self.keep(desk);

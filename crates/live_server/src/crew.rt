@@ -16,20 +16,21 @@ ghost use Rattle.live_server.specs.Serving.{passes_due};
 ghost use Rattle.live_server.specs.Splits.{Divided};
 
 use crate::attendant::HubAttendant;
+use crate::context::Context;
 use crate::job::{LiveDoor, LiveJob, LiveOut, LiveWorker};
+use crate::outside::Supply;
 use crate::plan::LiveEnd;
-use crate::shared::Shared;
 use crate::taking::{hand_back, take_in};
 use doors::{Door, Entrance};
 use hmr_hub::{Hub, Pass};
-use session_desks::HubBoard;
 use jobs::{Running, Spawner, start};
-use live_desk::LiveBoard;
+use live_desk::{LiveBoard, Shared};
 use live_site::Site;
+use session_desks::HubBoard;
 use std::alloc::{AllocError, Global};
 use std::sync::{Arc, Wait};
 use std::thread::Threads;
-use transform_pool::{JobPass, JobQueue};
+use transform_pool::JobPass;
 
 /// Jobs of a hub that were begun, and the passes of those that ended so far.
 #[derive(Drop)]
@@ -37,7 +38,6 @@ pub(crate) struct Crew<R: Wait + Copy + Drop, E: Entrance, S: Site + Drop>
 where
     E::Door: Drop,
 {
-    pub(crate) hub: Arc<Hub, Global>,
     pub(crate) running: Vec<Running<LiveJob<R, E::Door, S>>>,
     pub(crate) passes: Vec<Pass>,
 }
@@ -52,49 +52,47 @@ where
     <E::Door as Door>::End: Send + 'static,
     S::File: Send + 'static,
 {
-    // A crew of a hub, of which no job was begun yet.
-    pub(crate) fn new(alloc: Global, hub: Arc<Hub, Global>) -> Self
-        ensures hub { result.hub ≡ hub }
-        ensures crew { IsCrew ⟦<E::Door as Door>⟧ (arc_value result.hub) result.running result.passes }
+    // A crew of which no job was begun yet.
+    pub(crate) fn new(context: &Context<R, S>) -> Self
+        ensures crew { IsCrew ⟦<E::Door as Door>⟧ (arc_value context.now.hub)
+            result.running result.passes }
         ensures none { passes_due result.running result.passes ≡ 0 }
     {
         Crew {
-            hub,
-            running: Vec::new(alloc),
-            passes: Vec::new(alloc),
+            running: Vec::new(context.alloc),
+            passes: Vec::new(context.alloc),
         }
     }
 
     // Begins a worker for each pass that takes.
     pub(crate) fn begin_workers<P: Spawner>(
         &mut self,
-        rt: &R,
-        alloc: Global,
+        context: &Context<R, S>,
         pass: &mut Pass,
-        entrance: &mut E,
-        spawner: &mut P,
-        shared: &Shared<S>,
-        queue: &Arc<JobQueue, Global>,
+        supply: &mut Supply<E, P>,
         mut takers: Vec<JobPass>,
     ) -> Result<(), LiveEnd>
-        requires crew { IsCrew ⟦<E::Door as Door>⟧ (arc_value self.old.hub) self.old.running self.old.passes }
-        requires of { IsPassOf (arc_value self.old.hub) pass.old }
-        requires each_of { All (λ p. queues.IsPassOf (arc_value queue.now) p) takers.items }
+        requires crew { IsCrew ⟦<E::Door as Door>⟧ (arc_value context.now.hub)
+            self.old.running self.old.passes }
+        requires of { IsPassOf (arc_value context.now.hub) pass.old }
+        requires each_of { All (λ p. queues.IsPassOf (arc_value context.now.queue) p) takers.items }
         requires each_takes { All (λ p. role_of p ≡ taking) takers.items }
-        requires few { sum (P.begun spawner.old) + length takers.items ≤ most_starts }
-        ensures hub { self.new.hub ≡ self.old.hub }
-        ensures crew { IsCrew ⟦<E::Door as Door>⟧ (arc_value self.new.hub) self.new.running self.new.passes }
-        ensures of { IsPassOf (arc_value self.new.hub) pass.new }
+        requires few { sum (P.begun supply.old.spawner) + length takers.items ≤ most_starts }
+        ensures crew { IsCrew ⟦<E::Door as Door>⟧ (arc_value context.now.hub)
+            self.new.running self.new.passes }
+        ensures of { IsPassOf (arc_value context.now.hub) pass.new }
         ensures divided { Divided pass.old pass.new }
-        ensures few { sum (P.begun spawner.new) ≤ sum (P.begun spawner.old) + length takers.items }
-        ensures due { sum (P.begun spawner.new) + passes_due self.old.running self.old.passes
-            ≤ sum (P.begun spawner.old) + passes_due self.new.running self.new.passes }
+        ensures few { sum (P.begun supply.new.spawner)
+            ≤ sum (P.begun supply.old.spawner) + length takers.items }
+        ensures due { sum (P.begun supply.new.spawner) + passes_due self.old.running self.old.passes
+            ≤ sum (P.begun supply.old.spawner) + passes_due self.new.running self.new.passes }
         ensures keeps { KeepsDoors ⟦<E::Door as Door>⟧ (roots_of pass.old)
-            (P.begun spawner.old) (P.begun spawner.new) self.old.running.items self.new.running.items }
-        ensures shut { E.is_shut entrance.new ≡ E.is_shut entrance.old }
+            (P.begun supply.old.spawner) (P.begun supply.new.spawner)
+            self.old.running.items self.new.running.items }
+        ensures shut { E.is_shut supply.new.entrance ≡ E.is_shut supply.old.entrance }
     {
         while let Some(jobs) = takers.pop() {
-            self.begin_worker(rt, alloc, pass, entrance, spawner, shared, queue, jobs)?;
+            self.begin_worker(context, pass, supply, jobs)?;
         }
         Ok(())
     }
@@ -103,70 +101,67 @@ where
     #[tactic(auto, using(crate::proofs::Doors::doors_same))]
     fn begin_worker<P: Spawner>(
         &mut self,
-        rt: &R,
-        alloc: Global,
+        context: &Context<R, S>,
         pass: &mut Pass,
-        entrance: &mut E,
-        spawner: &mut P,
-        shared: &Shared<S>,
-        queue: &Arc<JobQueue, Global>,
+        supply: &mut Supply<E, P>,
         jobs: JobPass,
     ) -> Result<(), LiveEnd>
-        requires crew { IsCrew ⟦<E::Door as Door>⟧ (arc_value self.old.hub) self.old.running self.old.passes }
-        requires of { IsPassOf (arc_value self.old.hub) pass.old }
-        requires of_queue { queues.IsPassOf (arc_value queue.now) jobs }
+        requires crew { IsCrew ⟦<E::Door as Door>⟧ (arc_value context.now.hub)
+            self.old.running self.old.passes }
+        requires of { IsPassOf (arc_value context.now.hub) pass.old }
+        requires of_queue { queues.IsPassOf (arc_value context.now.queue) jobs }
         requires takes { role_of jobs ≡ taking }
-        requires few { sum (P.begun spawner.old) + 1 ≤ most_starts }
-        ensures hub { self.new.hub ≡ self.old.hub }
-        ensures crew { IsCrew ⟦<E::Door as Door>⟧ (arc_value self.new.hub) self.new.running self.new.passes }
-        ensures of { IsPassOf (arc_value self.new.hub) pass.new }
+        requires few { sum (P.begun supply.old.spawner) + 1 ≤ most_starts }
+        ensures crew { IsCrew ⟦<E::Door as Door>⟧ (arc_value context.now.hub)
+            self.new.running self.new.passes }
+        ensures of { IsPassOf (arc_value context.now.hub) pass.new }
         ensures divided { Divided pass.old pass.new }
-        ensures few { sum (P.begun spawner.new) ≤ sum (P.begun spawner.old) + 1 }
-        ensures due { sum (P.begun spawner.new) + passes_due self.old.running self.old.passes
-            ≤ sum (P.begun spawner.old) + passes_due self.new.running self.new.passes }
+        ensures few { sum (P.begun supply.new.spawner) ≤ sum (P.begun supply.old.spawner) + 1 }
+        ensures due { sum (P.begun supply.new.spawner) + passes_due self.old.running self.old.passes
+            ≤ sum (P.begun supply.old.spawner) + passes_due self.new.running self.new.passes }
         ensures keeps { KeepsDoors ⟦<E::Door as Door>⟧ (roots_of pass.old)
-            (P.begun spawner.old) (P.begun spawner.new) self.old.running.items self.new.running.items }
-        ensures shut { E.is_shut entrance.new ≡ E.is_shut entrance.old }
+            (P.begun supply.old.spawner) (P.begun supply.new.spawner)
+            self.old.running.items self.new.running.items }
+        ensures shut { E.is_shut supply.new.entrance ≡ E.is_shut supply.old.entrance }
     {
-        let queue = Arc::try_clone(queue)?;
+        let queue = Arc::try_clone(&context.queue)?;
         let Shared {
             site: _,
             port: _,
             bell,
             news,
-        } = shared.again()?;
-        let (hub, half) = self.split(rt, pass)?;
+        } = context.shared.again()?;
+        let (hub, half) = self.split(context, pass)?;
         let board = LiveBoard::new(HubBoard::new(hub, half, queue, jobs), bell, news);
         let job = LiveJob::Worker(LiveWorker::new(board));
-        self.begin(rt, alloc, entrance, spawner, job)
+        self.begin(context, supply, job)
     }
 
     // Begins so many doors.
     pub(crate) fn begin_doors<P: Spawner>(
         &mut self,
-        rt: &R,
-        alloc: Global,
+        context: &Context<R, S>,
         pass: &mut Pass,
-        entrance: &mut E,
-        spawner: &mut P,
-        shared: &Shared<S>,
+        supply: &mut Supply<E, P>,
         doors: usize,
     ) -> Result<(), LiveEnd>
-        requires crew { IsCrew ⟦<E::Door as Door>⟧ (arc_value self.old.hub) self.old.running self.old.passes }
-        requires of { IsPassOf (arc_value self.old.hub) pass.old }
-        requires going { E.is_shut entrance.old ≡ false }
-        requires few { sum (P.begun spawner.old) + doors ≤ most_starts }
-        ensures hub { self.new.hub ≡ self.old.hub }
-        ensures crew { IsCrew ⟦<E::Door as Door>⟧ (arc_value self.new.hub) self.new.running self.new.passes }
-        ensures of { IsPassOf (arc_value self.new.hub) pass.new }
+        requires crew { IsCrew ⟦<E::Door as Door>⟧ (arc_value context.now.hub)
+            self.old.running self.old.passes }
+        requires of { IsPassOf (arc_value context.now.hub) pass.old }
+        requires going { E.is_shut supply.old.entrance ≡ false }
+        requires few { sum (P.begun supply.old.spawner) + doors ≤ most_starts }
+        ensures crew { IsCrew ⟦<E::Door as Door>⟧ (arc_value context.now.hub)
+            self.new.running self.new.passes }
+        ensures of { IsPassOf (arc_value context.now.hub) pass.new }
         ensures divided { Divided pass.old pass.new }
-        ensures due { sum (P.begun spawner.new) + passes_due self.old.running self.old.passes
-            ≤ sum (P.begun spawner.old) + passes_due self.new.running self.new.passes }
+        ensures due { sum (P.begun supply.new.spawner) + passes_due self.old.running self.old.passes
+            ≤ sum (P.begun supply.old.spawner) + passes_due self.new.running self.new.passes }
         ensures keeps { KeepsDoors ⟦<E::Door as Door>⟧ (roots_of pass.old)
-            (P.begun spawner.old) (P.begun spawner.new) self.old.running.items self.new.running.items }
+            (P.begun supply.old.spawner) (P.begun supply.new.spawner)
+            self.old.running.items self.new.running.items }
     {
         for _ in 0..doors {
-            self.begin_door(rt, alloc, pass, entrance, spawner, shared)?;
+            self.begin_door(context, pass, supply)?;
         }
         Ok(())
     }
@@ -175,35 +170,34 @@ where
     #[tactic(auto, using(crate::proofs::Doors::doors_same))]
     fn begin_door<P: Spawner>(
         &mut self,
-        rt: &R,
-        alloc: Global,
+        context: &Context<R, S>,
         pass: &mut Pass,
-        entrance: &mut E,
-        spawner: &mut P,
-        shared: &Shared<S>,
+        supply: &mut Supply<E, P>,
     ) -> Result<(), LiveEnd>
-        requires crew { IsCrew ⟦<E::Door as Door>⟧ (arc_value self.old.hub) self.old.running self.old.passes }
-        requires of { IsPassOf (arc_value self.old.hub) pass.old }
-        requires going { E.is_shut entrance.old ≡ false }
-        requires few { sum (P.begun spawner.old) + 1 ≤ most_starts }
-        ensures hub { self.new.hub ≡ self.old.hub }
-        ensures crew { IsCrew ⟦<E::Door as Door>⟧ (arc_value self.new.hub) self.new.running self.new.passes }
-        ensures of { IsPassOf (arc_value self.new.hub) pass.new }
+        requires crew { IsCrew ⟦<E::Door as Door>⟧ (arc_value context.now.hub)
+            self.old.running self.old.passes }
+        requires of { IsPassOf (arc_value context.now.hub) pass.old }
+        requires going { E.is_shut supply.old.entrance ≡ false }
+        requires few { sum (P.begun supply.old.spawner) + 1 ≤ most_starts }
+        ensures crew { IsCrew ⟦<E::Door as Door>⟧ (arc_value context.now.hub)
+            self.new.running self.new.passes }
+        ensures of { IsPassOf (arc_value context.now.hub) pass.new }
         ensures divided { Divided pass.old pass.new }
-        ensures few { sum (P.begun spawner.new) ≤ sum (P.begun spawner.old) + 1 }
-        ensures due { sum (P.begun spawner.new) + passes_due self.old.running self.old.passes
-            ≤ sum (P.begun spawner.old) + passes_due self.new.running self.new.passes }
+        ensures few { sum (P.begun supply.new.spawner) ≤ sum (P.begun supply.old.spawner) + 1 }
+        ensures due { sum (P.begun supply.new.spawner) + passes_due self.old.running self.old.passes
+            ≤ sum (P.begun supply.old.spawner) + passes_due self.new.running self.new.passes }
         ensures keeps { KeepsDoors ⟦<E::Door as Door>⟧ (roots_of pass.old)
-            (P.begun spawner.old) (P.begun spawner.new) self.old.running.items self.new.running.items }
-        ensures going { E.is_shut entrance.new ≡ false }
+            (P.begun supply.old.spawner) (P.begun supply.new.spawner)
+            self.old.running.items self.new.running.items }
+        ensures going { E.is_shut supply.new.entrance ≡ false }
     {
-        let own = shared.again()?;
-        let (hub, half) = self.split(rt, pass)?;
-        let attendant = HubAttendant::new(*rt, hub, half, own);
-        match entrance.door(alloc) {
+        let own = context.shared.again()?;
+        let (hub, half) = self.split(context, pass)?;
+        let attendant = HubAttendant::new(context.rt, hub, half, own);
+        match supply.entrance.door(context.alloc) {
             Ok(door) => {
                 let job = LiveJob::Door(LiveDoor::new(door, attendant));
-                self.begin(rt, alloc, entrance, spawner, job)
+                self.begin(context, supply, job)
             }
             Err(fault) => {
                 hand_back(attendant, &mut self.passes);
@@ -213,24 +207,30 @@ where
     }
 
     // Splits a pass off for one more job, for which there is then a place.
-    fn split(&mut self, rt: &R, pass: &mut Pass) -> Result<(Arc<Hub, Global>, Pass), LiveEnd>
-        requires crew { IsCrew ⟦<E::Door as Door>⟧ (arc_value self.old.hub) self.old.running self.old.passes }
-        requires of { IsPassOf (arc_value self.old.hub) pass.old }
-        ensures hub { self.new.hub ≡ self.old.hub }
-        ensures crew { IsCrew ⟦<E::Door as Door>⟧ (arc_value self.new.hub) self.new.running self.new.passes }
+    fn split(
+        &mut self,
+        context: &Context<R, S>,
+        pass: &mut Pass,
+    ) -> Result<(Arc<Hub, Global>, Pass), LiveEnd>
+        requires crew { IsCrew ⟦<E::Door as Door>⟧ (arc_value context.now.hub)
+            self.old.running self.old.passes }
+        requires of { IsPassOf (arc_value context.now.hub) pass.old }
+        ensures crew { IsCrew ⟦<E::Door as Door>⟧ (arc_value context.now.hub)
+            self.new.running self.new.passes }
         ensures place { OnOk result (HasPlace self.new.running self.new.passes) }
         ensures running { self.new.running.items ≡ self.old.running.items }
         ensures passes { self.new.passes.items ≡ self.old.passes.items }
-        ensures due { passes_due self.new.running self.new.passes ≡ passes_due self.old.running self.old.passes }
-        ensures of { IsPassOf (arc_value self.new.hub) pass.new }
+        ensures due { passes_due self.new.running self.new.passes
+            ≡ passes_due self.old.running self.old.passes }
+        ensures of { IsPassOf (arc_value context.now.hub) pass.new }
         ensures divided { Divided pass.old pass.new }
-        ensures own { IfOk result (λ made. arc_value made.0 ≡ arc_value self.new.hub) }
-        ensures half { IfOk result (λ made. IsPassOf (arc_value self.new.hub) made.1) }
+        ensures own { IfOk result (λ made. arc_value made.0 ≡ arc_value context.now.hub) }
+        ensures half { IfOk result (λ made. IsPassOf (arc_value context.now.hub) made.1) }
         ensures unused { IfOk result (λ made. IsUnused (roots_of pass.old) made.1) }
     {
         reserve_place(&mut self.running, &mut self.passes)?;
-        let hub = Arc::try_clone(&self.hub)?;
-        let half = hub.split(rt, pass)?;
+        let hub = Arc::try_clone(&context.hub)?;
+        let half = hub.split(&context.rt, pass)?;
         Ok((hub, half))
     }
 
@@ -238,33 +238,33 @@ where
     #[tactic(auto, using(crate::proofs::Counts::started_few, crate::proofs::Counts::same_few))]
     fn begin<P: Spawner>(
         &mut self,
-        rt: &R,
-        alloc: Global,
-        entrance: &mut E,
-        spawner: &mut P,
+        context: &Context<R, S>,
+        supply: &mut Supply<E, P>,
         job: LiveJob<R, E::Door, S>,
     ) -> Result<(), LiveEnd>
-        requires crew { IsCrew ⟦<E::Door as Door>⟧ (arc_value self.old.hub) self.old.running self.old.passes }
+        requires crew { IsCrew ⟦<E::Door as Door>⟧ (arc_value context.now.hub)
+            self.old.running self.old.passes }
         requires place { HasPlace self.old.running self.old.passes }
-        requires of { JobOf ⟦<E::Door as Door>⟧ (hub_mark (arc_value self.old.hub)) job }
-        requires few { sum (P.begun spawner.old) < most_starts }
-        ensures hub { self.new.hub ≡ self.old.hub }
-        ensures crew { IsCrew ⟦<E::Door as Door>⟧ (arc_value self.new.hub) self.new.running self.new.passes }
-        ensures few { sum (P.begun spawner.new) ≤ sum (P.begun spawner.old) + 1 }
-        ensures due { sum (P.begun spawner.new) + passes_due self.old.running self.old.passes
-            ≤ sum (P.begun spawner.old) + passes_due self.new.running self.new.passes }
+        requires of { JobOf ⟦<E::Door as Door>⟧ (hub_mark (arc_value context.now.hub)) job }
+        requires few { sum (P.begun supply.old.spawner) < most_starts }
+        ensures crew { IsCrew ⟦<E::Door as Door>⟧ (arc_value context.now.hub)
+            self.new.running self.new.passes }
+        ensures few { sum (P.begun supply.new.spawner) ≤ sum (P.begun supply.old.spawner) + 1 }
+        ensures due { sum (P.begun supply.new.spawner) + passes_due self.old.running self.old.passes
+            ≤ sum (P.begun supply.old.spawner) + passes_due self.new.running self.new.passes }
         ensures keeps { (roots : List Name) → IsFresh ⟦<E::Door as Door>⟧ roots job
             → KeepsDoors ⟦<E::Door as Door>⟧ roots
-            (P.begun spawner.old) (P.begun spawner.new) self.old.running.items self.new.running.items }
-        ensures shut { E.is_shut entrance.new ≡ E.is_shut entrance.old }
+            (P.begun supply.old.spawner) (P.begun supply.new.spawner)
+            self.old.running.items self.new.running.items }
+        ensures shut { E.is_shut supply.new.entrance ≡ E.is_shut supply.old.entrance }
     {
-        match start(rt, alloc, spawner, job) {
+        match start(&context.rt, context.alloc, &mut supply.spawner, job) {
             Ok(running) => {
                 self.running.push_reserved(running);
                 Ok(())
             }
             Err(out) => {
-                take_in(&self.hub, entrance, out, &mut self.passes);
+                take_in(&context.hub, &mut supply.entrance, out, &mut self.passes);
                 Err(LiveEnd::Fault)
             }
         }

@@ -13,13 +13,14 @@ ghost use Rattle.hub_editor.specs.Edits.{Made};
 ghost use Rattle.hub_editor.specs.Editing.{Edited, made_by};
 ghost use Rattle.live_server.specs.Editors.{GoesOn};
 
+use crate::context::Context;
 use crate::known::{Known, text_of};
 use crate::live_editor::LiveEditor;
 use crate::plan::LiveEnd;
-use crate::shared::Shared;
 use hmr_hub::{Hub, Pass};
 use hmr_types::ModName;
-use hub_editor::{EditStop, Editor};
+use hub_editor::{EditStop, Editor, HubCaller};
+use live_desk::Shared;
 use live_folder::{Change, Look, PassedOver, SkipCause};
 use live_lines::{News, PassedCause};
 use live_site::Site;
@@ -69,9 +70,7 @@ impl LiveEditor {
     /// Makes the edits that a look brings, and tells what there is to tell. Some: the server ends. It waits.
     pub fn take<R: Wait, S: Site + Drop>(
         &mut self,
-        rt: &R,
-        alloc: Global,
-        shared: &Shared<S>,
+        context: &Context<R, S>,
         known: &mut Known,
         look: Look,
     ) -> Option<LiveEnd>
@@ -83,18 +82,16 @@ impl LiveEditor {
             away,
         } = look;
         if let Some(news) = known.note_away(away) {
-            shared.news.tell(rt, news);
+            context.tell(news);
         }
-        tell_passed(rt, shared, passed);
-        self.make_each(rt, alloc, shared, known, changes)
+        tell_passed(context, passed);
+        self.make_each(context, known, changes)
     }
 
     // Makes edits one after another, up to the first that ends the server, and rings for them.
     fn make_each<R: Wait, S: Site + Drop>(
         &mut self,
-        rt: &R,
-        alloc: Global,
-        shared: &Shared<S>,
+        context: &Context<R, S>,
         known: &mut Known,
         changes: Vec<Change>,
     ) -> Option<LiveEnd>
@@ -102,12 +99,12 @@ impl LiveEditor {
     {
         let before = known.counted();
         for change in changes {
-            if let Some(end) = self.make(rt, alloc, shared, known, change) {
+            if let Some(end) = self.make(context, known, change) {
                 return Some(end);
             }
         }
         if known.counted() != before {
-            shared.bell.ring();
+            context.shared.bell.ring();
         }
         None
     }
@@ -115,9 +112,7 @@ impl LiveEditor {
     // Makes an edit, unless the file of the module has this text.
     fn make<R: Wait, S: Site + Drop>(
         &mut self,
-        rt: &R,
-        alloc: Global,
-        shared: &Shared<S>,
+        context: &Context<R, S>,
         known: &mut Known,
         change: Change,
     ) -> Option<LiveEnd>
@@ -127,8 +122,8 @@ impl LiveEditor {
         if known.has(&name, &text) {
             return None;
         }
-        wait_for_workers(rt, shared, known);
-        let Ok(read) = read_change(alloc, shared, known, name, text) else {
+        wait_for_workers(context, known);
+        let Ok(read) = read_change(context.alloc, &context.shared, known, name, text) else {
             return Some(LiveEnd::NoMemory);
         };
         let ReadChange {
@@ -139,11 +134,11 @@ impl LiveEditor {
             file,
         } = read;
         if told.is_none() && text.is_some() {
-            tell_passed_over(rt, alloc, shared, &own_name, PassedCause::TextTooLong);
+            tell_passed_over(context, &own_name, PassedCause::TextTooLong);
             return None;
         }
-        let made = self.edit(rt, alloc, name, told);
-        note(rt, alloc, shared, known, own_name, text, file, made)
+        let made = self.edit(&context.rt, context.alloc, name, told);
+        note(context, known, own_name, text, file, made)
     }
 
     // Makes an edit.
@@ -159,15 +154,17 @@ impl LiveEditor {
         requires short { ForSome text IsShort }
         ensures goes { GoesOn self.old self.new }
     {
-        self.editor.edit(
+        let caller = HubCaller {
             rt,
             alloc,
-            &self.hub,
+            hub: &self.hub,
+        };
+        self.editor.edit(
+            &caller,
             &mut self.pass,
             &self.queue,
             &mut self.jobs,
-            name,
-            text,
+            (name, text),
         )
     }
 
@@ -187,27 +184,32 @@ impl LiveEditor {
             mut jobs,
             mut editor,
         } = self;
-        let _closed = editor.close(rt, alloc, &hub, &mut pass, &queue, &mut jobs);
+        let caller = HubCaller {
+            rt,
+            alloc,
+            hub: &hub,
+        };
+        let _closed = editor.close(&caller, &mut pass, &queue, &mut jobs);
         pass
     }
 }
 
 // Where many jobs wait for workers, waits until few do, for two seconds at most.
-fn wait_for_workers<R: Wait, S: Drop>(rt: &R, shared: &Shared<S>, known: &Known) {
-    let waiting = known.jobs().saturating_sub(shared.bell.results());
+fn wait_for_workers<R: Wait, S: Drop>(context: &Context<R, S>, known: &Known) {
+    let waiting = known.jobs().saturating_sub(context.shared.bell.results());
     if waiting > MOST_WAITING {
-        wait_for_results(rt, shared, known.jobs().saturating_sub(FEW_WAITING));
+        wait_for_results(context, known.jobs().saturating_sub(FEW_WAITING));
     }
 }
 
 /// Waits until workers have told so many results, for two seconds at most.
-pub(crate) fn wait_for_results<R: Wait, S: Drop>(rt: &R, shared: &Shared<S>, results: u64) {
+pub(crate) fn wait_for_results<R: Wait, S: Drop>(context: &Context<R, S>, results: u64) {
     let parker = Parker::new();
     for _ in 0..LOOKS {
-        if shared.bell.results() >= results {
+        if context.shared.bell.results() >= results {
             return;
         }
-        parker.park_timeout(rt, Duration::from_micros(LOOK_MICROS));
+        parker.park_timeout(&context.rt, Duration::from_micros(LOOK_MICROS));
     }
 }
 
@@ -257,9 +259,7 @@ fn read_change<S: Site + Drop>(
 
 // Notes and tells what came of an edit. Some: the server ends.
 fn note<R: Wait, S: Site + Drop>(
-    rt: &R,
-    alloc: Global,
-    shared: &Shared<S>,
+    context: &Context<R, S>,
     known: &mut Known,
     name: ModName,
     text: Option<Vec<u8>>,
@@ -269,10 +269,10 @@ fn note<R: Wait, S: Site + Drop>(
     let cause = match made {
         Ok(()) => {
             let has_job = text.is_some();
-            let kept = keep(rt, shared, known, name, text, file);
+            let kept = keep(context, known, name, text, file);
             // A worker takes no job before it is noted, so the site has the file before its result is told.
             if has_job {
-                shared.bell.note_job();
+                context.shared.bell.note_job();
             }
             return match kept {
                 Ok(()) => None,
@@ -285,41 +285,34 @@ fn note<R: Wait, S: Site + Drop>(
         Err(EditStop::Names) => PassedCause::TooManyNames,
         Err(EditStop::Sources) => PassedCause::SourceTotal,
     };
-    tell_passed_over(rt, alloc, shared, &name, cause);
+    tell_passed_over(context, &name, cause);
     None
 }
 
 // Keeps what a file is by an edit that was made, and tells it.
 fn keep<R: Wait, S: Site + Drop>(
-    rt: &R,
-    shared: &Shared<S>,
+    context: &Context<R, S>,
     known: &mut Known,
     name: ModName,
     text: Option<Vec<u8>>,
     file: Option<S::File>,
 ) -> Result<(), AllocError> {
     let version = known.counted().saturating_add(1);
-    shared.site.keep(rt, &name, version, file)?;
+    context.shared.site.keep(&context.rt, &name, version, file)?;
     let news = known.note(name, text)?;
-    shared.news.tell(rt, news);
+    context.tell(news);
     Ok(())
 }
 
 // Tells that a file was passed over.
-fn tell_passed_over<R: Wait, S: Drop>(
-    rt: &R,
-    alloc: Global,
-    shared: &Shared<S>,
-    name: &ModName,
-    cause: PassedCause,
-) {
-    if let Ok(path) = text_of(alloc, name) {
-        shared.news.tell(rt, News::Passed { path, cause });
+fn tell_passed_over<R: Wait, S: Drop>(context: &Context<R, S>, name: &ModName, cause: PassedCause) {
+    if let Ok(path) = text_of(context.alloc, name) {
+        context.tell(News::Passed { path, cause });
     }
 }
 
 // Tells which files were passed over.
-fn tell_passed<R: Wait, S: Drop>(rt: &R, shared: &Shared<S>, passed: Vec<PassedOver>) {
+fn tell_passed<R: Wait, S: Drop>(context: &Context<R, S>, passed: Vec<PassedOver>) {
     for PassedOver { path, cause } in passed {
         let cause = match cause {
             SkipCause::TextTooLong => PassedCause::FileTooLong,
@@ -327,6 +320,6 @@ fn tell_passed<R: Wait, S: Drop>(rt: &R, shared: &Shared<S>, passed: Vec<PassedO
             SkipCause::Unreadable => PassedCause::Unreadable,
             SkipCause::Outside => PassedCause::Outside,
         };
-        shared.news.tell(rt, News::Passed { path, cause });
+        context.tell(News::Passed { path, cause });
     }
 }

@@ -10,8 +10,10 @@ ghost use Rattle.live_server.specs.Held.{HasDoors, TakenBack};
 ghost use Rattle.live_server.specs.Outs.{kind_of};
 ghost use Rattle.live_server.specs.Serving.{passes_due};
 
+use crate::context::Context;
 use crate::crew::Crew;
 use crate::job::LiveJob;
+use crate::outside::Supply;
 use crate::taking::take_in;
 use doors::{Door, Entrance};
 use hmr_hub::{Hub, Pass};
@@ -34,24 +36,29 @@ where
     // the entrance.
     pub(crate) fn finish_all<P: Spawner>(
         self,
-        rt: &R,
-        entrance: &mut E,
-        spawner: &mut P,
+        context: &Context<R, S>,
+        supply: &mut Supply<E, P>,
     ) -> Vec<Pass>
-        requires crew { IsCrew ⟦<E::Door as Door>⟧ (arc_value self.hub) self.running self.passes }
-        ensures of { All (IsPassOf (arc_value self.hub)) result.items }
+        requires crew { IsCrew ⟦<E::Door as Door>⟧ (arc_value context.now.hub) self.running self.passes }
+        ensures of { All (IsPassOf (arc_value context.now.hub)) result.items }
         ensures due { length result.items ≡ passes_due self.running self.passes }
         ensures doors { (roots : List Name) → AreFresh ⟦<E::Door as Door>⟧ roots self.running.items
             → HasDoors roots (doors_in ⟦<E::Door as Door>⟧ self.running.items) result.items }
-        ensures begun { P.begun spawner.new ≡ P.begun spawner.old }
-        ensures shut { E.is_shut entrance.new ≡ E.is_shut entrance.old }
+        ensures begun { P.begun supply.new.spawner ≡ P.begun supply.old.spawner }
+        ensures shut { E.is_shut supply.new.entrance ≡ E.is_shut supply.old.entrance }
     {
         let Crew {
-            hub,
             running,
             mut passes,
         } = self;
-        finish_jobs(rt, &hub, entrance, spawner, running, &mut passes);
+        finish_jobs(
+            &context.rt,
+            &context.hub,
+            &mut supply.entrance,
+            &mut supply.spawner,
+            running,
+            &mut passes,
+        );
         passes
     }
 }

@@ -1,11 +1,14 @@
-// How much a live server does, and how it ended.
+// What a live server is to do, and how it ended.
 use doors::OutFault;
 use hmr_hub::SplitFault;
+use hmr_types::ModName;
 use std::alloc::{AllocError, AllocFailed};
 
-/// How much a server does.
-#[derive(Clone, Copy, Debug, PartialEq, Eq)]
-pub struct LivePlan {
+/// What a server begins at, and how much it does.
+#[derive(Clone, Copy)]
+pub struct LivePlan<'a> {
+    /// The roots of its hub.
+    pub roots: &'a [ModName],
     /// How many workers transform texts, from 1 to 16.
     pub workers: u32,
     /// How many doors there are at each address; 900 at most together.

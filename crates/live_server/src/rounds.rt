@@ -1,17 +1,16 @@
 // The folder is looked at again and again, and in between news are told and keys heard.
 ghost use Rattle.live_server.specs.Editors.{GoesOn};
 
+use crate::context::Context;
 use crate::editor::wait_for_results;
 use crate::known::Known;
 use crate::live_editor::LiveEditor;
 use crate::pace::{Pace, STEP_MILLIS};
 use crate::plan::LiveEnd;
-use crate::shared::Shared;
 use crate::terminal::{Key, Terminal};
 use live_folder::Watched;
 use live_lines::News;
 use live_site::Site;
-use std::alloc::Global;
 use std::io;
 use std::sync::Wait;
 use std::thread::Parker;
@@ -23,25 +22,21 @@ const MOST_NEWS: usize = 65_536;
 /// Opens the doors once the modules of the folder are served, and then looks at the folder again and again:
 /// 50 milliseconds after a look, and later where looks that brought no edit took longer. It waits.
 pub(crate) fn run_rounds<R: Wait + Clock, W: Watched, S: Site + Drop, T: Terminal>(
-    rt: &R,
-    alloc: Global,
+    context: &Context<R, S>,
     editor: &mut LiveEditor,
     watched: &mut W,
-    shared: &Shared<S>,
     terminal: &mut T,
 ) -> LiveEnd
     ensures goes { GoesOn editor.old editor.new }
 {
-    let mut known = Known::new(alloc);
-    if let Some(end) = look_once(rt, alloc, editor, &mut known, watched, shared) {
+    let mut known = Known::new(context.alloc);
+    if let Some(end) = look_once(context, editor, &mut known, watched) {
         return end;
     }
-    open_doors(rt, alloc, &known, shared, terminal);
+    open_doors(context, &known, terminal);
     let mut pace = Pace::new();
-    for _ in rt.forever() {
-        let ended = run_round(
-            rt, alloc, editor, &mut known, &mut pace, watched, shared, terminal,
-        );
+    for _ in context.rt.forever() {
+        let ended = run_round(context, editor, &mut known, &mut pace, watched, terminal);
         if let Some(end) = ended {
             return end;
         }
@@ -51,70 +46,64 @@ pub(crate) fn run_rounds<R: Wait + Clock, W: Watched, S: Site + Drop, T: Termina
 
 // Opens the doors, once the workers have told what came of the first look.
 fn open_doors<R: Wait, S: Site + Drop, T: Terminal>(
-    rt: &R,
-    alloc: Global,
+    context: &Context<R, S>,
     known: &Known,
-    shared: &Shared<S>,
     terminal: &mut T,
 ) {
-    wait_for_results(rt, shared, known.jobs());
-    settle(rt, shared, known);
-    shared.bell.open();
-    terminal.ready(alloc, known.modules());
+    wait_for_results(context, known.jobs());
+    settle(context, known);
+    context.shared.bell.open();
+    terminal.ready(context.alloc, known.modules());
 }
 
 // Tells the site that all edits have their results, where it is so.
-fn settle<R: Wait, S: Site + Drop>(rt: &R, shared: &Shared<S>, known: &Known) {
-    if shared.bell.results() >= known.jobs() {
-        shared.site.settle(rt, known.counted());
+fn settle<R: Wait, S: Site + Drop>(context: &Context<R, S>, known: &Known) {
+    if context.shared.bell.results() >= known.jobs() {
+        context.shared.site.settle(&context.rt, known.counted());
     }
 }
 
 // Looks at the folder, and rests. Some: the server ends.
 fn run_round<R: Wait + Clock, W: Watched, S: Site + Drop, T: Terminal>(
-    rt: &R,
-    alloc: Global,
+    context: &Context<R, S>,
     editor: &mut LiveEditor,
     known: &mut Known,
     pace: &mut Pace,
     watched: &mut W,
-    shared: &Shared<S>,
     terminal: &mut T,
 ) -> Option<LiveEnd>
     ensures goes { GoesOn editor.old editor.new }
 {
-    let start = Instant::now(rt);
+    let start = Instant::now(&context.rt);
     let before = known.counted();
-    let ended = look_once(rt, alloc, editor, known, watched, shared);
+    let ended = look_once(context, editor, known, watched);
     if ended.is_some() {
         return ended;
     }
     // A look that brings edits waits until the files are still, and that isn't time that it takes.
     let millis = if known.counted() == before {
-        millis_since(rt, start)
+        millis_since(&context.rt, start)
     } else {
         0
     };
     let steps = pace.steps_after(millis);
-    rest(rt, alloc, shared, known, terminal, steps)
+    rest(context, known, terminal, steps)
 }
 
 // Looks at the folder, and makes the edits that it brings. Where memory runs out the next look shows the
 // same.
 fn look_once<R: Wait, W: Watched, S: Site + Drop>(
-    rt: &R,
-    alloc: Global,
+    context: &Context<R, S>,
     editor: &mut LiveEditor,
     known: &mut Known,
     watched: &mut W,
-    shared: &Shared<S>,
 ) -> Option<LiveEnd>
     ensures goes { GoesOn editor.old editor.new }
 {
-    let Ok(look) = watched.look(alloc) else {
+    let Ok(look) = watched.look(context.alloc) else {
         return None;
     };
-    editor.take(rt, alloc, shared, known, look)
+    editor.take(context, known, look)
 }
 
 // How many milliseconds went by since then, 10 seconds at most; none where the clock can't tell.
@@ -130,47 +119,43 @@ fn millis_since(clock: &impl Clock, start: io::Result<Instant>) -> u64 {
 
 // Rests, tells news and hears keys. Some: the server ends.
 fn rest<R: Wait, S: Site + Drop, T: Terminal>(
-    rt: &R,
-    alloc: Global,
-    shared: &Shared<S>,
+    context: &Context<R, S>,
     known: &Known,
     terminal: &mut T,
     steps: u64,
 ) -> Option<LiveEnd> {
     let parker = Parker::new();
     for _ in 0..steps {
-        settle(rt, shared, known);
-        tell_all(rt, alloc, shared, terminal);
-        if shared.bell.is_full() {
+        settle(context, known);
+        tell_all(context, terminal);
+        if context.shared.bell.is_full() {
             return Some(LiveEnd::Full);
         }
-        match terminal.key(alloc) {
+        match terminal.key(context.alloc) {
             Some(Key::Quit) => return Some(LiveEnd::Quit),
             Some(Key::Reload) => return Some(LiveEnd::Reload),
             None => {}
         }
-        parker.park_timeout(rt, Duration::from_millis(STEP_MILLIS));
+        parker.park_timeout(&context.rt, Duration::from_millis(STEP_MILLIS));
     }
     None
 }
 
 /// Tells the news that came.
 pub(crate) fn tell_all<R: Wait, S: Site + Drop, T: Terminal>(
-    rt: &R,
-    alloc: Global,
-    shared: &Shared<S>,
+    context: &Context<R, S>,
     terminal: &mut T,
 ) {
     for _ in 0..MOST_NEWS {
-        let Some(news) = shared.news.take(rt) else {
+        let Some(news) = context.shared.news.take(&context.rt) else {
             return;
         };
-        terminal.tell(alloc, shown(rt, alloc, shared, news));
+        terminal.tell(context.alloc, shown(context, news));
     }
 }
 
 // News as people are shown them: a fault with the line of the file, where the site has it.
-fn shown<R: Wait, S: Site + Drop>(rt: &R, alloc: Global, shared: &Shared<S>, news: News) -> News {
+fn shown<R: Wait, S: Site + Drop>(context: &Context<R, S>, news: News) -> News {
     let News::Fault {
         name,
         fault,
@@ -179,7 +164,11 @@ fn shown<R: Wait, S: Site + Drop>(rt: &R, alloc: Global, shared: &Shared<S>, new
     else {
         return news;
     };
-    let line_text = match shared.site.line(rt, alloc, &name, fault.line) {
+    let line_text = match context
+        .shared
+        .site
+        .line(&context.rt, context.alloc, &name, fault.line)
+    {
         Ok(Some(line)) => line,
         _ => line_text,
     };

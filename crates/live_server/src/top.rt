@@ -16,17 +16,19 @@ ghost use Rattle.live_server.specs.Editors.{GoesOn};
 ghost use Rattle.live_server.specs.Serving.{HasRecord, Served, passes_due};
 ghost use Rattle.live_server.specs.Splits.{Divided};
 
+use crate::context::Context;
 use crate::crew::Crew;
 use crate::ending::wind_up_all;
 use crate::live_editor::LiveEditor;
+use crate::outside::{Folder, Supply};
 use crate::plan::{LiveEnd, LivePlan, LiveReport};
 use crate::rounds::{run_rounds, tell_all};
-use crate::shared::Shared;
 use crate::terminal::Terminal;
 use doors::{Door, Entrance};
 use hmr_hub::{Hub, HubFault, Pass};
 use hmr_types::ModName;
 use jobs::Spawner;
+use live_desk::Shared;
 use live_folder::Watched;
 use live_site::Site;
 use module_graph::copy_of;
@@ -41,7 +43,7 @@ const MOST_DOORS: usize = 900;
 
 /// Serves the modules of a folder until a key says that it ends, or its hub can take no more.
 ///
-/// The entrance listens at this port. Workers and doors are begun, the folder is looked at for the first
+/// The entrance listens at its port. Workers and doors are begun, the folder is looked at for the first
 /// time, and once its modules are served whoever comes to a door is answered, and the terminal is told. The
 /// caller's thread then looks at the folder again and again, and makes the edits that it brings; news go to
 /// the terminal. At the end the doors are shut, all jobs are finished, each door is given back to the
@@ -54,61 +56,51 @@ pub fn serve_live<
     R: Threads + Wait + Clock + Copy + Drop + Send + 'static,
     E: Entrance,
     P: Spawner,
-    W: Watched,
+    W: Watched + Drop,
     S: Site + Drop + Send + Sync + 'static,
     T: Terminal,
 >(
     rt: &R,
     alloc: Global,
     plan: &LivePlan,
-    port: u16,
-    roots: &[ModName],
-    watched: &mut W,
-    site: S,
-    entrance: &mut E,
-    spawner: &mut P,
+    folder: Folder<W, S>,
+    supply: &mut Supply<E, P>,
     terminal: &mut T,
 ) -> Result<LiveReport, AllocError>
 where
     E::Door: Drop + Send + 'static,
     <E::Door as Door>::End: Send + 'static,
     S::File: Send + 'static,
-    requires roots { AreRoots roots.now }
+    requires roots { AreRoots plan.now.roots.now }
     requires workers { (1 ≤ plan.now.workers) × (plan.now.workers ≤ 16) }
-    requires none_begun { P.begun spawner.old ≡ none_begun }
-    requires going { E.is_shut entrance.old ≡ false }
-    ensures shut { OnOk result (E.is_shut entrance.new ≡ true) }
-    ensures served { IfOk result (λ report. (p : Pass) × Served roots.now (P.begun spawner.new) p
+    requires none_begun { P.begun supply.old.spawner ≡ none_begun }
+    requires going { E.is_shut supply.old.entrance ≡ false }
+    ensures shut { OnOk result (E.is_shut supply.new.entrance ≡ true) }
+    ensures served { IfOk result (λ report. (p : Pass)
+        × Served plan.now.roots.now (P.begun supply.new.spawner) p
         × HasRecord plan.now.recorded p report.record) }
 {
-    let shared = Shared::new(alloc, site, port)?;
-    let (hub, pass) = new_hub(alloc, copy_of(alloc, roots)?)?;
+    let Folder { mut watched, site } = folder;
+    let shared = Shared::new(alloc, site, supply.port)?;
+    let (hub, pass) = new_hub(alloc, copy_of(alloc, plan.roots)?)?;
     let (queue, jobs, takers) = JobQueue::new(alloc, plan.workers as usize)?;
     let hub = Arc::new(alloc, hub)?;
     let queue = Arc::new(alloc, queue)?;
-    let crew_hub = Arc::try_clone(&hub)?;
-    let editor_hub = Arc::try_clone(&hub)?;
-    let editor_queue = Arc::try_clone(&queue)?;
-    let crew = Crew::new(alloc, crew_hub);
-    Ok(run(
-        rt,
-        alloc,
-        plan,
-        roots,
-        &hub,
-        editor_hub,
-        &queue,
-        editor_queue,
+    let start = Start {
+        hub: Arc::try_clone(&hub)?,
+        queue: Arc::try_clone(&queue)?,
         pass,
         jobs,
         takers,
-        crew,
-        &shared,
-        watched,
-        entrance,
-        spawner,
-        terminal,
-    ))
+    };
+    let context = Context {
+        rt: *rt,
+        alloc,
+        hub,
+        queue,
+        shared,
+    };
+    Ok(run(&context, plan, start, &mut watched, supply, terminal))
 }
 
 // The hub of roots that are those of a page. It fails only where memory runs out.
@@ -125,6 +117,16 @@ fn new_hub(alloc: Global, roots: Vec<ModName>) -> Result<(Hub, Pass), AllocError
     }
 }
 
+// What the editor and the workers begin with: the first pass of the hub, and the passes of the queue.
+#[derive(Drop)]
+struct Start {
+    hub: Arc<Hub, Global>,
+    queue: Arc<JobQueue, Global>,
+    pass: Pass,
+    jobs: JobPass,
+    takers: Vec<JobPass>,
+}
+
 // Begins the jobs, makes the edits until the end, and winds all up.
 fn run<
     R: Threads + Wait + Clock + Copy + Drop + Send + 'static,
@@ -134,57 +136,50 @@ fn run<
     S: Site + Drop + Send + Sync + 'static,
     T: Terminal,
 >(
-    rt: &R,
-    alloc: Global,
+    context: &Context<R, S>,
     plan: &LivePlan,
-    roots: &[ModName],
-    hub: &Hub,
-    editor_hub: Arc<Hub, Global>,
-    queue: &Arc<JobQueue, Global>,
-    editor_queue: Arc<JobQueue, Global>,
-    mut pass: Pass,
-    jobs: JobPass,
-    takers: Vec<JobPass>,
-    mut crew: Crew<R, E, S>,
-    shared: &Shared<S>,
+    start: Start,
     watched: &mut W,
-    entrance: &mut E,
-    spawner: &mut P,
+    supply: &mut Supply<E, P>,
     terminal: &mut T,
 ) -> LiveReport
 where
     E::Door: Drop + Send + 'static,
     <E::Door as Door>::End: Send + 'static,
     S::File: Send + 'static,
-    requires roots { AreRoots roots.now }
-    requires of { IsPassOf hub.now pass }
-    requires first { IsFirst roots.now pass }
-    requires hubs { (arc_value editor_hub ≡ hub.now) × (arc_value crew.hub ≡ hub.now) }
-    requires crew { IsCrew ⟦<E::Door as Door>⟧ (arc_value crew.hub) crew.running crew.passes }
-    requires none { passes_due crew.running crew.passes ≡ 0 }
-    requires queues { arc_value editor_queue ≡ arc_value queue.now }
-    requires of_queue { queues.IsPassOf (arc_value queue.now) jobs }
-    requires puts { role_of jobs ≡ putting }
-    requires each_of { All (λ p. queues.IsPassOf (arc_value queue.now) p) takers.items }
-    requires each_takes { All (λ p. role_of p ≡ taking) takers.items }
-    requires few { length takers.items ≤ 16 }
-    requires none_begun { P.begun spawner.old ≡ none_begun }
-    requires going { E.is_shut entrance.old ≡ false }
-    ensures shut { E.is_shut entrance.new ≡ true }
-    ensures served { (p : Pass) × Served roots.now (P.begun spawner.new) p
+    requires roots { AreRoots plan.now.roots.now }
+    requires of { IsPassOf (arc_value context.now.hub) start.pass }
+    requires first { IsFirst plan.now.roots.now start.pass }
+    requires same_hub { arc_value start.hub ≡ arc_value context.now.hub }
+    requires same_queue { arc_value start.queue ≡ arc_value context.now.queue }
+    requires of_queue { queues.IsPassOf (arc_value context.now.queue) start.jobs }
+    requires puts { role_of start.jobs ≡ putting }
+    requires each_of { All (λ p. queues.IsPassOf (arc_value context.now.queue) p) start.takers.items }
+    requires each_takes { All (λ p. role_of p ≡ taking) start.takers.items }
+    requires few { length start.takers.items ≤ 16 }
+    requires none_begun { P.begun supply.old.spawner ≡ none_begun }
+    requires going { E.is_shut supply.old.entrance ≡ false }
+    ensures shut { E.is_shut supply.new.entrance ≡ true }
+    ensures served { (p : Pass) × Served plan.now.roots.now (P.begun supply.new.spawner) p
         × HasRecord plan.now.recorded p result.record }
 {
-    let begun = begin(
-        rt, alloc, plan, &mut crew, &mut pass, entrance, spawner, shared, queue, takers,
-    );
-    let mut editor = LiveEditor::new(alloc, editor_hub, editor_queue, pass, jobs);
-    let end = run_to_end(rt, alloc, &mut editor, watched, shared, terminal, begun);
-    entrance.shut();
-    shared.bell.close();
-    let mut pass = editor.close(rt, alloc);
-    let passes = crew.finish_all(rt, entrance, spawner);
-    let record = wind_up_all(rt, alloc, hub, &mut pass, passes, roots, plan.recorded);
-    tell_all(rt, alloc, shared, terminal);
+    let Start {
+        hub,
+        queue,
+        mut pass,
+        jobs,
+        takers,
+    } = start;
+    let mut crew = Crew::new(context);
+    let begun = begin(context, plan, &mut crew, &mut pass, supply, takers);
+    let mut editor = LiveEditor::new(context.alloc, hub, queue, pass, jobs);
+    let end = run_to_end(context, &mut editor, watched, terminal, begun);
+    supply.entrance.shut();
+    context.shared.bell.close();
+    let mut pass = editor.close(&context.rt, context.alloc);
+    let passes = crew.finish_all(context, supply);
+    let record = wind_up_all(context, plan, &mut pass, passes);
+    tell_all(context, terminal);
     LiveReport { end, record }
 }
 
@@ -195,58 +190,54 @@ fn begin<
     P: Spawner,
     S: Site + Drop + Send + Sync + 'static,
 >(
-    rt: &R,
-    alloc: Global,
+    context: &Context<R, S>,
     plan: &LivePlan,
     crew: &mut Crew<R, E, S>,
     pass: &mut Pass,
-    entrance: &mut E,
-    spawner: &mut P,
-    shared: &Shared<S>,
-    queue: &Arc<JobQueue, Global>,
+    supply: &mut Supply<E, P>,
     takers: Vec<JobPass>,
 ) -> Result<(), LiveEnd>
 where
     E::Door: Drop + Send + 'static,
     <E::Door as Door>::End: Send + 'static,
     S::File: Send + 'static,
-    requires crew { IsCrew ⟦<E::Door as Door>⟧ (arc_value crew.old.hub) crew.old.running crew.old.passes }
-    requires of { IsPassOf (arc_value crew.old.hub) pass.old }
-    requires each_of { All (λ p. queues.IsPassOf (arc_value queue.now) p) takers.items }
+    requires crew { IsCrew ⟦<E::Door as Door>⟧ (arc_value context.now.hub)
+        crew.old.running crew.old.passes }
+    requires of { IsPassOf (arc_value context.now.hub) pass.old }
+    requires each_of { All (λ p. queues.IsPassOf (arc_value context.now.queue) p) takers.items }
     requires each_takes { All (λ p. role_of p ≡ taking) takers.items }
     requires few { length takers.items ≤ 16 }
-    requires none_begun { P.begun spawner.old ≡ none_begun }
-    requires going { E.is_shut entrance.old ≡ false }
-    ensures hub { crew.new.hub ≡ crew.old.hub }
-    ensures crew { IsCrew ⟦<E::Door as Door>⟧ (arc_value crew.new.hub) crew.new.running crew.new.passes }
-    ensures of { IsPassOf (arc_value crew.new.hub) pass.new }
+    requires none_begun { P.begun supply.old.spawner ≡ none_begun }
+    requires going { E.is_shut supply.old.entrance ≡ false }
+    ensures crew { IsCrew ⟦<E::Door as Door>⟧ (arc_value context.now.hub)
+        crew.new.running crew.new.passes }
+    ensures of { IsPassOf (arc_value context.now.hub) pass.new }
     ensures divided { Divided pass.old pass.new }
-    ensures due { sum (P.begun spawner.new) + passes_due crew.old.running crew.old.passes
-        ≤ sum (P.begun spawner.old) + passes_due crew.new.running crew.new.passes }
+    ensures due { sum (P.begun supply.new.spawner) + passes_due crew.old.running crew.old.passes
+        ≤ sum (P.begun supply.old.spawner) + passes_due crew.new.running crew.new.passes }
     ensures keeps { KeepsDoors ⟦<E::Door as Door>⟧ (roots_of pass.old)
-        (P.begun spawner.old) (P.begun spawner.new) crew.old.running.items crew.new.running.items }
+        (P.begun supply.old.spawner) (P.begun supply.new.spawner)
+        crew.old.running.items crew.new.running.items }
 {
-    crew.begin_workers(rt, alloc, pass, entrance, spawner, shared, queue, takers)?;
+    crew.begin_workers(context, pass, supply, takers)?;
     let doors = (plan.doors as usize)
-        .saturating_mul(entrance.addresses())
+        .saturating_mul(supply.entrance.addresses())
         .min(MOST_DOORS);
-    crew.begin_doors(rt, alloc, pass, entrance, spawner, shared, doors)
+    crew.begin_doors(context, pass, supply, doors)
 }
 
 // Makes the edits until the end, where all jobs were begun.
 fn run_to_end<R: Wait + Clock, W: Watched, S: Site + Drop, T: Terminal>(
-    rt: &R,
-    alloc: Global,
+    context: &Context<R, S>,
     editor: &mut LiveEditor,
     watched: &mut W,
-    shared: &Shared<S>,
     terminal: &mut T,
     begun: Result<(), LiveEnd>,
 ) -> LiveEnd
     ensures goes { GoesOn editor.old editor.new }
 {
     match begun {
-        Ok(()) => run_rounds(rt, alloc, editor, watched, shared, terminal),
+        Ok(()) => run_rounds(context, editor, watched, terminal),
         Err(end) => end,
     }
 }

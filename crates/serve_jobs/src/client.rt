@@ -12,11 +12,11 @@ use const_eval::Ran;
 use handler_table::Shelf;
 use hmr_types::{ClientId, ModName};
 use hot_runtime::HotRuntime;
-use transport::Link;
 use output_lines::OutLine;
 use retained_data::Bag;
 use sessions::Ended;
 use std::alloc::{AllocError, Global};
+use transport::Link;
 
 /// What a client begins with: the closures that its page may take, the roots of the page, where with none
 /// it has the server's, and the format that the client speaks.

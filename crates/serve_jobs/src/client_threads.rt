@@ -11,12 +11,12 @@ ghost use Rattle.serve_jobs.specs.RunningClients.{RunsClient};
 use crate::client::{ClientEnd, ClientJob};
 use const_eval::Ran;
 use jobs::{Spawner, Thread, finish_thread, start_thread};
-use transport::Link;
 use retained_data::Bag;
 use std::alloc::{AllocError, Global};
 use std::snapshot::Snapshot;
 use std::sync::Wait;
 use std::thread::{Promise, Threads};
+use transport::Link;
 
 // The kind of a client's job.
 const CLIENT: u8 = 2;

@@ -4,8 +4,8 @@ ghost use Rattle.transport.specs.declared.link.Phase.TheVariants.{Fresh};
 ghost use Rattle.session_desks.specs.Boards.{has_ended};
 
 use session_desks::{HubBoard, HubDesk};
-use transport::Link;
 use sessions::Ended;
+use transport::Link;
 use update_msgs::HubStop;
 
 /// A worker that is to take jobs from its board, and pass a gate with each result.

@@ -3,11 +3,11 @@ ghost use Rattle.std.specs.Prelude.{◌≡◌, false, true};
 
 use crate::job::{ServeJob, ServeOut, SessionJob, WorkerJob};
 use jobs::{Gate, Job};
-use transport::Link;
 use sessions::serve_session;
 use std::alloc::Global;
 use std::sync::Wait;
 use transform_pool::work;
+use transport::Link;
 
 impl<R: Wait + Drop, L: Link + Drop, G: Gate + Drop> Job for ServeJob<R, L, G> {
     type Out = ServeOut<R, L>;

@@ -1,8 +1,8 @@
 // A net that counts the ends that it gives and takes back.
 ghost use Rattle.std.specs.Prelude.{◌≡◌};
 
-use transport::{Net, OutFault};
 use std::alloc::Global;
+use transport::{Net, OutFault};
 
 /// Hands each call on to another net, and counts the ends that this gives and takes back.
 #[derive(Drop)]

@@ -1,16 +1,16 @@
 // Many clients and many workers, beside many edits.
 use crate::changing::{Changing, MODULES, changing_site, lines_of};
-use crate::page::served;
+use crate::page::{Setting, served};
 use const_eval::Ran;
 use folder_server::Plan;
 use handler_table::host_run;
 use jobs::OpenGate;
-use transport::MemNet;
 use retained_data::Bag;
 use std::alloc::{AllocError, Global};
 use std::collections::{BTreeMap, VecDeque};
 use std::fmt::Write;
 use std::test::Fail;
+use transport::MemNet;
 
 /// The page of a client in the report, read from the lines that the client told: of each module that it has,
 /// the version that this logged last, as it was when the last plan was applied. A line that no client tells
@@ -70,18 +70,13 @@ fn each_client_has_the_page_that_it_told(rt: HostRuntime) -> Result<(), Fail> {
         rounds: 20,
         recorded: false,
     };
-    let none = Vec::new(alloc);
-    let over = served(
-        &rt,
-        alloc,
-        sample,
+    let setting = Setting {
         plan,
         site,
-        OpenGate,
-        none,
-        Vec::new(alloc),
-        net,
-    )?;
+        calls: Vec::new(alloc),
+        starts: Vec::new(alloc),
+    };
+    let over = served(&rt, alloc, sample, setting, OpenGate, net)?;
     assert!(rt; over.ended.is_ok());
     assert!(rt; over.has_all_back);
     let mut expected = lines_of(alloc, &versions)?;

@@ -1,18 +1,18 @@
 // Each call of the tree, of the net, of an end and each start of a thread fails in turn. The server ends by
 // it, has each end back, and writes its report where it had listened.
-use crate::page::{Over, only, plan, served};
+use crate::page::{Over, Setting, only, plan, served};
 use crate::site::one_module;
 use const_eval::Ran;
 use folder_server::ServeStop;
 use handler_table::host_run;
 use jobs::OpenGate;
-use transport::MemNet;
 use retained_data::Bag;
 use std::alloc::{AllocError, Global};
 use std::collections::VecDeque;
 use std::sync::Wait;
 use std::test::Fail;
 use std::thread::Threads;
+use transport::MemNet;
 
 /// Which calls fail, by their numbers.
 #[derive(Drop)]
@@ -46,18 +46,13 @@ fn failed<R: Threads + Wait + Sync + Copy + Drop + Send + 'static>(
     } = failing;
     let net = MemNet::new(alloc, rt, net, ends)?;
     let sample = move |bag: Bag| -> Result<Ran, AllocError> { host_run(alloc, "H", 1, bag) };
-    let site = one_module(alloc)?;
-    served(
-        &rt,
-        alloc,
-        sample,
-        plan(1, 0),
-        site,
-        OpenGate,
-        tree,
+    let setting = Setting {
+        plan: plan(1, 0),
+        site: one_module(alloc)?,
+        calls: tree,
         starts,
-        net,
-    )
+    };
+    served(&rt, alloc, sample, setting, OpenGate, net)
 }
 
 /// Whether a server ended so and has each end back, and wrote a report if it had listened, and else nothing.

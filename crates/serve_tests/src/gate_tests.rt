@@ -1,16 +1,16 @@
 // Two results come in the other order than their edits.
-use crate::page::{plan, served};
+use crate::page::{Setting, plan, served};
 use crate::site::{Site, files};
 use crate::turning_gate::TurningGate;
 use const_eval::Ran;
 use handler_table::host_run;
-use transport::MemNet;
 use retained_data::Bag;
 use std::alloc::{AllocError, Global};
 use std::collections::VecDeque;
 use std::sync::Arc;
 use std::sync::atomic::{AtomicBool, Ordering};
 use std::test::Fail;
+use transport::MemNet;
 
 const ROOT: &str = "import \"./a.js\";\nimport \"./b.js\";\n";
 
@@ -37,19 +37,13 @@ fn two_workers_end_in_the_other_order(rt: HostRuntime) -> Result<(), Fail> {
         third: Arc::new(alloc, AtomicBool::new(false))?,
         turned: Arc::try_clone(&turned)?,
     };
-    let site = growing(alloc)?;
-    let none = Vec::new(alloc);
-    let over = served(
-        &rt,
-        alloc,
-        sample,
-        plan(0, 0),
-        site,
-        gate,
-        none,
-        Vec::new(alloc),
-        net,
-    )?;
+    let setting = Setting {
+        plan: plan(0, 0),
+        site: growing(alloc)?,
+        calls: Vec::new(alloc),
+        starts: Vec::new(alloc),
+    };
+    let over = served(&rt, alloc, sample, setting, gate, net)?;
     assert!(rt;
         turned.load(Ordering::SeqCst),
         "a worker didn't pass version 2 behind version 3"

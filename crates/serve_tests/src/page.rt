@@ -4,17 +4,18 @@ ghost use Rattle.std.specs.Prelude.{◌≡◌, ◌≤◌, None};
 use crate::counted_net::CountedNet;
 use crate::site::Site;
 use const_eval::Ran;
-use folder_server::{Plan, ServeStop, serve};
+use folder_server::{Outside, Plan, ServeStop, ServeTask, serve};
 use folders::MemTree;
 use handler_table::Shelf;
 use hmr_base::MemSink;
+use hmr_types::Text;
 use jobs::{CutSpawner, Gate, ThreadSpawner};
-use transport::Net;
 use retained_data::Bag;
 use std::alloc::{AllocError, Global};
 use std::slice;
 use std::sync::Wait;
 use std::thread::Threads;
+use transport::Net;
 
 /// The most bytes that a report has here.
 const ROOM: usize = 4_000_000;
@@ -54,58 +55,60 @@ pub fn only(alloc: Global, number: u64) -> Result<Vec<u64>, AllocError> {
     Ok(numbers)
 }
 
-/// Serves the folder over a net, with a gate for the workers; of the calls of its tree, and of the starts of
-/// threads, those of these numbers fail. Closures are of the sample's type.
+/// How much a server does, of which folder, and which of its calls fail.
+#[derive(Drop)]
+pub struct Setting {
+    pub plan: Plan,
+    pub site: Site,
+    /// The numbers of the calls of the folder that fail.
+    pub calls: Vec<u64>,
+    /// The numbers of the starts of threads that are refused.
+    pub starts: Vec<u64>,
+}
+
+/// Serves the folder over a net, with a gate for the workers. Closures are of the sample's type.
 pub fn served<
     F: FnOnce(Bag) -> Result<Ran, AllocError> + Drop + Send + 'static,
     N: Net + Drop,
     G: Gate + Clone + Drop + Send + 'static,
     R: Threads + Wait + Sync + Copy + Drop + Send + 'static,
->(
-    rt: &R,
-    alloc: Global,
-    _sample: F,
-    plan: Plan,
-    site: Site,
-    gate: G,
-    calls: Vec<u64>,
-    starts: Vec<u64>,
-    net: N,
-) -> Result<Over, AllocError>
+>(rt: &R, alloc: Global, _sample: F, setting: Setting, gate: G, net: N) -> Result<Over, AllocError>
 where
     N::End: Drop + Send + 'static,
     requires callable { (f : F) → F.IsAlwaysCallable f }
-    requires few { (plan.clients ≤ 32) × (plan.outside ≤ 32) }
-    requires workers { (1 ≤ plan.workers) × (plan.workers ≤ 16) }
+    requires few { (setting.plan.clients ≤ 32) × (setting.plan.outside ≤ 32) }
+    requires workers { (1 ≤ setting.plan.workers) × (setting.plan.workers ≤ 16) }
     requires unasked { N.asked net ≡ None }
     requires unheard { N.heard net ≡ None }
 {
+    let Setting {
+        plan,
+        site,
+        calls,
+        starts,
+    } = setting;
     let Site { looks, root } = site;
-    let mut tree = MemTree::new(looks, calls);
-    let mut net = CountedNet::new(net);
-    let mut spawner = CutSpawner::new(ThreadSpawner::new(), starts);
-    let mut out = MemSink::new(alloc, ROOM, ROOM, Vec::new(alloc))?;
-    let mut page = Vec::new(alloc);
-    page.push(root)?;
+    let mut outside = Outside {
+        out: MemSink::new(alloc, ROOM, ROOM, Vec::new(alloc))?,
+        tree: MemTree::new(looks, calls),
+        net: CountedNet::new(net),
+        spawner: CutSpawner::new(ThreadSpawner::new(), starts),
+    };
+    let mut roots = Vec::new(alloc);
+    roots.push(root)?;
+    let task = ServeTask {
+        plan,
+        folder: Text::from_string(String::from_str(alloc, "site")?),
+        roots,
+        script: Vec::new(alloc),
+    };
     let mut shelf: Shelf<F> = Shelf::new(Vec::new(alloc));
-    let ended = serve(
-        rt,
-        alloc,
-        &plan,
-        "site",
-        page,
-        Vec::new(alloc),
-        &mut out,
-        &mut tree,
-        &mut net,
-        &mut spawner,
-        gate,
-        slice::from_mut(&mut shelf),
-    );
+    let shelves = slice::from_mut(&mut shelf);
+    let ended = serve(rt, alloc, task, &mut outside, gate, shelves);
     shelf.end();
     Ok(Over {
         ended,
-        report: String::from_utf8_lossy(alloc, out.bytes())?,
-        has_all_back: net.has_all_back(),
+        report: String::from_utf8_lossy(alloc, outside.out.bytes())?,
+        has_all_back: outside.net.has_all_back(),
     })
 }

@@ -1,14 +1,13 @@
 // A page is served to a client of the server's own, and to one from outside.
 ghost use Rattle.std.specs.Prelude.{◌≡◌, ◌≤◌, None};
 
-use crate::page::{Over, plan, served};
+use crate::page::{Over, Setting, plan, served};
 use crate::site::one_module;
 use const_eval::Ran;
 use handler_table::{Shelf, host_run};
 use hmr_base::MemSink;
 use jobs::OpenGate;
-use join_command::{JoinStop, join};
-use transport::{MemNet, Net};
+use join_command::{JoinPlan, JoinStop, join};
 use retained_data::Bag;
 use std::alloc::{AllocError, Global};
 use std::collections::VecDeque;
@@ -16,25 +15,20 @@ use std::sync::Wait;
 use std::test::Fail;
 use std::thread;
 use std::thread::Threads;
+use transport::{MemNet, Net};
 
 #[test]
 fn a_client_of_its_own_loads_the_page(rt: HostRuntime) -> Result<(), Fail> {
     let alloc = rt.alloc();
     let net = MemNet::new(alloc, rt, Vec::new(alloc), VecDeque::new(alloc))?;
     let sample = move |bag: Bag| -> Result<Ran, AllocError> { host_run(alloc, "H", 1, bag) };
-    let site = one_module(alloc)?;
-    let none = Vec::new(alloc);
-    let over = served(
-        &rt,
-        alloc,
-        sample,
-        plan(1, 0),
-        site,
-        OpenGate,
-        none,
-        Vec::new(alloc),
-        net,
-    )?;
+    let setting = Setting {
+        plan: plan(1, 0),
+        site: one_module(alloc)?,
+        calls: Vec::new(alloc),
+        starts: Vec::new(alloc),
+    };
+    let over = served(&rt, alloc, sample, setting, OpenGate, net)?;
     assert!(rt; over.ended.is_ok());
     assert_eq!(rt;
         over.report.as_str(),
@@ -63,7 +57,12 @@ fn joined<F: FnOnce(Bag) -> Result<Ran, AllocError> + Drop, N: Net + Drop>(
 {
     let mut out = MemSink::new(alloc, 1000, 1000, Vec::new(alloc))?;
     let shelf: Shelf<F> = Shelf::new(Vec::new(alloc));
-    let ended = join(alloc, 5173, Vec::new(alloc), 2, &mut net, &mut out, shelf);
+    let plan = JoinPlan {
+        port: 5173,
+        roots: Vec::new(alloc),
+        turns: 2,
+    };
+    let ended = join(alloc, plan, &mut net, &mut out, shelf);
     Ok(ClientOver {
         ended,
         lines: String::from_utf8_lossy(alloc, out.bytes())?,
@@ -110,19 +109,21 @@ where
     requires unasked { (N.asked net ≡ None) × (N.asked beside ≡ None) }
     requires unheard { (N.heard net ≡ None) × (N.heard beside ≡ None) }
 {
-    let site = one_module(alloc)?;
-    let plan = plan(0, 1);
-    let calls = Vec::new(alloc);
-    let starts = Vec::new(alloc);
+    let setting = Setting {
+        plan: plan(0, 1),
+        site: one_module(alloc)?,
+        calls: Vec::new(alloc),
+        starts: Vec::new(alloc),
+    };
     let (over, came) = thread::join(
         rt,
         || -> Result<Over, AllocError>
             requires callable { (f : F) → F.IsAlwaysCallable f }
-            requires few { (plan.clients ≤ 32) × (plan.outside ≤ 32) }
-            requires workers { (1 ≤ plan.workers) × (plan.workers ≤ 16) }
+            requires few { (setting.plan.clients ≤ 32) × (setting.plan.outside ≤ 32) }
+            requires workers { (1 ≤ setting.plan.workers) × (setting.plan.workers ≤ 16) }
             requires unasked { N.asked net ≡ None }
             requires unheard { N.heard net ≡ None }
-        { served(rt, alloc, own, plan, site, OpenGate, calls, starts, net) },
+        { served(rt, alloc, own, setting, OpenGate, net) },
         || joined(alloc, theirs, beside),
     );
     Ok((over?, came?))

@@ -23,20 +23,20 @@ ghost use Rattle.server_threads.specs.Splits.{Divided, IsSpentBy};
 use crate::cause::Cause;
 use crate::crew::{Crew, reserve_place};
 use crate::ends::hang_up;
-use crate::plan::{Clients, Workers};
+use crate::plan::{Clients, CrewPlan, Workers};
 use crate::shelves::take_shelf;
 use const_eval::Ran;
 use handler_table::Shelf;
 use hmr_hub::Pass;
-use session_desks::{HubBoard, HubDesk};
 use jobs::{Gate, Spawner};
-use transport::{Link, Net};
 use retained_data::Bag;
 use serve_jobs::{ClientJob, ClientOpening, ServeJob, SessionJob, WorkerJob, start_client};
-use std::alloc::{AllocError, Global};
+use session_desks::{HubBoard, HubDesk};
+use std::alloc::AllocError;
 use std::sync::{Arc, Wait};
 use std::thread::Threads;
-use transform_pool::{JobPass, JobQueue};
+use transform_pool::JobPass;
+use transport::{Link, Net};
 
 /// The format of messages that the program's own clients speak.
 const FIRST_FORMAT: u8 = 1;
@@ -63,24 +63,22 @@ where
     /// noted, all were begun.
     pub fn begin_all<P: Spawner>(
         &mut self,
-        rt: &R,
-        alloc: Global,
         pass: &mut Pass,
         net: &mut N,
         spawner: &mut P,
-        workers: Workers<G>,
-        clients: Clients,
+        plan: CrewPlan<G>,
         shelves: &mut [Shelf<F>],
     ) -> Result<(), Cause>
         requires crew { IsCrew ⟦<N::End as Link>⟧ (arc_value self.old.hub)
             self.old.running self.old.clients self.old.gathered }
         requires of { IsPassOf (arc_value self.old.hub) pass.old }
         requires asked { IsSome (N.asked net.old) }
-        requires heard { N.heard net.old ≡ Some clients.port }
+        requires heard { N.heard net.old ≡ Some plan.clients.port }
         requires callable { (f : F) → F.IsAlwaysCallable f }
         requires hosts { All (All (IsHost F.post)) shelves.old }
         requires none { P.begun spawner.old ≡ none_begun }
-        requires few { length workers.takers.items + (2 * clients.own + clients.outside) ≤ most_starts }
+        requires few { length plan.workers.takers.items
+            + (2 * plan.clients.own + plan.clients.outside) ≤ most_starts }
         ensures hosts { All (All (IsHost F.post)) shelves.new }
         ensures hub { self.new.hub ≡ self.old.hub }
         ensures crew { IsCrew ⟦<N::End as Link>⟧ (arc_value self.new.hub)
@@ -95,29 +93,29 @@ where
         ensures stops { N.refused net.old ≡ false → N.late net.new ≡ N.late net.old }
         ensures goes { OnOk result (N.refused net.new ≡ N.refused net.old) }
         ensures begun { OnOk result (self.new.gathered.fault ≡ false → P.begun spawner.new
-            ≡ length workers.takers.items ∷ (clients.own + clients.outside) ∷ clients.own ∷ []) }
+            ≡ length plan.workers.takers.items ∷ (plan.clients.own + plan.clients.outside)
+            ∷ plan.clients.own ∷ []) }
         ensures kept { OnOk result (passes_due self.new.running self.new.gathered
             ≡ passes_due self.old.running self.old.gathered
-            + (length workers.takers.items + (clients.own + clients.outside))) }
+            + (length plan.workers.takers.items + (plan.clients.own + plan.clients.outside))) }
         ensures logs { OnOk result (logs_due self.new.clients self.new.gathered
-            ≡ logs_due self.old.clients self.old.gathered + clients.own) }
+            ≡ logs_due self.old.clients self.old.gathered + plan.clients.own) }
         ensures spent { IsSpentBy (all_given pass.old) (all_given pass.new) result }
         ensures failed { IsErrOf result Cause.Fault → Rose (N.faults net.old) (N.faults net.new) }
     {
-        self.begin_workers(rt, alloc, pass, net, spawner, workers)?;
-        self.begin_pairs(rt, alloc, pass, net, spawner, clients, shelves)?;
-        self.begin_sessions(rt, alloc, pass, net, spawner, clients.outside)
+        let CrewPlan { workers, clients } = plan;
+        self.begin_workers(pass, net, spawner, workers)?;
+        self.begin_pairs(pass, net, spawner, clients, shelves)?;
+        self.begin_sessions(pass, net, spawner, clients.outside)
     }
 
     // Begins a worker for each pass that takes.
     fn begin_workers<P: Spawner>(
         &mut self,
-        rt: &R,
-        alloc: Global,
         pass: &mut Pass,
         net: &mut N,
         spawner: &mut P,
-        workers: Workers<G>,
+        mut workers: Workers<G>,
     ) -> Result<(), Cause>
         requires crew { IsCrew ⟦<N::End as Link>⟧ (arc_value self.old.hub)
             self.old.running self.old.clients self.old.gathered }
@@ -144,13 +142,8 @@ where
         ensures spent { IsSpentBy (all_given pass.old) (all_given pass.new) result }
         ensures failed { IsErrOf result Cause.Fault → Rose (N.faults net.old) (N.faults net.new) }
     {
-        let Workers {
-            queue,
-            mut takers,
-            gate,
-        } = workers;
-        while let Some(jobs) = takers.pop() {
-            self.begin_worker(rt, alloc, pass, net, spawner, &queue, jobs, &gate)?;
+        while let Some(jobs) = workers.next_taker() {
+            self.begin_worker(pass, net, spawner, &workers, jobs)?;
         }
         Ok(())
     }
@@ -158,19 +151,16 @@ where
     // Begins a worker.
     fn begin_worker<P: Spawner>(
         &mut self,
-        rt: &R,
-        alloc: Global,
         pass: &mut Pass,
         net: &mut N,
         spawner: &mut P,
-        queue: &Arc<JobQueue, Global>,
+        workers: &Workers<G>,
         jobs: JobPass,
-        gate: &G,
     ) -> Result<(), Cause>
         requires crew { IsCrew ⟦<N::End as Link>⟧ (arc_value self.old.hub)
             self.old.running self.old.clients self.old.gathered }
         requires of { IsPassOf (arc_value self.old.hub) pass.old }
-        requires of_queue { queues.IsPassOf (arc_value queue.now) jobs }
+        requires of_queue { queues.IsPassOf (arc_value workers.now.queue) jobs }
         requires takes { role_of jobs ≡ taking }
         requires few { sum (P.begun spawner.old) + 1 ≤ most_starts }
         ensures hub { self.new.hub ≡ self.old.hub }
@@ -194,20 +184,18 @@ where
         ensures spent { IsSpentBy (all_given pass.old) (all_given pass.new) result }
         ensures failed { IsErrOf result Cause.Fault → Rose (N.faults net.old) (N.faults net.new) }
     {
-        let gate = gate.clone()?;
-        let queue = Arc::try_clone(queue)?;
-        let (hub, half) = self.split(rt, pass)?;
+        let gate = workers.gate.clone()?;
+        let queue = Arc::try_clone(&workers.queue)?;
+        let (hub, half) = self.split(pass)?;
         let board = HubBoard::new(hub, half, queue, jobs);
         let job = ServeJob::Worker(WorkerJob::new(board, gate));
-        self.begin(rt, alloc, net, spawner, job);
+        self.begin(net, spawner, job);
         Ok(())
     }
 
     // Begins a session and a client for each of the program's own clients.
     fn begin_pairs<P: Spawner>(
         &mut self,
-        rt: &R,
-        alloc: Global,
         pass: &mut Pass,
         net: &mut N,
         spawner: &mut P,
@@ -246,9 +234,9 @@ where
         ensures failed { IsErrOf result Cause.Fault → Rose (N.faults net.old) (N.faults net.new) }
     {
         for place in 0..clients.own {
-            let shelf = take_shelf(alloc, shelves, place as usize);
-            let opening = ClientOpening::new(shelf, Vec::new(alloc), FIRST_FORMAT);
-            self.begin_pair(rt, alloc, pass, net, spawner, clients, opening)?;
+            let shelf = take_shelf(self.alloc, shelves, place as usize);
+            let opening = ClientOpening::new(shelf, Vec::new(self.alloc), FIRST_FORMAT);
+            self.begin_pair(pass, net, spawner, clients, opening)?;
         }
         Ok(())
     }
@@ -256,8 +244,6 @@ where
     // Begins a session and a client at the two ends of a new connection.
     fn begin_pair<P: Spawner>(
         &mut self,
-        rt: &R,
-        alloc: Global,
         pass: &mut Pass,
         net: &mut N,
         spawner: &mut P,
@@ -293,26 +279,24 @@ where
         ensures spent { IsSpentBy (all_given pass.old) (all_given pass.new) result }
         ensures failed { IsErrOf result Cause.Fault → Rose (N.faults net.old) (N.faults net.new) }
     {
-        let theirs = net.connect(alloc, clients.port)?;
-        let ours = match net.accept(alloc) {
+        let theirs = net.connect(self.alloc, clients.port)?;
+        let ours = match net.accept(self.alloc) {
             Ok(end) => end,
             Err(fault) => {
                 hang_up(net, theirs);
                 return Err(Cause::from(fault));
             }
         };
-        if let Err(cause) = self.begin_session(rt, alloc, pass, net, spawner, ours) {
+        if let Err(cause) = self.begin_session(pass, net, spawner, ours) {
             hang_up(net, theirs);
             return Err(cause);
         }
-        self.begin_client(rt, alloc, net, spawner, theirs, opening, clients.turns)
+        self.begin_client(net, spawner, theirs, opening, clients.turns)
     }
 
     // Begins a client at an end of a connection.
     fn begin_client<P: Spawner>(
         &mut self,
-        rt: &R,
-        alloc: Global,
         net: &mut N,
         spawner: &mut P,
         end: N::End,
@@ -348,7 +332,7 @@ where
             return Err(Cause::NoMemory);
         }
         let job = ClientJob::new(opening, end, turns);
-        match start_client(rt, alloc, spawner, job) {
+        match start_client(&self.rt, self.alloc, spawner, job) {
             Ok(running) => self.clients.push_reserved(running),
             Err(end) => self.gathered.take_client(net, end),
         }
@@ -358,8 +342,6 @@ where
     // Begins a session for each of so many clients from outside.
     fn begin_sessions<P: Spawner>(
         &mut self,
-        rt: &R,
-        alloc: Global,
         pass: &mut Pass,
         net: &mut N,
         spawner: &mut P,
@@ -393,7 +375,7 @@ where
         ensures failed { IsErrOf result Cause.Fault → Rose (N.faults net.old) (N.faults net.new) }
     {
         for _ in 0..count {
-            self.begin_outside(rt, alloc, pass, net, spawner)?;
+            self.begin_outside(pass, net, spawner)?;
         }
         Ok(())
     }
@@ -401,8 +383,6 @@ where
     // Begins a session with the next client from outside.
     fn begin_outside<P: Spawner>(
         &mut self,
-        rt: &R,
-        alloc: Global,
         pass: &mut Pass,
         net: &mut N,
         spawner: &mut P,
@@ -434,15 +414,13 @@ where
         ensures spent { IsSpentBy (all_given pass.old) (all_given pass.new) result }
         ensures failed { IsErrOf result Cause.Fault → Rose (N.faults net.old) (N.faults net.new) }
     {
-        let end = net.accept(alloc)?;
-        self.begin_session(rt, alloc, pass, net, spawner, end)
+        let end = net.accept(self.alloc)?;
+        self.begin_session(pass, net, spawner, end)
     }
 
     // Begins a session at an end of a connection.
     fn begin_session<P: Spawner>(
         &mut self,
-        rt: &R,
-        alloc: Global,
         pass: &mut Pass,
         net: &mut N,
         spawner: &mut P,
@@ -475,16 +453,16 @@ where
         ensures spent { IsSpentBy (all_given pass.old) (all_given pass.new) result }
         ensures unfailed { IfErr result (λ cause. cause ≢ Cause.Fault) }
     {
-        let (hub, half) = match self.split(rt, pass) {
+        let (hub, half) = match self.split(pass) {
             Ok(made) => made,
             Err(cause) => {
                 hang_up(net, end);
                 return Err(cause);
             }
         };
-        let desk = HubDesk::new(*rt, hub, half);
+        let desk = HubDesk::new(self.rt, hub, half);
         let job = ServeJob::Session(SessionJob::new(desk, end));
-        self.begin(rt, alloc, net, spawner, job);
+        self.begin(net, spawner, job);
         Ok(())
     }
 }

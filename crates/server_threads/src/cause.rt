@@ -3,8 +3,8 @@ ghost use Rattle.std.specs.Prelude.{◌≡◌};
 ghost use Rattle.server_threads.specs.declared.cause.Cause.TheVariants.{NoMemory};
 ghost use Rattle.server_threads.specs.Splits.{cause_of_split, cause_outside};
 
-use hmr_hub::SplitFault;
 use hmr_base::OutFault;
+use hmr_hub::SplitFault;
 use std::alloc::AllocError;
 
 /// Why no more jobs were begun. Those that were begun run on.

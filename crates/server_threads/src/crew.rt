@@ -14,19 +14,22 @@ use crate::gathered::Gathered;
 use const_eval::Ran;
 use hmr_hub::{Hub, Pass};
 use jobs::{Gate, Job, Running, Spawner, start};
-use transport::{Link, Net};
 use retained_data::Bag;
 use serve_jobs::{RunningClient, ServeJob, ServeOut};
 use std::alloc::{AllocError, Global};
 use std::sync::{Arc, Wait};
 use std::thread::Threads;
+use transport::{Link, Net};
 
-/// Jobs of a hub that were begun, and what those that ended so far have left.
+/// Jobs of a hub that were begun, and what those that ended so far have left. It holds the handle by which
+/// threads are begun and waited for.
 #[derive(Drop)]
 pub struct Crew<R: Wait + Drop, N: Net, G: Gate + Drop, F: Drop>
 where
     N::End: Drop,
 {
+    pub(crate) rt: R,
+    pub(crate) alloc: Global,
     pub(crate) hub: Arc<Hub, Global>,
     pub(crate) running: Vec<Running<ServeJob<R, N::End, G>>>,
     pub(crate) clients: Vec<RunningClient<F, N::End>>,
@@ -43,7 +46,7 @@ where
     N::End: Drop + Send + 'static,
 {
     /// A crew of a hub, of which no job was begun yet.
-    pub fn new(alloc: Global, hub: Arc<Hub, Global>) -> Self
+    pub fn new(rt: R, alloc: Global, hub: Arc<Hub, Global>) -> Self
         ensures hub { result.hub ≡ hub }
         ensures crew { IsCrew ⟦<N::End as Link>⟧ (arc_value hub)
             result.running result.clients result.gathered }
@@ -53,6 +56,8 @@ where
         ensures well { (result.gathered.memory ≡ false) × (result.gathered.fault ≡ false) }
     {
         Crew {
+            rt,
+            alloc,
             hub,
             running: Vec::new(alloc),
             clients: Vec::new(alloc),
@@ -62,11 +67,7 @@ where
 
     // Splits a pass off for one more job, for which there is then a place. `Spent` comes exactly where all
     // numbers of passes were given.
-    pub(crate) fn split(
-        &mut self,
-        rt: &R,
-        pass: &mut Pass,
-    ) -> Result<(Arc<Hub, Global>, Pass), Cause>
+    pub(crate) fn split(&mut self, pass: &mut Pass) -> Result<(Arc<Hub, Global>, Pass), Cause>
         requires crew { IsCrew ⟦<N::End as Link>⟧ (arc_value self.old.hub)
             self.old.running self.old.clients self.old.gathered }
         requires of { IsPassOf (arc_value self.old.hub) pass.old }
@@ -86,15 +87,13 @@ where
     {
         reserve_place(&mut self.running, &mut self.gathered.passes)?;
         let hub = Arc::try_clone(&self.hub)?;
-        let half = hub.split(rt, pass)?;
+        let half = hub.split(&self.rt, pass)?;
         Ok((hub, half))
     }
 
     // Starts a job, for which there is a place. What a refused start hands back is taken in.
     pub(crate) fn begin<P: Spawner>(
         &mut self,
-        rt: &R,
-        alloc: Global,
         net: &mut N,
         spawner: &mut P,
         job: ServeJob<R, N::End, G>,
@@ -121,7 +120,7 @@ where
         ensures logs { logs_due self.new.clients self.new.gathered
             ≡ logs_due self.old.clients self.old.gathered }
     {
-        match start(rt, alloc, spawner, job) {
+        match start(&self.rt, self.alloc, spawner, job) {
             Ok(running) => self.running.push_reserved(running),
             Err(out) => self.gathered.take_in(net, out),
         }

@@ -4,10 +4,10 @@ ghost use Rattle.serve_jobs.specs.ClientEnds.{ending_of};
 ghost use Rattle.server_threads.specs.Ends.{ended_for_memory, found_full, is_faulty, is_faulty_end};
 ghost use Rattle.server_threads.specs.Ends.{lacked_memory};
 
-use transport::{Link, Net};
 use output_lines::OutLine;
 use serve_jobs::ServeOut;
 use sessions::Ended;
+use transport::{Link, Net};
 use update_msgs::HubStop;
 
 // Whether there was no memory for a job, or for telling the hub that its client is gone.

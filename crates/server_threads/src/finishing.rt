@@ -11,12 +11,12 @@ use crate::gathered::Gathered;
 use const_eval::Ran;
 use hmr_hub::Hub;
 use jobs::{Gate, Running, Spawner, finish};
-use transport::{Link, Net};
 use retained_data::Bag;
 use serve_jobs::{RunningClient, ServeJob, finish_client};
 use std::alloc::AllocError;
 use std::sync::Wait;
 use std::thread::Threads;
+use transport::{Link, Net};
 
 impl<
     R: Threads + Wait + Copy + Drop + Send + 'static,
@@ -32,7 +32,7 @@ where
     /// back to the net. `full` stands only where a pass has seen a transcript without a place for a message
     /// of full size, `fault` only where it stood before or the count of the net or of the spawner rose in
     /// this call.
-    pub fn finish_all<P: Spawner>(self, rt: &R, net: &mut N, spawner: &mut P) -> Gathered
+    pub fn finish_all<P: Spawner>(self, net: &mut N, spawner: &mut P) -> Gathered
         requires crew { IsCrew ⟦<N::End as Link>⟧ (arc_value self.hub)
             self.running self.clients self.gathered }
         ensures gathered { IsGathered (arc_value self.hub) result }
@@ -46,13 +46,15 @@ where
         ensures logs { length result.logs.items ≡ logs_due self.clients self.gathered }
     {
         let Crew {
+            rt,
+            alloc: _,
             hub,
             running,
             clients,
             mut gathered,
         } = self;
-        finish_jobs(rt, &hub, net, spawner, running, &mut gathered);
-        finish_clients(rt, net, spawner, clients, &mut gathered);
+        finish_jobs(&rt, &hub, net, spawner, running, &mut gathered);
+        finish_clients(&rt, net, spawner, clients, &mut gathered);
         gathered
     }
 }

@@ -9,10 +9,10 @@ ghost use Rattle.server_threads.specs.Ends.{is_faulty, is_faulty_end, lacked_mem
 
 use crate::ends::{client_is_faulty, client_lacked_memory, found_full, is_faulty, lacked_memory};
 use hmr_hub::Pass;
-use transport::{Link, Net};
 use serve_jobs::{ClientEnd, ServeOut};
 use serve_reports::Log;
 use std::alloc::Global;
+use transport::{Link, Net};
 
 /// What jobs that ended have left. How they ended is told by `memory`, `full` and `fault` alone: a session
 /// that ended by a bad message, and a client of the program's own that ended by one, by an unexpected answer

@@ -25,4 +25,4 @@ mod shelves;
 pub use cause::Cause;
 pub use crew::Crew;
 pub use gathered::Gathered;
-pub use plan::{Clients, Workers};
+pub use plan::{Clients, CrewPlan, Workers};

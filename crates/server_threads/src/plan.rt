@@ -1,5 +1,5 @@
 // What a crew is to begin.
-ghost use Rattle.std.specs.Prelude.{◌≡◌, All};
+ghost use Rattle.std.specs.Prelude.{◌≡◌, ◌++◌, All, IfNone, IfSome, length, option_to_list};
 ghost use Rattle.std.specs.Arc.{arc_value};
 ghost use Rattle.transform_pool.specs.Passes.{IsPassOf, role_of};
 ghost use Rattle.transform_pool.specs.Roles.{taking};
@@ -18,6 +18,19 @@ pub struct Workers<G: Drop> {
     ghost take: { All (λ p. role_of p ≡ taking) takers.items },
 }
 
+impl<G: Drop> Workers<G> {
+    // The pass of the worker that is begun next, where one is left.
+    pub(crate) fn next_taker(&mut self) -> Option<JobPass>
+        ensures queue { self.new.queue ≡ self.old.queue }
+        ensures items { self.old.takers.items ≡ self.new.takers.items ++ option_to_list result }
+        ensures of { IfSome result (λ jobs. IsPassOf (arc_value self.new.queue) jobs) }
+        ensures take { IfSome result (λ jobs. role_of jobs ≡ taking) }
+        ensures none { IfNone result (length self.old.takers.items ≡ 0) }
+    {
+        self.takers.pop()
+    }
+}
+
 /// The clients whose sessions are to be begun.
 #[derive(Clone, Copy, Debug)]
 pub struct Clients {
@@ -29,4 +42,11 @@ pub struct Clients {
     pub port: u16,
     /// How many clients from outside get a session.
     pub outside: u32,
+}
+
+/// What a crew is to begin: its workers, and the clients whose sessions are to be begun.
+#[derive(Drop)]
+pub struct CrewPlan<G: Drop> {
+    pub workers: Workers<G>,
+    pub clients: Clients,
 }

@@ -7,7 +7,6 @@ use client_sessions::{Ended, client_session};
 use const_eval::Ran;
 use handler_table::{Shelf, host_run};
 use hot_runtime::HotRuntime;
-use transport::{MemLink, Net, TellNet};
 use message_json::MsgFault;
 use output_lines::OutLine;
 use play_text::render;
@@ -16,6 +15,7 @@ use std::alloc::{AllocError, Global};
 use std::collections::VecDeque;
 use std::sync::Wait;
 use std::test::Fail;
+use transport::{MemLink, Net, TellNet};
 
 /// A session that is over.
 #[derive(Drop)]

@@ -1,6 +1,5 @@
 // Connections that are cut, at each place of a session: the k-th call of the server's end fails.
 use crate::ends::{ask_one, serve_one};
-use transport::{MemNet, Net};
 use sessions::Ended;
 use std::alloc::Global;
 use std::collections::VecDeque;
@@ -8,6 +7,7 @@ use std::sync::Wait;
 use std::test::Fail;
 use std::thread;
 use std::thread::Threads;
+use transport::{MemNet, Net};
 
 /// The calls of a whole session: its handshake, and three messages with their answers.
 const CALLS: u64 = 7;

@@ -4,10 +4,10 @@ ghost use Rattle.transport.specs.Asks.{MayConnect};
 ghost use Rattle.transport.specs.declared.link.Phase.{Phase};
 
 use crate::page_desk::PageDesk;
-use transport::{Link, Net};
 use sessions::{Ended, serve_session};
 use std::alloc::Global;
 use std::sync::Wait;
+use transport::{Link, Net};
 
 const HELLO: &[u8] = b"{\"format\":1,\"type\":\"hello\"}";
 

@@ -5,13 +5,13 @@ use crate::messages::{
 use const_eval::Ran;
 use handler_table::{Shelf, host_run};
 use hmr_base::MemSink;
-use join_command::{JoinStop, join};
-use transport::TellNet;
+use join_command::{JoinPlan, JoinStop, join};
 use retained_data::Bag;
 use std::alloc::{AllocError, Global};
 use std::collections::VecDeque;
 use std::sync::Wait;
 use std::test::Fail;
+use transport::TellNet;
 
 /// A command that is over.
 #[derive(Drop)]
@@ -53,7 +53,12 @@ fn joined<R: Wait + Copy + Drop, F: FnOnce(Bag) -> Result<Ran, AllocError> + Dro
     let mut net = TellNet::new(rt, coming, net, ends);
     let mut out = MemSink::new(alloc, 1000, 1000, output).ok()?;
     let shelf: Shelf<F> = Shelf::new(Vec::new(alloc));
-    let ended = join(alloc, 5173, Vec::new(alloc), 3, &mut net, &mut out, shelf);
+    let plan = JoinPlan {
+        port: 5173,
+        roots: Vec::new(alloc),
+        turns: 3,
+    };
+    let ended = join(alloc, plan, &mut net, &mut out, shelf);
     let lines = String::from_utf8_lossy(alloc, out.bytes()).ok()?;
     Some(Over { ended, lines, net })
 }

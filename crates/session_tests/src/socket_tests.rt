@@ -1,9 +1,9 @@
 // A session over a WebSocket on loopback.
 use crate::ends::{ask_one, serve_one};
-use transport::Net;
 use sessions::Ended;
 use std::test::Fail;
 use std::thread;
+use transport::Net;
 use ws_links::TcpNet;
 
 #[test]

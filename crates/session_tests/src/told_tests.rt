@@ -1,13 +1,13 @@
 // What a server sends for what it is told.
 use crate::page_desk::PageDesk;
 use hmr_types::Text;
-use transport::{MemLink, Net, TellNet};
 use message_json::MsgFault;
 use sessions::{Ended, serve_session};
 use std::alloc::{AllocError, Global};
 use std::collections::VecDeque;
 use std::sync::Wait;
 use std::test::Fail;
+use transport::{MemLink, Net, TellNet};
 
 const ASK: &str = "{\"type\":\"ask\"}";
 

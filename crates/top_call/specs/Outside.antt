@@ -10,6 +10,9 @@ use Rattle.core_model.specs.Sources.{Text}
 use Rattle.client_model.specs.Runtime.{Opening}
 use Rattle.play_script.specs.declared.fault.ScriptFault.{ScriptFault}
 use Rattle.play_script.specs.Edits.{Edit, edits_of}
+use Rattle.command_ends.specs.Ends.{limit_line, number}
+use Rattle.command_ends.specs.declared.limit.Limit.TheVariants as limits
+use Rattle.command_ends.specs.declared.status.Status.TheVariants as statuses
 use Rattle.command_words.specs.declared.command.Command.{Command}
 use Rattle.command_words.specs.declared.command.Command.TheVariants as commands
 use Rattle.command_words.specs.declared.command.ServePlan.{ServePlan}
@@ -28,7 +31,7 @@ use Rattle.input_commands.specs.declared.stop.Stop.{Stop}
 use Rattle.input_commands.specs.declared.stop.Stop.TheVariants.{NotACommand, TooLong, TextTooLong, Faulty}
 use Rattle.input_commands.specs.declared.stop.Stop.TheVariants.{RecordTooLong, Unread, Unwritten}
 use Rattle.input_commands.specs.declared.stop.Stop.TheVariants.{TranscriptFull, InstancesFull, NoMemory}
-use Rattle.input_commands.specs.Outputs.{fault_line, input_limit, instances_limit}
+use Rattle.input_commands.specs.Outputs.{fault_line}
 
 -- no other status is answered
 abbrev pub IsStatus : ℕ → Type 0
@@ -36,12 +39,12 @@ IsStatus n = n ≤ 10 × (n ≢ 1)
 
 -- the status of a server's end
 abbrev pub status_of_serve : Result (Unit {0}) ServeStop → ℕ
-status_of_serve (Ok done) = 0
-status_of_serve (Err stops.Unwritten) = 5
-status_of_serve (Err stops.Tree) = 6
-status_of_serve (Err stops.Fault) = 7
-status_of_serve (Err (stops.Limit limit)) = 8
-status_of_serve (Err stops.NoMemory) = 9
+status_of_serve (Ok done) = number statuses.Done
+status_of_serve (Err stops.Unwritten) = number statuses.Unwritten
+status_of_serve (Err stops.Tree) = number statuses.Tree
+status_of_serve (Err stops.Fault) = number statuses.Net
+status_of_serve (Err (stops.Limit limit)) = number statuses.Limit
+status_of_serve (Err stops.NoMemory) = number statuses.NoMemory
 
 -- bytes within the limit that say these edits
 pub record IsScript (bytes : List ℕ) (script : List Edit) : Type 0 where
@@ -83,7 +86,7 @@ HasNoScript left old new before now status =
     ((status ≡ 3) × IfSome left (λ bytes. IsFaulty bytes old new before now))
     ⊎ ((status ≡ 4) × Keeps old new)
     ⊎ ((status ≡ 8) × IfSome left (λ bytes. SCRIPT_BYTES < length bytes)
-    × WroteLine old new before now input_limit)
+    × WroteLine old new before now (limit_line limits.Script))
     ⊎ ((status ≡ 9) × Keeps old new)
 
 -- the line of the first fault of bytes within the limit that say no edits
@@ -132,19 +135,19 @@ IsJoinStatus n = (n ≡ 0) ⊎ (n ≡ 5) ⊎ ((7 ≤ n) × (n ≤ 10))
 
 -- the status of a client's end
 abbrev pub status_of_join : Result ⊤ JoinStop → ℕ
-status_of_join (Ok done) = 0
-status_of_join (Err joins.Unwritten) = 5
-status_of_join (Err joins.NetFailed) = 7
-status_of_join (Err joins.InstancesFull) = 8
-status_of_join (Err joins.BadAnswer) = 10
-status_of_join (Err joins.NoMemory) = 9
+status_of_join (Ok done) = number statuses.Done
+status_of_join (Err joins.Unwritten) = number statuses.Unwritten
+status_of_join (Err joins.NetFailed) = number statuses.Net
+status_of_join (Err joins.InstancesFull) = number statuses.Limit
+status_of_join (Err joins.BadAnswer) = number statuses.BadAnswer
+status_of_join (Err joins.NoMemory) = number statuses.NoMemory
 
 -- the line behind a client's lines
 abbrev pub last_of_join : Result ⊤ JoinStop → List ℕ
 last_of_join (Ok done) = []
 last_of_join (Err joins.Unwritten) = []
 last_of_join (Err joins.NetFailed) = []
-last_of_join (Err joins.InstancesFull) = instances_limit
+last_of_join (Err joins.InstancesFull) = limit_line limits.Instances
 last_of_join (Err joins.BadAnswer) = []
 last_of_join (Err joins.NoMemory) = []
 

@@ -2,6 +2,8 @@
 use Rattle.std.specs.Prelude.{◌≡◌, ◌⊎◌, ℕ, ⊤, List, Option, Some, None, Result, Ok, Err}
 use Rattle.command_words.specs.declared.command.Command.{Command}
 use Rattle.command_words.specs.declared.command.Command.TheVariants as commands
+use Rattle.command_ends.specs.Ends.{number}
+use Rattle.command_ends.specs.declared.status.Status.TheVariants as statuses
 use Rattle.page_command.specs.declared.stop.PageStop.{PageStop}
 use Rattle.page_command.specs.declared.stop.PageStop.TheVariants as pages
 use Rattle.page_command.specs.Folder.{Files}
@@ -13,12 +15,12 @@ IsPageStatus n = (n ≡ 0) ⊎ (n ≡ 4) ⊎ (n ≡ 5) ⊎ (n ≡ 6) ⊎ (n ≡ 
 
 -- the status of its end
 abbrev pub status_of_page : Result ⊤ PageStop → ℕ
-status_of_page (Ok done) = 0
-status_of_page (Err pages.Unread) = 4
-status_of_page (Err pages.Unwritten) = 5
-status_of_page (Err pages.Tree) = 6
-status_of_page (Err (pages.Limit limit)) = 8
-status_of_page (Err pages.NoMemory) = 9
+status_of_page (Ok done) = number statuses.Done
+status_of_page (Err pages.Unread) = number statuses.Unread
+status_of_page (Err pages.Unwritten) = number statuses.Unwritten
+status_of_page (Err pages.Tree) = number statuses.Tree
+status_of_page (Err (pages.Limit limit)) = number statuses.Limit
+status_of_page (Err pages.NoMemory) = number statuses.NoMemory
 
 -- The requests of the input were answered by what a scan of the folder serves, or it stopped before. Behind
 -- the answers stands the line of a limit where one was met.

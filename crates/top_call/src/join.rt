@@ -10,24 +10,22 @@ ghost use Rattle.transport.specs.declared.net.Asked.{Asked};
 ghost use Rattle.top_call.specs.Outside.{IsJoinStatus, IsJoined, first_shelf, last_of_join};
 ghost use Rattle.top_call.specs.Outside.{opening_of, status_of_join};
 
+use command_ends::{Limit, Status};
 use const_eval::Ran;
 use handler_table::Shelf;
 use hmr_base::{Sink, write_all};
-use hmr_types::ModName;
-use input_commands::discard;
-use join_command::{JoinStop, join};
-use transport::Net;
+use hmr_world::discard;
+use join_command::{JoinPlan, JoinStop, join};
 use retained_data::Bag;
 use std::alloc::{AllocError, Global};
+use transport::Net;
 
-/// One client to a server at a port of this machine, by [`join`], with the closures of the first shelf. It
+/// One client to the server of a plan, by [`join`], with the closures of the first shelf. It
 /// answers the exit status: 0, 5, 7, 8, 9 or 10; at 8 the line of the limit stands behind the client's
 /// lines.
 pub(crate) fn join_server<F: FnOnce(Bag) -> Result<Ran, AllocError> + Drop, N: Net, K: Sink>(
     alloc: Global,
-    port: u16,
-    roots: Vec<ModName>,
-    turns: u32,
+    plan: JoinPlan,
     net: &mut N,
     out: &mut K,
     shelves: Vec<Shelf<F>>,
@@ -35,15 +33,16 @@ pub(crate) fn join_server<F: FnOnce(Bag) -> Result<Ran, AllocError> + Drop, N: N
     requires unasked { (N.asked net.old ≡ None) × (N.heard net.old ≡ None) }
     requires callable { (f : F) → F.IsAlwaysCallable f }
     requires hosts { AreHosts F.post shelves.items }
-    ensures joined { IsJoined (opening_of (map marks_of shelves.items) roots.items) turns (N.coming net.old)
-        (K.written out.old) (K.written out.new) (K.faults out.old) (K.faults out.new) result }
+    ensures joined { IsJoined (opening_of (map marks_of shelves.items) plan.roots.items) plan.turns
+        (N.coming net.old) (K.written out.old) (K.written out.new) (K.faults out.old) (K.faults out.new)
+        result }
     ensures known { IsJoinStatus result }
-    ensures asked { N.asked net.new ≡ Some (Asked.Connect port) }
+    ensures asked { N.asked net.new ≡ Some (Asked.Connect plan.port) }
     ensures unwritten { result ≡ 5 → Rose (K.faults out.old) (K.faults out.new) }
     ensures fault { result ≡ 7 → Rose (N.faults net.old) (N.faults net.new) }
 {
     let shelf = first_of(alloc, shelves);
-    let ended = join(alloc, port, roots, turns, net, out, shelf);
+    let ended = join(alloc, plan, net, out, shelf);
     tell_end(ended, out)
 }
 
@@ -76,14 +75,14 @@ fn tell_end<K: Sink>(ended: Result<(), JoinStop>, out: &mut K) -> u8
     ensures later { K.faults out.old ≤ K.faults out.new }
 {
     match ended {
-        Ok(()) => 0,
-        Err(JoinStop::Unwritten) => 5,
-        Err(JoinStop::NetFailed) => 7,
+        Ok(()) => Status::Done.number(),
+        Err(JoinStop::Unwritten) => Status::Unwritten.number(),
+        Err(JoinStop::NetFailed) => Status::Net.number(),
         Err(JoinStop::InstancesFull) => {
-            let _ = write_all(out, b"limit instances 20000\n");
-            8
+            let _ = write_all(out, Limit::Instances.line().as_bytes());
+            Status::Limit.number()
         }
-        Err(JoinStop::NoMemory) => 9,
-        Err(JoinStop::BadAnswer) => 10,
+        Err(JoinStop::NoMemory) => Status::NoMemory.number(),
+        Err(JoinStop::BadAnswer) => Status::BadAnswer.number(),
     }
 }

@@ -11,9 +11,11 @@
 //! nothing of which input, output, folder, net and threads it is given.
 #![tactic(auto)]
 
+mod embedding;
 mod join;
 mod page;
 mod serve;
 mod top;
 
+pub use embedding::Embedding;
 pub use top::run;

@@ -4,6 +4,7 @@ ghost use Rattle.hmr_base.specs.Causes.{Rose};
 ghost use Rattle.folders.specs.Files.{MayOpen};
 ghost use Rattle.top_call.specs.Paged.{IsPageStatus, IsPaged, status_of_page};
 
+use command_ends::Status;
 use folders::Tree;
 use hmr_base::{Sink, Source};
 use page_command::{PageStop, page};
@@ -40,11 +41,11 @@ fn status_of(ended: Result<(), PageStop>) -> u8
     ensures tree { result ≡ 6 → ended ≡ Err PageStop.Tree }
 {
     match ended {
-        Ok(()) => 0,
-        Err(PageStop::Unread) => 4,
-        Err(PageStop::Unwritten) => 5,
-        Err(PageStop::Tree) => 6,
-        Err(PageStop::Limit(_)) => 8,
-        Err(PageStop::NoMemory) => 9,
+        Ok(()) => Status::Done.number(),
+        Err(PageStop::Unread) => Status::Unread.number(),
+        Err(PageStop::Unwritten) => Status::Unwritten.number(),
+        Err(PageStop::Tree) => Status::Tree.number(),
+        Err(PageStop::Limit(_)) => Status::Limit.number(),
+        Err(PageStop::NoMemory) => Status::NoMemory.number(),
     }
 }

@@ -14,22 +14,24 @@ ghost use Rattle.play_script.specs.Edits as scripts;
 ghost use Rattle.top_call.specs.Outside.{HasNoScript, HasScript, HasServed, IsEditStop, IsNoScriptStatus};
 ghost use Rattle.top_call.specs.Outside.{IsScriptStop, IsServeStatus, status_of_serve};
 
+use crate::embedding::Embedding;
+use command_ends::{Limit, Status};
 use command_words::ServePlan;
 use const_eval::Ran;
-use folder_server::{Plan, ServeStop, serve};
+use folder_server::{Outside, Plan, ServeStop, ServeTask, serve};
 use folders::Tree;
-use handler_table::Shelf;
 use hmr_base::{Sink, Source, read_all, write_all};
 use hmr_types::ModName;
 use hmr_types::limits::SCRIPT_BYTES;
-use input_commands::{Stop, discard, stop_of_fault};
+use hmr_world::discard;
+use input_commands::{Stop, stop_of_fault};
 use jobs::{Gate, Spawner};
-use transport::Net;
 use play_script::{Edit, Edits, read_edits};
 use retained_data::Bag;
 use std::alloc::{AllocError, Global};
 use std::sync::Wait;
 use std::thread::Threads;
+use transport::Net;
 
 /// Serves the folder of a plan, with the edits of the input where the plan asks for them. It answers the
 /// exit status: 3, 4, 8 and 9 where the input has no edits, with the line of the fault or of the limit for 3
@@ -48,42 +50,42 @@ pub(crate) fn serve_folder<
     alloc: Global,
     plan: ServePlan,
     input: &mut S,
-    out: &mut K,
-    tree: &mut T,
-    net: &mut N,
-    spawner: &mut P,
-    gate: G,
-    mut shelves: Vec<Shelf<F>>,
+    outside: &mut Outside<K, T, N, P>,
+    embedding: Embedding<F, G>,
 ) -> u8
 where
     N::End: Drop + Send + 'static,
     requires plan { IsServable plan }
-    requires unopened { T.asked tree.old ≡ None }
-    requires unasked { (N.asked net.old ≡ None) × (N.heard net.old ≡ None) }
-    requires none_begun { P.begun spawner.old ≡ none_begun }
+    requires unopened { T.asked outside.old.tree ≡ None }
+    requires unasked { (N.asked outside.old.net ≡ None) × (N.heard outside.old.net ≡ None) }
+    requires none_begun { P.begun outside.old.spawner ≡ none_begun }
     requires callable { (f : F) → F.IsAlwaysCallable f }
-    requires hosts { AreHosts F.post shelves.items }
-    ensures served { HasServed plan (S.left input.old) (T.coming tree.old) (N.heard net.new)
-        (K.written out.old) (K.written out.new) (K.faults out.old) (K.faults out.new) result }
+    requires hosts { AreHosts F.post embedding.shelves.items }
+    ensures served { HasServed plan (S.left input.old) (T.coming outside.old.tree) (N.heard outside.new.net)
+        (K.written outside.old.out) (K.written outside.new.out)
+        (K.faults outside.old.out) (K.faults outside.new.out) result }
     ensures known { IsServeStatus result }
-    ensures begun { result ≡ 0 → P.begun spawner.new
+    ensures begun { result ≡ 0 → P.begun outside.new.spawner
         ≡ plan.workers ∷ (plan.clients + plan.outside) ∷ plan.clients ∷ [] }
     ensures unread { result ≡ 4 → (plan.edits ≡ true) × Rose (S.faults input.old) (S.faults input.new) }
-    ensures unread_silent { result ≡ 4 → Keeps (K.written out.old) (K.written out.new) }
-    ensures unwritten { result ≡ 5 → Rose (K.faults out.old) (K.faults out.new) }
-    ensures tree_fault { result ≡ 6 → Rose (T.faults tree.old) (T.faults tree.new) }
+    ensures unread_silent { result ≡ 4 → Keeps (K.written outside.old.out) (K.written outside.new.out) }
+    ensures unwritten { result ≡ 5 → Rose (K.faults outside.old.out) (K.faults outside.new.out) }
+    ensures tree_fault { result ≡ 6 → Rose (T.faults outside.old.tree) (T.faults outside.new.tree) }
     ensures fault { result ≡ 7
-        → Rose (N.faults net.old) (N.faults net.new) ⊎ Rose (P.faults spawner.old) (P.faults spawner.new) }
-    ensures asked { (N.asked net.new ≡ None) ⊎ (N.asked net.new ≡ Some (Asked.Listen plan.port)) }
-    ensures opened { MayOpen (T.asked tree.new) plan.folder }
+        → Rose (N.faults outside.old.net) (N.faults outside.new.net)
+        ⊎ Rose (P.faults outside.old.spawner) (P.faults outside.new.spawner) }
+    ensures asked { (N.asked outside.new.net ≡ None)
+        ⊎ (N.asked outside.new.net ≡ Some (Asked.Listen plan.port)) }
+    ensures opened { MayOpen (T.asked outside.new.tree) plan.folder }
     ensures end { result ≡ 0 → plan.edits ≡ true → IsAtEnd (S.left input.new) }
     ensures untouched { plan.edits ≡ false → input.new ≡ input.old }
 {
+    let Embedding { gate, mut shelves } = embedding;
     let script = match script_of(alloc, plan.edits, input) {
         Ok(script) => script,
         Err(stop) => {
             discard(shelves);
-            return tell_stop(stop, out);
+            return tell_stop(stop, &mut outside.out);
         }
     };
     let sizes = Plan {
@@ -96,20 +98,13 @@ where
         recorded: plan.recorded,
     };
     let ServePlan { folder, roots, .. } = plan;
-    let ended = serve(
-        rt,
-        alloc,
-        &sizes,
-        folder.as_str(),
-        roots.into_vec(),
+    let task = ServeTask {
+        plan: sizes,
+        folder,
+        roots: roots.into_vec(),
         script,
-        out,
-        tree,
-        net,
-        spawner,
-        gate,
-        &mut shelves,
-    );
+    };
+    let ended = serve(rt, alloc, task, outside, gate, &mut shelves);
     discard(shelves);
     status_of(ended)
 }
@@ -147,7 +142,7 @@ fn edits_of(alloc: Global, bytes: &[u8]) -> Result<Vec<(ModName, Option<Vec<u8>>
             let script = all_of(alloc, edits)?;
             Ok(script)
         }
-        Err(fault) => Err(stop_of_fault(alloc, fault)),
+        Err(refusal) => Err(stop_of_fault(alloc, refusal)),
     }
 }
 
@@ -187,14 +182,14 @@ fn tell_stop<K: Sink>(stop: Stop, out: &mut K) -> u8
     match stop {
         Stop::Faulty(line) => {
             let _ = write_all(out, &line);
-            3
+            Status::NoScript.number()
         }
         Stop::TooLong => {
-            let _ = write_all(out, b"limit input 16777216\n");
-            8
+            let _ = write_all(out, Limit::Script.line().as_bytes());
+            Status::Limit.number()
         }
-        Stop::Unread => 4,
-        _ => 9,
+        Stop::Unread => Status::Unread.number(),
+        _ => Status::NoMemory.number(),
     }
 }
 
@@ -209,11 +204,11 @@ fn status_of(ended: Result<(), ServeStop>) -> u8
     ensures fault { result ≡ 7 → ended ≡ Err ServeStop.Fault }
 {
     match ended {
-        Ok(()) => 0,
-        Err(ServeStop::Unwritten) => 5,
-        Err(ServeStop::Tree) => 6,
-        Err(ServeStop::Fault) => 7,
-        Err(ServeStop::Limit(_)) => 8,
-        Err(ServeStop::NoMemory) => 9,
+        Ok(()) => Status::Done.number(),
+        Err(ServeStop::Unwritten) => Status::Unwritten.number(),
+        Err(ServeStop::Tree) => Status::Tree.number(),
+        Err(ServeStop::Fault) => Status::Net.number(),
+        Err(ServeStop::Limit(_)) => Status::Limit.number(),
+        Err(ServeStop::NoMemory) => Status::NoMemory.number(),
     }
 }

@@ -14,21 +14,24 @@ ghost use Rattle.top_call.specs.Outside.{HasServed, IfJoin, IfServe, IsJoined, I
 ghost use Rattle.top_call.specs.Outside.{MayHaveOpened, is_join, opening_of};
 ghost use Rattle.top_call.specs.Paged.{IfPage, IsPaged};
 
+use crate::embedding::Embedding;
 use crate::join::join_server;
 use crate::page::page_folder;
 use crate::serve::serve_folder;
 use command_words::{Command, read_words};
 use const_eval::Ran;
+use folder_server::Outside;
 use folders::Tree;
-use handler_table::Shelf;
 use hmr_base::{Sink, Source};
-use input_commands::{discard, run_alone};
+use hmr_world::discard;
+use input_commands::run_alone;
 use jobs::{Gate, Spawner};
-use transport::Net;
+use join_command::JoinPlan;
 use retained_data::Bag;
 use std::alloc::{AllocError, Global};
 use std::sync::Wait;
 use std::thread::Threads;
+use transport::Net;
 
 /// What the program does, but for making the real input and output: it answers the exit status.
 ///
@@ -70,68 +73,84 @@ pub fn run<
     alloc: Global,
     words: &[String],
     input: &mut S,
-    out: &mut K,
-    tree: &mut T,
-    net: &mut N,
-    spawner: &mut P,
-    gate: G,
-    shelves: Vec<Shelf<F>>,
+    outside: &mut Outside<K, T, N, P>,
+    embedding: Embedding<F, G>,
 ) -> u8
 where
     N::End: Drop + Send + 'static,
     requires callable { (f : F) → F.IsAlwaysCallable f }
-    requires hosts { AreHosts F.post shelves.items }
-    requires unopened { T.asked tree.old ≡ None }
-    requires unasked { (N.asked net.old ≡ None) × (N.heard net.old ≡ None) }
-    requires none_begun { P.begun spawner.old ≡ none_begun }
+    requires hosts { AreHosts F.post embedding.shelves.items }
+    requires unopened { T.asked outside.old.tree ≡ None }
+    requires unasked { (N.asked outside.old.net ≡ None) × (N.heard outside.old.net ≡ None) }
+    requires none_begun { P.begun outside.old.spawner ≡ none_begun }
     ensures known { IsStatus result }
     ensures words { AnswersWords (command_of (map string_bytes words.now))
-        (K.written out.old) (K.written out.new) (K.faults out.old) (K.faults out.new) result }
+        (K.written outside.old.out) (K.written outside.new.out)
+        (K.faults outside.old.out) (K.faults outside.new.out) result }
     ensures output { WritesOutput
-        (output_of (map marks_of shelves.items) (map string_bytes words.now) (S.left input.old))
-        (K.written out.old) (K.written out.new) (K.faults out.old) (K.faults out.new) result }
+        (output_of (map marks_of embedding.shelves.items) (map string_bytes words.now) (S.left input.old))
+        (K.written outside.old.out) (K.written outside.new.out)
+        (K.faults outside.old.out) (K.faults outside.new.out) result }
     ensures complete { IsComplete
-        (output_of (map marks_of shelves.items) (map string_bytes words.now) (S.left input.old)) result }
+        (output_of (map marks_of embedding.shelves.items) (map string_bytes words.now) (S.left input.old))
+        result }
     ensures input { ReadsInput (command_of (map string_bytes words.now)) (S.left input.new)
-        (S.faults input.old) (S.faults input.new) (K.written out.old) (K.written out.new) result }
+        (S.faults input.old) (S.faults input.new)
+        (K.written outside.old.out) (K.written outside.new.out) result }
     ensures untouched { reads_input (command_of (map string_bytes words.now)) ≡ false
         → is_page (command_of (map string_bytes words.now)) ≡ false → input.new ≡ input.old }
-    ensures unwritten { result ≡ 5 → Rose (K.faults out.old) (K.faults out.new) }
+    ensures unwritten { result ≡ 5 → Rose (K.faults outside.old.out) (K.faults outside.new.out) }
     ensures fresh_load { IfSome (S.left input.old) (λ bytes.
-        ShowsAreFresh (map marks_of shelves.items) (script_of bytes)) }
+        ShowsAreFresh (map marks_of embedding.shelves.items) (script_of bytes)) }
 
     ensures served { IfServe (command_of (map string_bytes words.now)) (λ plan.
-        HasServed plan (S.left input.old) (T.coming tree.old) (N.heard net.new)
-        (K.written out.old) (K.written out.new) (K.faults out.old) (K.faults out.new) result
-        ⊎ ((result ≡ 9) × Keeps (K.written out.old) (K.written out.new))) }
+        HasServed plan (S.left input.old) (T.coming outside.old.tree) (N.heard outside.new.net)
+        (K.written outside.old.out) (K.written outside.new.out)
+        (K.faults outside.old.out) (K.faults outside.new.out) result
+        ⊎ ((result ≡ 9) × Keeps (K.written outside.old.out) (K.written outside.new.out))) }
     ensures begun { IfServe (command_of (map string_bytes words.now)) (λ plan. result ≡ 0
-        → P.begun spawner.new ≡ plan.workers ∷ (plan.clients + plan.outside) ∷ plan.clients ∷ []) }
+        → P.begun outside.new.spawner ≡ plan.workers ∷ (plan.clients + plan.outside) ∷ plan.clients ∷ []) }
     ensures joined { IfJoin (command_of (map string_bytes words.now)) (λ port roots turns.
-        IsJoined (opening_of (map marks_of shelves.items) roots) turns (N.coming net.old)
-        (K.written out.old) (K.written out.new) (K.faults out.old) (K.faults out.new) result
-        ⊎ ((result ≡ 9) × Keeps (K.written out.old) (K.written out.new))) }
+        IsJoined (opening_of (map marks_of embedding.shelves.items) roots) turns (N.coming outside.old.net)
+        (K.written outside.old.out) (K.written outside.new.out)
+        (K.faults outside.old.out) (K.faults outside.new.out) result
+        ⊎ ((result ≡ 9) × Keeps (K.written outside.old.out) (K.written outside.new.out))) }
     ensures paged { IfPage (command_of (map string_bytes words.now)) (λ folder.
-        IsPaged (T.coming tree.old) (S.left input.old)
-        (K.written out.old) (K.written out.new) (K.faults out.old) (K.faults out.new) result
-        ⊎ ((result ≡ 9) × Keeps (K.written out.old) (K.written out.new))) }
-    ensures tree_failed { result ≡ 6 → Rose (T.faults tree.old) (T.faults tree.new) }
+        IsPaged (T.coming outside.old.tree) (S.left input.old)
+        (K.written outside.old.out) (K.written outside.new.out)
+        (K.faults outside.old.out) (K.faults outside.new.out) result
+        ⊎ ((result ≡ 9) × Keeps (K.written outside.old.out) (K.written outside.new.out))) }
+    ensures tree_failed { result ≡ 6 → Rose (T.faults outside.old.tree) (T.faults outside.new.tree) }
     ensures net_failed { result ≡ 7
-        → Rose (N.faults net.old) (N.faults net.new) ⊎ Rose (P.faults spawner.old) (P.faults spawner.new) }
+        → Rose (N.faults outside.old.net) (N.faults outside.new.net)
+        ⊎ Rose (P.faults outside.old.spawner) (P.faults outside.new.spawner) }
     ensures bad_answer { result ≡ 10 → is_join (command_of (map string_bytes words.now)) ≡ true }
-    ensures asked { MayAsk (command_of (map string_bytes words.now)) (N.asked net.new) }
-    ensures opened { MayHaveOpened (command_of (map string_bytes words.now)) (T.asked tree.new) }
+    ensures asked { MayAsk (command_of (map string_bytes words.now)) (N.asked outside.new.net) }
+    ensures opened { MayHaveOpened (command_of (map string_bytes words.now)) (T.asked outside.new.tree) }
 {
+    let Embedding { gate, shelves } = embedding;
     match read_words(alloc, words) {
-        Ok(Command::Serve(plan)) => serve_folder(
-            rt, alloc, plan, input, out, tree, net, spawner, gate, shelves,
-        ),
+        Ok(Command::Serve(plan)) => {
+            serve_folder(rt, alloc, plan, input, outside, Embedding { gate, shelves })
+        }
         Ok(Command::Join { port, roots, turns }) => {
-            join_server(alloc, port, roots.into_vec(), turns, net, out, shelves)
+            let plan = JoinPlan {
+                port,
+                roots: roots.into_vec(),
+                turns,
+            };
+            join_server(alloc, plan, &mut outside.net, &mut outside.out, shelves)
         }
         Ok(Command::Page(folder)) => {
             discard(shelves);
-            page_folder(alloc, folder.as_str(), input, out, tree)
+            page_folder(
+                alloc,
+                folder.as_str(),
+                input,
+                &mut outside.out,
+                &mut outside.tree,
+            )
         }
-        read => run_alone(alloc, words, read, input, out, shelves),
+        read => run_alone(alloc, words, read, input, &mut outside.out, shelves),
     }
 }

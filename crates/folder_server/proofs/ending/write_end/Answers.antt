@@ -10,13 +10,13 @@ use Rattle.folder_server.proofs.ending.write_end.Goals as goal
 
 pub returns-in-Err-NoMemory-clause-reported : goal.returns-in-Err-NoMemory-clause-reported
 returns-in-Err-NoMemory-clause-reported g c =
-    ends_before c.args.recorded c.args.hub.now c.args.pass.now c.args.gathered.full _ c.requires.of c.requires.transcript
+    ends_before c.args.recorded c.args.context.now.caller.hub.now c.args.pass.now c.args.left.gathered.full _ c.requires.of c.requires.transcript
 
 pub returns-in_err-report-clause-reported : goal.returns-in_err-report-clause-reported
 returns-in_err-report-clause-reported g c =
     let told = err_from_is_err_and c.from_residual.result c.from_residual.ensures.1 in
     let wound = c.wind_up.ensures in
-    ends_memory c.args.recorded c.args.hub.now c.args.pass.now c.wind_up.new.pass c.args.gathered.full c.from_residual.result _
+    ends_memory c.args.recorded c.args.context.now.caller.hub.now c.args.pass.now c.wind_up.new.pass c.args.left.gathered.full c.from_residual.result _
     (record { of = wound.of; transcript = wound.transcript; own = wound.own c.requires.knows; given = wound.given })
     (λ f. full_within _ _ (c.requires.gathered.full f) wound.within) (told.1 ∙ ap Err told.2)
 
@@ -24,7 +24,7 @@ pub returns-in_err-text-clause-reported : goal.returns-in_err-text-clause-report
 returns-in_err-text-clause-reported g c =
     let told = err_from_is_err_and c.from_residual-in_err-text.result c.from_residual-in_err-text.ensures.1 in
     let wound = c.wind_up.ensures in
-    ends_memory c.args.recorded c.args.hub.now c.args.pass.now c.wind_up.new.pass c.args.gathered.full c.from_residual-in_err-text.result _
+    ends_memory c.args.recorded c.args.context.now.caller.hub.now c.args.pass.now c.wind_up.new.pass c.args.left.gathered.full c.from_residual-in_err-text.result _
     (record { of = wound.of; transcript = wound.transcript; own = wound.own c.requires.knows; given = wound.given })
     (λ f. full_within _ _ (c.requires.gathered.full f) wound.within) (told.1 ∙ ap Err told.2)
 
@@ -34,7 +34,7 @@ returns-in_err-write_all-clause-reported g c =
     let wound = c.wind_up.ensures in
     let report = c.in_ok-report.ensures.report in
     let own = wound.own c.requires.knows in
-    ends_cut c.args.recorded c.args.hub.now c.args.pass.now c.wind_up.new.pass c.args.gathered.full report.0 c.in_ok-text.text.items
+    ends_cut c.args.recorded c.args.context.now.caller.hub.now c.args.pass.now c.wind_up.new.pass c.args.left.gathered.full report.0 c.in_ok-text.text.items
     c.from_residual-in_err-write_all.result _ _
     (record { of = wound.of; transcript = wound.transcript; own = own; given = wound.given })
     (λ f. full_within _ _ (c.requires.gathered.full f) wound.within) (told.1 ∙ ap Err told.2)
@@ -47,8 +47,8 @@ returns-clause-reported g c =
     let wound = c.wind_up.ensures in
     let report = c.in_ok-report.ensures.report in
     let own = wound.own c.requires.knows in
-    ends_all c.args.recorded c.args.hub.now c.args.pass.now c.wind_up.new.pass c.args.gathered.full report.0 c.in_ok-text.text.items
-    c.args.ended _ _
+    ends_all c.args.recorded c.args.context.now.caller.hub.now c.args.pass.now c.wind_up.new.pass c.args.left.gathered.full report.0 c.in_ok-text.text.items
+    c.args.left.ended _ _
     (record { of = wound.of; transcript = wound.transcript; own = own; given = wound.given })
     (λ f. full_within _ _ (c.requires.gathered.full f) wound.within)
     (report_is c.args.recorded c.args.pass.now c.wind_up.new.pass report.0 c.in_ok-report.report.items c.in_ok-text.text.items own

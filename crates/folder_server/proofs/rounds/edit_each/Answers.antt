@@ -20,7 +20,7 @@ loop-name-init g c = record {
   transcript = λ h. h;
   edited = λ p x. x;
   going = c.requires.going;
-  made = all_none c.args.editor.now.works.items;
+  made = all_none c.args.editing.now.editor.works.items;
   all = ap edits_in c.into_iter-name-iterator.ensures.into_iter_gives.0;
   left = search rules;
   short = All-same IsShort (edits_in (into_iter_items c.into_iter-name-iterator.result)) (edits_in c.args.edits.items) (ap edits_in c.into_iter-name-iterator.ensures.into_iter_gives.0) c.requires.short;
@@ -37,7 +37,7 @@ edit-requires-clause-short g c =
 pub loop-name-preserved : goal.loop-name-preserved
 loop-name-preserved g c =
     let i = c.loop-name.invariant in
-    let old = c.loop-name.editor.works.items in
+    let old = c.loop-name.editing.editor.works.items in
     let new = c.edit.new.self.works.items in
     let done = c.loop-name.yielded in
     let steps : into_iter_items c.loop-name.name-iterator ≡ (c.in-Some.name, c.in-Some.text) ∷ into_iter_items c.next.new.self = c.in-Some.ensures.steps.0 in
@@ -49,9 +49,9 @@ loop-name-preserved g c =
       edited = λ p x. c.edit.ensures.edited p (i.edited p x);
       going = c.edit.ensures.going;
       made =
-          all_as (edits_in done ++ (c.in-Some.name, text_in c.in-Some.text) ∷ []) (edits_in (done ++ (c.in-Some.name, c.in-Some.text) ∷ [])) c.args.editor.now.works.items new
+          all_as (edits_in done ++ (c.in-Some.name, text_in c.in-Some.text) ∷ []) (edits_in (done ++ (c.in-Some.name, c.in-Some.text) ∷ [])) c.args.editing.now.editor.works.items new
           (sym (edits_push done (c.in-Some.name, c.in-Some.text)))
-          (all_then (edits_in done) ((c.in-Some.name, text_in c.in-Some.text) ∷ []) c.args.editor.now.works.items old new i.made
+          (all_then (edits_in done) ((c.in-Some.name, text_in c.in-Some.text) ∷ []) c.args.editing.now.editor.works.items old new i.made
           (all_one old new added.one (c.in-Some.name, text_in c.in-Some.text) added.whole added.edit_is added.accepted));
       all =
           edits_then done (c.in-Some.name, c.in-Some.text) (into_iter_items c.next.new.self)
@@ -77,12 +77,12 @@ returns-in_err-edit-clause-makes g c =
     let i = c.loop-name.invariant in
     let told = err_from_is_err_and c.from_residual.result c.from_residual.ensures.1 in
     let stop = c.in_err-edit.field-0.0 in
-    subst (λ r. MakesEach (edits_in c.args.edits.items) c.args.editor.now.works.items c.edit.new.self.works.items r) (sym (told.1 ∙ ap Err told.2))
-    (each_stopped (edits_in c.loop-name.yielded) (edits_in (into_iter_items c.next.new.self)) (edits_in c.args.edits.items) c.args.editor.now.works.items c.loop-name.editor.works.items c.edit.new.self.works.items
+    subst (λ r. MakesEach (edits_in c.args.edits.items) c.args.editing.now.editor.works.items c.edit.new.self.works.items r) (sym (told.1 ∙ ap Err told.2))
+    (each_stopped (edits_in c.loop-name.yielded) (edits_in (into_iter_items c.next.new.self)) (edits_in c.args.edits.items) c.args.editing.now.editor.works.items c.loop-name.editing.editor.works.items c.edit.new.self.works.items
     (c.in-Some.name, text_in c.in-Some.text) stop i.made (ap (λ es. edits_in c.loop-name.yielded ++ edits_in es) (sym c.in-Some.ensures.steps.0) ∙ i.all) c.in_err-edit.ensures.stopped)
 
 pub returns-clause-makes : goal.returns-clause-makes
 returns-clause-makes g c =
     let i = c.loop-name.invariant in
-    each_all (edits_in c.loop-name.yielded) (edits_in (into_iter_items c.loop-name.name-iterator)) (edits_in c.args.edits.items) c.args.editor.now.works.items c.loop-name.editor.works.items
+    each_all (edits_in c.loop-name.yielded) (edits_in (into_iter_items c.loop-name.name-iterator)) (edits_in c.args.edits.items) c.args.editing.now.editor.works.items c.loop-name.editing.editor.works.items
     i.made i.all (ap edits_in (none_left (into_iter_items c.loop-name.name-iterator) (sym i.left ∙ c.in-None.ensures.steps.0)))

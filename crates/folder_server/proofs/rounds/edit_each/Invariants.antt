@@ -14,16 +14,16 @@ use Rattle.folder_server.proofs.rounds.edit_each.Given as goal
 -- the edits so far were made
 abbrev pub invariant-loop-name : goal.invariant-loop-name
 invariant-loop-name g l = record {
-  of : IsPassOf l.hub l.pass;
+  of : IsPassOf l.context.caller.hub.now l.pass;
   same : SameKnower l.fn.pass l.pass;
   transcript : HasTranscript l.fn.pass → HasTranscript l.pass;
-  edited : (p : Pass) → Edited p l.fn.pass l.fn.editor.works.items → Edited p l.pass l.editor.works.items;
-  going : IsGoing l.editor.works.items;
-  made : AllMade (edits_in l.yielded) l.fn.editor.works.items l.editor.works.items;
+  edited : (p : Pass) → Edited p l.fn.pass l.fn.editing.editor.works.items → Edited p l.pass l.editing.editor.works.items;
+  going : IsGoing l.editing.editor.works.items;
+  made : AllMade (edits_in l.yielded) l.fn.editing.editor.works.items l.editing.editor.works.items;
   all : edits_in l.yielded ++ edits_in (into_iter_items l.name-iterator) ≡ edits_in l.fn.edits.items;
   left : into_iter_len l.name-iterator ≡ length (into_iter_items l.name-iterator);
   short : All (λ e. length_of e ≤ MESSAGE_BYTES) (edits_in (into_iter_items l.name-iterator));
-  of_queue : pool.IsPassOf l.queue l.jobs;
-  puts : (pool.role_of l.jobs).puts ≡ true;
-  unclosed : (pool.role_of l.jobs).closed ≡ false;
+  of_queue : pool.IsPassOf l.editing.queue.now l.editing.jobs;
+  puts : (pool.role_of l.editing.jobs).puts ≡ true;
+  unclosed : (pool.role_of l.editing.jobs).closed ≡ false;
 }

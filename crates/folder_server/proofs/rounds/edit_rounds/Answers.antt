@@ -17,7 +17,7 @@ loop-init g c = record {
   transcript = λ h. h;
   edited = λ p x. x;
   going = c.requires.going;
-  rounds = rounds_none (g.T.Tree.coming c.args.tree.now) c.args.listing c.args.editor.now.works.items;
+  rounds = rounds_none (g.T.Tree.coming c.args.tree.now) c.args.listing c.args.editing.now.editor.works.items;
   came = came_none (g.T.Tree.coming c.args.tree.now);
   of_queue = c.requires.of_queue;
   puts = c.requires.puts;
@@ -33,9 +33,9 @@ pub loop-preserved : goal.loop-preserved
 loop-preserved g c =
     let i = c.loop.invariant in
     let coming = g.T.Tree.coming c.args.tree.now in
-    let start = c.args.editor.now.works.items in
-    let old = c.loop.editor.works.items in
-    let new = c.edit_each.new.editor.works.items in
+    let start = c.args.editing.now.editor.works.items in
+    let old = c.loop.editing.editor.works.items in
+    let new = c.edit_each.new.editing.editor.works.items in
     let next = c.in_ok-next.next in
     let edits = edits_in c.in_ok-edits.edits.items in
     record {
@@ -62,8 +62,8 @@ returns-in_err-next-clause-makes g c =
     let told = err_from_is_err_and c.from_residual.result c.from_residual.ensures.1 in
     let coming = g.T.Tree.coming c.args.tree.now in
     let stop = c.in_err-next.field-0.0 in
-    subst (λ r. MakesEdits coming c.args.listing [] c.args.rounds c.args.editor.now.works.items c.loop.editor.works.items r) (sym (told.1 ∙ ap Err told.2))
-    (rounds_scan coming (g.T.Tree.coming c.loop.tree) c.args.listing c.loop.listing c.loop.counter c.args.rounds c.args.editor.now.works.items c.loop.editor.works.items stop c.loop.invariant.rounds
+    subst (λ r. MakesEdits coming c.args.listing [] c.args.rounds c.args.editing.now.editor.works.items c.loop.editing.editor.works.items r) (sym (told.1 ∙ ap Err told.2))
+    (rounds_scan coming (g.T.Tree.coming c.loop.tree) c.args.listing c.loop.listing c.loop.counter c.args.rounds c.args.editing.now.editor.works.items c.loop.editing.editor.works.items stop c.loop.invariant.rounds
     (omega (arith, c.loop-test.true)) (scan_stops c.loop.counter coming (g.T.Tree.coming c.loop.tree) stop c.loop.invariant.came c.in_err-next.ensures.limits))
 
 pub returns-in_err-next-clause-cause : goal.returns-in_err-next-clause-cause
@@ -79,17 +79,17 @@ pub returns-in_err-edits-clause-makes : goal.returns-in_err-edits-clause-makes
 returns-in_err-edits-clause-makes g c =
     let told = err_from_is_err_and c.from_residual-in_err-edits.result c.from_residual-in_err-edits.ensures.1 in
     let coming = g.T.Tree.coming c.args.tree.now in
-    subst (λ r. MakesEdits coming c.args.listing [] c.args.rounds c.args.editor.now.works.items c.loop.editor.works.items r) (sym (told.1 ∙ ap Err told.2))
-    (rounds_memory coming (g.T.Tree.coming c.loop.tree) c.args.listing c.loop.listing c.loop.counter c.args.rounds c.args.editor.now.works.items c.loop.editor.works.items c.loop.invariant.rounds
+    subst (λ r. MakesEdits coming c.args.listing [] c.args.rounds c.args.editing.now.editor.works.items c.loop.editing.editor.works.items r) (sym (told.1 ∙ ap Err told.2))
+    (rounds_memory coming (g.T.Tree.coming c.loop.tree) c.args.listing c.loop.listing c.loop.counter c.args.rounds c.args.editing.now.editor.works.items c.loop.editing.editor.works.items c.loop.invariant.rounds
     (omega (arith, c.loop-test.true)))
 
 pub returns-in_err-edit_each-clause-makes : goal.returns-in_err-edit_each-clause-makes
 returns-in_err-edit_each-clause-makes g c =
     let told = err_from_is_err_and c.from_residual-in_err-edit_each.result c.from_residual-in_err-edit_each.ensures.1 in
     let coming = g.T.Tree.coming c.args.tree.now in
-    subst (λ r. MakesEdits coming c.args.listing [] c.args.rounds c.args.editor.now.works.items c.edit_each.new.editor.works.items r) (sym (told.1 ∙ ap Err told.2))
+    subst (λ r. MakesEdits coming c.args.listing [] c.args.rounds c.args.editing.now.editor.works.items c.edit_each.new.editing.editor.works.items r) (sym (told.1 ∙ ap Err told.2))
     (round_stopped coming (g.T.Tree.coming c.loop.tree) c.args.listing c.loop.listing c.in_ok-next.next c.loop.counter c.args.rounds
-    c.args.editor.now.works.items c.loop.editor.works.items c.edit_each.new.editor.works.items (edits_in c.in_ok-edits.edits.items) c.in_err-edit_each.field-0.0 c.loop.invariant.rounds
+    c.args.editing.now.editor.works.items c.loop.editing.editor.works.items c.edit_each.new.editing.editor.works.items (edits_in c.in_ok-edits.edits.items) c.in_err-edit_each.field-0.0 c.loop.invariant.rounds
     (omega (arith, c.loop-test.true))
     (record { scanned = c.in_ok-next.ensures.told; edits_are = c.in_ok-edits.ensures.are; rising = c.in_ok-edits.ensures.rising })
     c.in_err-edit_each.ensures.makes)
@@ -111,5 +111,5 @@ returns-in_err-edit_each-clause-tree_fault g c = tree_of_edit c.from_residual-in
 
 pub returns-clause-makes : goal.returns-clause-makes
 returns-clause-makes g c =
-    rounds_all (g.T.Tree.coming c.args.tree.now) (g.T.Tree.coming c.loop.tree) c.args.listing c.loop.listing c.args.rounds c.args.editor.now.works.items c.loop.editor.works.items
-    (subst (λ n. Rounds (g.T.Tree.coming c.args.tree.now) (g.T.Tree.coming c.loop.tree) c.args.listing c.loop.listing n c.args.editor.now.works.items c.loop.editor.works.items) (omega arith) c.loop.invariant.rounds)
+    rounds_all (g.T.Tree.coming c.args.tree.now) (g.T.Tree.coming c.loop.tree) c.args.listing c.loop.listing c.args.rounds c.args.editing.now.editor.works.items c.loop.editing.editor.works.items
+    (subst (λ n. Rounds (g.T.Tree.coming c.args.tree.now) (g.T.Tree.coming c.loop.tree) c.args.listing c.loop.listing n c.args.editing.now.editor.works.items c.loop.editing.editor.works.items) (omega arith) c.loop.invariant.rounds)

@@ -13,16 +13,16 @@ use Rattle.folder_server.proofs.rounds.edit_rounds.Given as goal
 -- the edits of the rounds so far were made
 abbrev pub invariant-loop : goal.invariant-loop
 invariant-loop g l = record {
-  of : IsPassOf l.hub l.pass;
+  of : IsPassOf l.context.caller.hub.now l.pass;
   same : SameKnower l.fn.pass l.pass;
   transcript : HasTranscript l.fn.pass → HasTranscript l.pass;
-  edited : (p : Pass) → Edited p l.fn.pass l.fn.editor.works.items → Edited p l.pass l.editor.works.items;
-  going : IsGoing l.editor.works.items;
-  rounds : Rounds (g.T.Tree.coming l.fn.tree) (g.T.Tree.coming l.tree) l.fn.listing l.listing l.counter l.fn.editor.works.items l.editor.works.items;
+  edited : (p : Pass) → Edited p l.fn.pass l.fn.editing.editor.works.items → Edited p l.pass l.editing.editor.works.items;
+  going : IsGoing l.editing.editor.works.items;
+  rounds : Rounds (g.T.Tree.coming l.fn.tree) (g.T.Tree.coming l.tree) l.fn.listing l.listing l.counter l.fn.editing.editor.works.items l.editing.editor.works.items;
   came : g.T.Tree.coming l.tree ≡ option_map (after_scans l.counter) (g.T.Tree.coming l.fn.tree);
-  of_queue : pool.IsPassOf l.queue l.jobs;
-  puts : (pool.role_of l.jobs).puts ≡ true;
-  unclosed : (pool.role_of l.jobs).closed ≡ false;
-  may : MayOpen (g.T.Tree.asked l.tree) l.folder;
+  of_queue : pool.IsPassOf l.editing.queue.now l.editing.jobs;
+  puts : (pool.role_of l.editing.jobs).puts ≡ true;
+  unclosed : (pool.role_of l.editing.jobs).closed ≡ false;
+  may : MayOpen (g.T.Tree.asked l.tree) l.context.folder.now;
   later : g.T.Tree.faults l.fn.tree ≤ g.T.Tree.faults l.tree;
 }

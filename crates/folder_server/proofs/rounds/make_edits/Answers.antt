@@ -13,8 +13,8 @@ use Rattle.folder_server.proofs.rounds.make_edits.Goals as goal
 pub returns-in_err-edit_rounds-clause-makes : goal.returns-in_err-edit_rounds-clause-makes
 returns-in_err-edit_rounds-clause-makes g c =
     let told = err_from_is_err_and c.from_residual.result c.from_residual.ensures.1 in
-    subst (λ r. MakesEdits (g.T.Tree.coming c.args.tree.now) c.args.listing (edits_in c.args.script.items) c.args.rounds c.args.editor.now.works.items c.edit_rounds.new.editor.works.items r) (sym (told.1 ∙ ap Err told.2))
-    (script_stopped (g.T.Tree.coming c.args.tree.now) c.args.listing (edits_in c.args.script.items) c.args.rounds c.args.editor.now.works.items c.edit_rounds.new.editor.works.items
+    subst (λ r. MakesEdits (g.T.Tree.coming c.args.tree.now) c.args.later.listing (edits_in c.args.later.script.items) c.args.later.rounds c.args.editing.now.editor.works.items c.edit_rounds.new.editing.editor.works.items r) (sym (told.1 ∙ ap Err told.2))
+    (script_stopped (g.T.Tree.coming c.args.tree.now) c.args.later.listing (edits_in c.args.later.script.items) c.args.later.rounds c.args.editing.now.editor.works.items c.edit_rounds.new.editing.editor.works.items
     c.in_err-edit_rounds.field-0.0 c.in_err-edit_rounds.ensures.makes)
 
 pub returns-in_err-edit_each-clause-same : goal.returns-in_err-edit_each-clause-same
@@ -26,8 +26,8 @@ returns-in_err-edit_each-clause-edited g c = λ p x. c.edit_each.ensures.edited 
 pub returns-in_err-edit_each-clause-makes : goal.returns-in_err-edit_each-clause-makes
 returns-in_err-edit_each-clause-makes g c =
     let told = err_from_is_err_and c.from_residual-in_err-edit_each.result c.from_residual-in_err-edit_each.ensures.1 in
-    subst (λ r. MakesEdits (g.T.Tree.coming c.args.tree.now) c.args.listing (edits_in c.args.script.items) c.args.rounds c.args.editor.now.works.items c.edit_each.new.editor.works.items r) (sym (told.1 ∙ ap Err told.2))
-    (script_stops (g.T.Tree.coming c.args.tree.now) c.args.listing (edits_in c.args.script.items) c.args.rounds c.args.editor.now.works.items c.edit_rounds.new.editor.works.items c.edit_each.new.editor.works.items
+    subst (λ r. MakesEdits (g.T.Tree.coming c.args.tree.now) c.args.later.listing (edits_in c.args.later.script.items) c.args.later.rounds c.args.editing.now.editor.works.items c.edit_each.new.editing.editor.works.items r) (sym (told.1 ∙ ap Err told.2))
+    (script_stops (g.T.Tree.coming c.args.tree.now) c.args.later.listing (edits_in c.args.later.script.items) c.args.later.rounds c.args.editing.now.editor.works.items c.edit_rounds.new.editing.editor.works.items c.edit_each.new.editing.editor.works.items
     c.in_err-edit_each.field-0.0 c.in_ok-edit_rounds.ensures.makes c.in_err-edit_each.ensures.makes)
 
 pub returns-in_err-edit_each-clause-cause : goal.returns-in_err-edit_each-clause-cause
@@ -47,5 +47,5 @@ returns-clause-edited g c = λ p x. c.edit_each.ensures.edited p (c.edit_rounds.
 
 pub returns-clause-makes : goal.returns-clause-makes
 returns-clause-makes g c =
-    script_made (g.T.Tree.coming c.args.tree.now) c.args.listing (edits_in c.args.script.items) c.args.rounds c.args.editor.now.works.items c.edit_rounds.new.editor.works.items c.edit_each.new.editor.works.items
+    script_made (g.T.Tree.coming c.args.tree.now) c.args.later.listing (edits_in c.args.later.script.items) c.args.later.rounds c.args.editing.now.editor.works.items c.edit_rounds.new.editing.editor.works.items c.edit_each.new.editing.editor.works.items
     c.in_ok-edit_rounds.ensures.makes c.in_ok-edit_each.ensures.makes

@@ -17,9 +17,9 @@ pub returns-in_err-begun-clause-makes : goal.returns-in_err-begun-clause-makes
 returns-in_err-begun-clause-makes g c =
     let told = err_from_is_err_and c.from_residual.result c.from_residual.ensures.1 in
     let cause = c.in_err-begun.field-0.0 in
-    subst (λ r. MakesEdits (g.T.Tree.coming c.args.tree.now) c.args.listing (edits_in c.args.script.items) c.args.rounds [] c.args.editor.now.works.items r) (sym (told.1 ∙ ap Err told.2))
-    (subst (λ ms. MakesEdits (g.T.Tree.coming c.args.tree.now) c.args.listing (edits_in c.args.script.items) c.args.rounds [] ms (Err (stop_by cause))) (sym c.requires.none)
-    (makes_nothing (g.T.Tree.coming c.args.tree.now) c.args.listing (edits_in c.args.script.items) c.args.rounds [] cause))
+    subst (λ r. MakesEdits (g.T.Tree.coming c.args.tree.now) c.args.later.listing (edits_in c.args.later.script.items) c.args.later.rounds [] c.args.editing.now.editor.works.items r) (sym (told.1 ∙ ap Err told.2))
+    (subst (λ ms. MakesEdits (g.T.Tree.coming c.args.tree.now) c.args.later.listing (edits_in c.args.later.script.items) c.args.later.rounds [] ms (Err (stop_by cause))) (sym c.requires.none)
+    (makes_nothing (g.T.Tree.coming c.args.tree.now) c.args.later.listing (edits_in c.args.later.script.items) c.args.later.rounds [] cause))
 
 pub returns-in_err-begun-clause-cause : goal.returns-in_err-begun-clause-cause
 returns-in_err-begun-clause-cause g c =
@@ -39,7 +39,7 @@ returns-clause-edited g c = λ p x. c.make_edits.ensures.edited p (subst (λ ms.
 
 pub returns-clause-makes : goal.returns-clause-makes
 returns-clause-makes g c =
-    subst (λ ms. MakesEdits (g.T.Tree.coming c.args.tree.now) c.args.listing (edits_in c.args.script.items) c.args.rounds ms c.make_edits.new.editor.works.items c.make_edits.result) c.requires.none c.make_edits.ensures.makes
+    subst (λ ms. MakesEdits (g.T.Tree.coming c.args.tree.now) c.args.later.listing (edits_in c.args.later.script.items) c.args.later.rounds ms c.make_edits.new.editing.editor.works.items c.make_edits.result) c.requires.none c.make_edits.ensures.makes
 
 pub returns-clause-cause : goal.returns-clause-cause
 returns-clause-cause g c = edits_work c.make_edits.new.pass c.make_edits.result c.make_edits.ensures.cause

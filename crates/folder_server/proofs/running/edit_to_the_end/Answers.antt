@@ -10,7 +10,7 @@ use Rattle.folder_server.proofs.Makings.{makes_room, makes_same}
 use Rattle.folder_server.proofs.running.edit_to_the_end.Goals as goal
 
 pub returns-in-Err-clause-makes : goal.returns-in-Err-clause-makes
-returns-in-Err-clause-makes g c = subst (λ r. MakesEdits (g.T.Tree.coming c.args.tree.now) c.args.listing (edits_in c.args.script.items) c.args.rounds [] c.edit_all-edited.new.editor.works.items r) c.in-Err.is c.edit_all-edited.ensures.makes
+returns-in-Err-clause-makes g c = subst (λ r. MakesEdits (g.T.Tree.coming c.args.tree.now) c.args.later.listing (edits_in c.args.later.script.items) c.args.later.rounds [] c.edit_all-edited.new.editing.editor.works.items r) c.in-Err.is c.edit_all-edited.ensures.makes
 
 pub returns-in-Err-clause-cause : goal.returns-in-Err-clause-cause
 returns-in-Err-clause-cause g c = subst (λ r. IfErr r (IsWorkCause c.edit_all-edited.new.pass)) c.in-Err.is c.edit_all-edited.ensures.cause
@@ -19,12 +19,12 @@ pub returns-in_err-close-in-Ok-clause-makes : goal.returns-in_err-close-in-Ok-cl
 returns-in_err-close-in-Ok-clause-makes g c =
     let told = err_from_is_err_and c.from_residual.result c.from_residual.ensures.1 in
     let coming = g.T.Tree.coming c.args.tree.now in
-    let script = edits_in c.args.script.items in
-    let old = c.edit_all-edited.new.editor.works.items in
+    let script = edits_in c.args.later.script.items in
+    let old = c.edit_all-edited.new.editing.editor.works.items in
     let new = c.close.new.self.works.items in
-    let made : MakesEdits coming c.args.listing script c.args.rounds [] old (Ok tt) = subst (λ r. MakesEdits coming c.args.listing script c.args.rounds [] old r) c.in-Ok.is c.edit_all-edited.ensures.makes in
-    subst (λ r. MakesEdits coming c.args.listing script c.args.rounds [] new r) (sym (told.1 ∙ ap Err told.2))
-    (makes_room coming c.args.listing script c.args.rounds [] new c.in_err-close-in-Ok.field-0.0 (makes_same coming c.args.listing script c.args.rounds [] old new (Ok tt) made c.close.ensures.edits)
+    let made : MakesEdits coming c.args.later.listing script c.args.later.rounds [] old (Ok tt) = subst (λ r. MakesEdits coming c.args.later.listing script c.args.later.rounds [] old r) c.in-Ok.is c.edit_all-edited.ensures.makes in
+    subst (λ r. MakesEdits coming c.args.later.listing script c.args.later.rounds [] new r) (sym (told.1 ∙ ap Err told.2))
+    (makes_room coming c.args.later.listing script c.args.later.rounds [] new c.in_err-close-in-Ok.field-0.0 (makes_same coming c.args.later.listing script c.args.later.rounds [] old new (Ok tt) made c.close.ensures.edits)
     c.in_err-close-in-Ok.ensures.room)
 
 pub returns-in_err-close-in-Ok-clause-cause : goal.returns-in_err-close-in-Ok-clause-cause
@@ -36,7 +36,7 @@ returns-in_err-close-in-Ok-clause-cause g c =
 pub returns-in_ok-close-in-Ok-clause-makes : goal.returns-in_ok-close-in-Ok-clause-makes
 returns-in_ok-close-in-Ok-clause-makes g c =
     let coming = g.T.Tree.coming c.args.tree.now in
-    let script = edits_in c.args.script.items in
-    let old = c.edit_all-edited.new.editor.works.items in
-    makes_same coming c.args.listing script c.args.rounds [] old c.close.new.self.works.items (Ok tt)
-    (subst (λ r. MakesEdits coming c.args.listing script c.args.rounds [] old r) c.in-Ok.is c.edit_all-edited.ensures.makes) c.close.ensures.edits
+    let script = edits_in c.args.later.script.items in
+    let old = c.edit_all-edited.new.editing.editor.works.items in
+    makes_same coming c.args.later.listing script c.args.later.rounds [] old c.close.new.self.works.items (Ok tt)
+    (subst (λ r. MakesEdits coming c.args.later.listing script c.args.later.rounds [] old r) c.in-Ok.is c.edit_all-edited.ensures.makes) c.close.ensures.edits

@@ -1,4 +1,4 @@
-use Rattle.std.proofs.Common.{◌+◌, ◌∷◌, [], ap, ◌∙◌}
+use Rattle.std.proofs.Common.{[], ◌∙◌}
 use Rattle.hmr_hub.specs.Passes.{all_given}
 use Rattle.hub_moves.proofs.Moves.{knows_moved}
 use Rattle.hub_editor.proofs.Calls.{knows_same}
@@ -11,7 +11,7 @@ returns-clause-later g c =
     let edited = c.edit_to_the_end-edited in
     let ended = c.settle_after-ended in (
       ended.new.editor.works.items,
-      later_all _ _ _ _ c.args.pass.now begun.new.pass edited.new.pass ended.new.pass edited.new.editor.works.items ended.new.editor.works.items edited.result ended.result
+      later_all _ _ _ _ c.args.pass.now begun.new.pass edited.new.pass ended.new.pass edited.new.editing.editor.works.items ended.new.editor.works.items edited.result ended.result
           c.requires.number (begun.ensures.divided.transcript c.requires.transcript) begun.ensures.divided.moved edited.ensures.edited edited.ensures.makes ended.ensures.edited ended.ensures.edits
           ended.ensures.well ended.ensures.cause ended.ensures.results,
     )
@@ -38,9 +38,8 @@ returns-clause-transcript g c = c.settle_after-ended.ensures.transcript (c.edit_
 
 pub returns-clause-begun : goal.returns-clause-begun
 returns-clause-begun g c =
-    let plan = c.args.plan.now in
     on_ok c.settle_after-ended.result
-    (λ f none. c.finish_all-gathered.ensures.begun ∙ (f none ∙ ap (λ n. n ∷ (plan.clients + plan.outside) ∷ plan.clients ∷ []) c.requires.workers))
+    (λ f none. c.finish_all-gathered.ensures.begun ∙ f none)
     (begun_all _ c.begin_all-begun.new.self.gathered c.finish_all-gathered.result c.begin_all-begun.result c.edit_to_the_end-edited.result c.settle_after-ended.result _ _ _ _
     c.begin_all-begun.ensures.begun c.edit_to_the_end-edited.ensures.begun c.settle_after-ended.ensures.well c.finish_all-gathered.ensures.gathers)
 

@@ -15,21 +15,21 @@ returns-in-Ok-Serve-clause-words g c =
 
 pub returns-in-Ok-Serve-clause-output : goal.returns-in-Ok-Serve-clause-output
 returns-in-Ok-Serve-clause-output g c =
-    nothing_written (output_of (map marks_of c.args.shelves.items) (map string_bytes c.args.words.now)
+    nothing_written (output_of (map marks_of c.args.embedding.shelves.items) (map string_bytes c.args.words.now)
     (g.S.Source.left c.args.input.now)) _ _ _ _ c.serve_folder.result
-    (serve_gives_none (map marks_of c.args.shelves.items) (command_of (map string_bytes c.args.words.now)) c.in-Ok-Serve.plan
+    (serve_gives_none (map marks_of c.args.embedding.shelves.items) (command_of (map string_bytes c.args.words.now)) c.in-Ok-Serve.plan
     (g.S.Source.left c.args.input.now) (c.in-Ok-Serve.ensures.exact ∙ ap Some c.in-Ok-Serve.field-0-is))
 
 pub returns-in-Ok-Serve-clause-complete : goal.returns-in-Ok-Serve-clause-complete
 returns-in-Ok-Serve-clause-complete g c =
-    nothing_complete (output_of (map marks_of c.args.shelves.items) (map string_bytes c.args.words.now)
+    nothing_complete (output_of (map marks_of c.args.embedding.shelves.items) (map string_bytes c.args.words.now)
     (g.S.Source.left c.args.input.now)) c.serve_folder.result
-    (serve_gives_none (map marks_of c.args.shelves.items) (command_of (map string_bytes c.args.words.now)) c.in-Ok-Serve.plan
+    (serve_gives_none (map marks_of c.args.embedding.shelves.items) (command_of (map string_bytes c.args.words.now)) c.in-Ok-Serve.plan
     (g.S.Source.left c.args.input.now) (c.in-Ok-Serve.ensures.exact ∙ ap Some c.in-Ok-Serve.field-0-is))
 
 pub returns-in-Ok-Serve-clause-fresh_load : goal.returns-in-Ok-Serve-clause-fresh_load
 returns-in-Ok-Serve-clause-fresh_load g c =
-    shows_at (map marks_of c.args.shelves.items) (g.S.Source.left c.args.input.now)
+    shows_at (map marks_of c.args.embedding.shelves.items) (g.S.Source.left c.args.input.now)
 
 pub returns-in-Ok-Serve-clause-input : goal.returns-in-Ok-Serve-clause-input
 returns-in-Ok-Serve-clause-input g c =
@@ -43,25 +43,25 @@ returns-in-Ok-Join-clause-words g c =
 
 pub returns-in-Ok-Join-clause-output : goal.returns-in-Ok-Join-clause-output
 returns-in-Ok-Join-clause-output g c =
-    nothing_written (output_of (map marks_of c.args.shelves.items) (map string_bytes c.args.words.now)
+    nothing_written (output_of (map marks_of c.args.embedding.shelves.items) (map string_bytes c.args.words.now)
     (g.S.Source.left c.args.input.now)) _ _ _ _ c.join_server.result
-    (join_gives_none (map marks_of c.args.shelves.items) (command_of (map string_bytes c.args.words.now)) c.in-Ok-Join.port c.in-Ok-Join.roots c.in-Ok-Join.turns
+    (join_gives_none (map marks_of c.args.embedding.shelves.items) (command_of (map string_bytes c.args.words.now)) c.in-Ok-Join.port c.in-Ok-Join.roots c.in-Ok-Join.turns
     (g.S.Source.left c.args.input.now) (c.in-Ok-Join.ensures.exact ∙ ap Some c.in-Ok-Join.field-0-is))
 
 pub returns-in-Ok-Join-clause-complete : goal.returns-in-Ok-Join-clause-complete
 returns-in-Ok-Join-clause-complete g c =
-    nothing_complete (output_of (map marks_of c.args.shelves.items) (map string_bytes c.args.words.now)
+    nothing_complete (output_of (map marks_of c.args.embedding.shelves.items) (map string_bytes c.args.words.now)
     (g.S.Source.left c.args.input.now)) c.join_server.result
-    (join_gives_none (map marks_of c.args.shelves.items) (command_of (map string_bytes c.args.words.now)) c.in-Ok-Join.port c.in-Ok-Join.roots c.in-Ok-Join.turns
+    (join_gives_none (map marks_of c.args.embedding.shelves.items) (command_of (map string_bytes c.args.words.now)) c.in-Ok-Join.port c.in-Ok-Join.roots c.in-Ok-Join.turns
     (g.S.Source.left c.args.input.now) (c.in-Ok-Join.ensures.exact ∙ ap Some c.in-Ok-Join.field-0-is))
 
 pub returns-in-Ok-Join-clause-fresh_load : goal.returns-in-Ok-Join-clause-fresh_load
 returns-in-Ok-Join-clause-fresh_load g c =
-    shows_at (map marks_of c.args.shelves.items) (g.S.Source.left c.args.input.now)
+    shows_at (map marks_of c.args.embedding.shelves.items) (g.S.Source.left c.args.input.now)
 
 pub returns-in_default-clause-fresh_load : goal.returns-in_default-clause-fresh_load
 returns-in_default-clause-fresh_load g c =
-    shows_at (map marks_of c.args.shelves.items) (g.S.Source.left c.args.input.now)
+    shows_at (map marks_of c.args.embedding.shelves.items) (g.S.Source.left c.args.input.now)
 
 pub returns-in-Ok-Join-clause-input : goal.returns-in-Ok-Join-clause-input
 returns-in-Ok-Join-clause-input g c =
@@ -75,21 +75,21 @@ returns-in-Ok-Page-clause-words g c =
 
 pub returns-in-Ok-Page-clause-output : goal.returns-in-Ok-Page-clause-output
 returns-in-Ok-Page-clause-output g c =
-    nothing_written (output_of (map marks_of c.args.shelves.items) (map string_bytes c.args.words.now)
+    nothing_written (output_of (map marks_of c.args.embedding.shelves.items) (map string_bytes c.args.words.now)
     (g.S.Source.left c.args.input.now)) _ _ _ _ c.page_folder.result
-    (page_gives_none (map marks_of c.args.shelves.items) (command_of (map string_bytes c.args.words.now)) c.in-Ok-Page.folder
+    (page_gives_none (map marks_of c.args.embedding.shelves.items) (command_of (map string_bytes c.args.words.now)) c.in-Ok-Page.folder
     (g.S.Source.left c.args.input.now) (c.in-Ok-Page.ensures.exact ∙ ap Some c.in-Ok-Page.field-0-is))
 
 pub returns-in-Ok-Page-clause-complete : goal.returns-in-Ok-Page-clause-complete
 returns-in-Ok-Page-clause-complete g c =
-    nothing_complete (output_of (map marks_of c.args.shelves.items) (map string_bytes c.args.words.now)
+    nothing_complete (output_of (map marks_of c.args.embedding.shelves.items) (map string_bytes c.args.words.now)
     (g.S.Source.left c.args.input.now)) c.page_folder.result
-    (page_gives_none (map marks_of c.args.shelves.items) (command_of (map string_bytes c.args.words.now)) c.in-Ok-Page.folder
+    (page_gives_none (map marks_of c.args.embedding.shelves.items) (command_of (map string_bytes c.args.words.now)) c.in-Ok-Page.folder
     (g.S.Source.left c.args.input.now) (c.in-Ok-Page.ensures.exact ∙ ap Some c.in-Ok-Page.field-0-is))
 
 pub returns-in-Ok-Page-clause-fresh_load : goal.returns-in-Ok-Page-clause-fresh_load
 returns-in-Ok-Page-clause-fresh_load g c =
-    shows_at (map marks_of c.args.shelves.items) (g.S.Source.left c.args.input.now)
+    shows_at (map marks_of c.args.embedding.shelves.items) (g.S.Source.left c.args.input.now)
 
 pub returns-in-Ok-Page-clause-input : goal.returns-in-Ok-Page-clause-input
 returns-in-Ok-Page-clause-input g c =

@@ -12,7 +12,7 @@ use Rattle.hub_editor.proofs.editor.Editor.close.Given as goal
 abbrev pub invariant-loop : goal.invariant-loop
 invariant-loop g l =
     (goal.iterator-loop g).can_next l.iterator' × (goal.iterator-loop g).is_finite l.iterator'
-    × IsPassOf l.hub l.pass
+    × IsPassOf l.caller.hub.now l.pass
     × SameKnower l.fn.pass l.pass
     × (HasTranscript l.fn.pass → HasTranscript l.pass)
     × ((p : Pass) → Edited p l.fn.pass l.fn.self.works.items → Edited p l.pass l.self.works.items)

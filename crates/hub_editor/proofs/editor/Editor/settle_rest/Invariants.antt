@@ -11,7 +11,7 @@ use Rattle.hub_editor.proofs.editor.Editor.settle_rest.Given as goal
 -- from the last edit on, each has its result where it is the last of its name
 abbrev pub invariant-loop-left : goal.invariant-loop-left
 invariant-loop-left g l = record {
-  of : IsPassOf l.hub l.pass;
+  of : IsPassOf l.caller.hub.now l.pass;
   same : SameKnower l.fn.pass l.pass;
   knows : KnowsOwn l.pass;
   transcript : HasTranscript l.fn.pass → HasTranscript l.pass;

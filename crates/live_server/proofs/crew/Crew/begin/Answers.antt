@@ -15,13 +15,13 @@ returns-in-Ok-clause-crew g c =
 
 pub take_in-requires-clause-good : goal.take_in-requires-clause-good
 take_in-requires-clause-good g c =
-    let hub : c.deref.result.now ≡ arc_value c.args.self.now.hub = search rules in
+    let hub : c.deref.result.now ≡ arc_value c.args.context.now.hub = search rules in
     subst (λ h. OutIsGood g.E.Door.Door (hub_mark h) c.in-Err.out) (sym hub)
-    (out_is_good g.E.Door.Door (hub_mark (arc_value c.args.self.now.hub)) c.args.job c.in-Err.out c.in-Err.ensures.refused c.requires.of)
+    (out_is_good g.E.Door.Door (hub_mark (arc_value c.args.context.now.hub)) c.args.job c.in-Err.out c.in-Err.ensures.refused c.requires.of)
 
 pub returns-in-Err-clause-crew : goal.returns-in-Err-clause-crew
 returns-in-Err-clause-crew g c =
-    let hub : c.deref.result.now ≡ arc_value c.args.self.now.hub = search rules in
+    let hub : c.deref.result.now ≡ arc_value c.args.context.now.hub = search rules in
     crew_taken g.E.Door.Door _ _ c.args.self.now.passes _ c.requires.crew c.requires.place (subst (λ h. TakenIn h c.args.self.now.passes c.take_in.new.passes) hub c.take_in.ensures.taken)
 
 pub returns-in-Ok-clause-keeps : goal.returns-in-Ok-clause-keeps

@@ -8,7 +8,7 @@ use Rattle.live_server.proofs.crew.Crew.begin_door.Goals as goal
 
 pub returns-in-Err-clause-crew : goal.returns-in-Err-clause-crew
 returns-in-Err-clause-crew g c =
-    let same : arc_value c.new-attendant.result.hub ≡ arc_value c.split.new.self.hub = search rules in
+    let same : arc_value c.new-attendant.result.hub ≡ arc_value c.args.context.now.hub = search rules in
     crew_taken g.E.Door.Door _ c.split.new.self.running c.split.new.self.passes _ c.split.ensures.crew c.in_ok-hub.ensures.place
     (subst (λ h. TakenIn h c.split.new.self.passes c.hand_back.new.passes) same c.hand_back.ensures.taken)
 

@@ -1,4 +1,4 @@
-use Rattle.std.proofs.Common.{◌∙◌, arith}
+use Rattle.std.proofs.Common.{arith}
 use Rattle.live_server.proofs.Doors.{doors_then}
 use Rattle.live_server.proofs.Passes.{divided_then}
 use Rattle.live_server.proofs.crew.Crew.begin_doors.Goals as goal
@@ -8,7 +8,6 @@ loop-preserved g c =
     let i = c.loop.invariant in
     let b = c.begin_door.ensures in
     record {
-      hub = b.hub ∙ i.hub;
       crew = b.crew;
       of = b.of;
       divided = divided_then _ _ _ i.divided b.divided;

@@ -12,12 +12,11 @@ abbrev pub invariant-loop : goal.invariant-loop
 invariant-loop g l =
     let count = g.P.Spawner.begun in
     record {
-      hub : l.self.hub ≡ l.fn.self.hub;
-      crew : IsCrew g.E.Door.Door (arc_value l.self.hub) l.self.running l.self.passes;
-      of : IsPassOf (arc_value l.self.hub) l.pass;
+      crew : IsCrew g.E.Door.Door (arc_value l.context.hub) l.self.running l.self.passes;
+      of : IsPassOf (arc_value l.context.hub) l.pass;
       divided : Divided l.fn.pass l.pass;
-      few : sum (count l.spawner) ≤ sum (count l.fn.spawner) + l.counter;
-      due : sum (count l.spawner) + passes_due l.fn.self.running l.fn.self.passes ≤ sum (count l.fn.spawner) + passes_due l.self.running l.self.passes;
-      keeps : KeepsDoors g.E.Door.Door (roots_of l.fn.pass) (count l.fn.spawner) (count l.spawner) l.fn.self.running.items l.self.running.items;
-      going : g.E.Entrance.is_shut l.entrance ≡ false;
+      few : sum (count l.supply.spawner) ≤ sum (count l.fn.supply.spawner) + l.counter;
+      due : sum (count l.supply.spawner) + passes_due l.fn.self.running l.fn.self.passes ≤ sum (count l.fn.supply.spawner) + passes_due l.self.running l.self.passes;
+      keeps : KeepsDoors g.E.Door.Door (roots_of l.fn.pass) (count l.fn.supply.spawner) (count l.supply.spawner) l.fn.self.running.items l.self.running.items;
+      going : g.E.Entrance.is_shut l.supply.entrance ≡ false;
     }

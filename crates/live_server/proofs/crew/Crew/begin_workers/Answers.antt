@@ -14,11 +14,10 @@ loop-jobs-preserved g c =
     let i = c.loop-jobs.invariant in
     let b = c.begin_worker.ensures in
     record {
-      hub = b.hub ∙ i.hub;
       crew = b.crew;
       of = b.of;
       divided = divided_then _ _ _ i.divided b.divided;
-      takers = all_front (λ p. queues.IsPassOf (arc_value c.args.queue.now) p) c.pop.new.self.items c.loop-jobs.takers.items c.in-Some.jobs c.in-Some.ensures.items i.takers;
+      takers = all_front (λ p. queues.IsPassOf (arc_value c.args.context.now.queue) p) c.pop.new.self.items c.loop-jobs.takers.items c.in-Some.jobs c.in-Some.ensures.items i.takers;
       take = all_front (λ p. role_of p ≡ taking) c.pop.new.self.items c.loop-jobs.takers.items c.in-Some.jobs c.in-Some.ensures.items i.take;
       made = i.made + 1;
       all = omega (arith, i.all, ap (λ xs. length xs) c.in-Some.ensures.items, length-append c.pop.new.self.items (c.in-Some.jobs ∷ []));
@@ -30,7 +29,7 @@ loop-jobs-preserved g c =
 
 pub begin_worker-requires-clause-of_queue : goal.begin_worker-requires-clause-of_queue
 begin_worker-requires-clause-of_queue g c κs within =
-    all_last (λ p. queues.IsPassOf (arc_value c.args.queue.now) p) c.pop.new.self.items c.loop-jobs.takers.items c.in-Some.jobs c.in-Some.ensures.items c.loop-jobs.invariant.takers
+    all_last (λ p. queues.IsPassOf (arc_value c.args.context.now.queue) p) c.pop.new.self.items c.loop-jobs.takers.items c.in-Some.jobs c.in-Some.ensures.items c.loop-jobs.invariant.takers
 
 pub begin_worker-requires-clause-takes : goal.begin_worker-requires-clause-takes
 begin_worker-requires-clause-takes g c κs within =

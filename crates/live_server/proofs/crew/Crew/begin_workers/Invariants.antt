@@ -16,18 +16,17 @@ abbrev pub invariant-loop-jobs : goal.invariant-loop-jobs
 invariant-loop-jobs g l =
     let count = g.P.Spawner.begun in
     record {
-      hub : l.self.hub ≡ l.fn.self.hub;
-      crew : IsCrew g.E.Door.Door (arc_value l.self.hub) l.self.running l.self.passes;
-      of : IsPassOf (arc_value l.self.hub) l.pass;
+      crew : IsCrew g.E.Door.Door (arc_value l.context.hub) l.self.running l.self.passes;
+      of : IsPassOf (arc_value l.context.hub) l.pass;
       divided : Divided l.fn.pass l.pass;
-      takers : All (λ p. queues.IsPassOf (arc_value l.queue) p) l.takers.items;
+      takers : All (λ p. queues.IsPassOf (arc_value l.context.queue) p) l.takers.items;
       take : All (λ p. role_of p ≡ taking) l.takers.items;
       made : ℕ;
       all : made + length l.takers.items ≡ length l.fn.takers.items;
-      few : sum (count l.spawner) ≤ sum (count l.fn.spawner) + made;
-      due : sum (count l.spawner) + passes_due l.fn.self.running l.fn.self.passes ≤ sum (count l.fn.spawner) + passes_due l.self.running l.self.passes;
-      keeps : KeepsDoors g.E.Door.Door (roots_of l.fn.pass) (count l.fn.spawner) (count l.spawner) l.fn.self.running.items l.self.running.items;
-      shut : g.E.Entrance.is_shut l.entrance ≡ g.E.Entrance.is_shut l.fn.entrance;
+      few : sum (count l.supply.spawner) ≤ sum (count l.fn.supply.spawner) + made;
+      due : sum (count l.supply.spawner) + passes_due l.fn.self.running l.fn.self.passes ≤ sum (count l.fn.supply.spawner) + passes_due l.self.running l.self.passes;
+      keeps : KeepsDoors g.E.Door.Door (roots_of l.fn.pass) (count l.fn.supply.spawner) (count l.supply.spawner) l.fn.self.running.items l.self.running.items;
+      shut : g.E.Entrance.is_shut l.supply.entrance ≡ g.E.Entrance.is_shut l.fn.supply.entrance;
     }
 
 abbrev pub decreases-loop-jobs : goal.decreases-loop-jobs

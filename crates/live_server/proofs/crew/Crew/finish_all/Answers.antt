@@ -6,5 +6,5 @@ use Rattle.live_server.proofs.crew.Crew.finish_all.Goals as goal
 
 pub finish_jobs-requires-clause-jobs : goal.finish_jobs-requires-clause-jobs
 finish_jobs-requires-clause-jobs g c =
-    let hub : c.deref.result.now ≡ arc_value c.args.self.hub = search rules in
+    let hub : c.deref.result.now ≡ arc_value c.args.context.now.hub = search rules in
     subst (λ h. All (RunsOn g.E.Door.Door h) c.args.self.running.items) (sym hub) c.requires.crew.jobs

@@ -1,13 +1,8 @@
-use Rattle.std.proofs.Common.{◌≡◌, ◌∙◌, ◌+◌, ◌∷◌, [], ap, length, arith}
+use Rattle.std.proofs.Common.{◌∙◌, ◌+◌, ◌∷◌, [], ap, length, arith}
 use Rattle.server_threads.proofs.Counts.{begun_then}
 use Rattle.server_threads.proofs.Faults.{gathers_then, unfaulted}
 use Rattle.server_threads.proofs.Passes.{divided_then, given_ok}
-use Rattle.std.specs.Arc.{arc_value}
 use Rattle.std.proofs.lemmas.List.{length-append}
-use Rattle.transform_pool.specs.Passes as queues
-use Rattle.transform_pool.specs.Passes.{role_of}
-use Rattle.transform_pool.specs.Roles.{taking}
-use Rattle.server_threads.proofs.Crews.{all_front, all_last}
 use Rattle.server_threads.proofs.crew.Crew.begin_workers.Goals as goal
 
 pub returns-in_err-begin_worker-clause-gathers : goal.returns-in_err-begin_worker-clause-gathers
@@ -29,10 +24,8 @@ loop-jobs-preserved g c =
       gathers = gathers_then _ _ _ _ _ _ _ _ _ i.gathers b.gathers;
       asked = (b.asked.0 ∙ i.asked.0, b.asked.1 ∙ i.asked.1);
       given = λ h. given_ok _ _ _ ok.spent (i.given h);
-      takers = all_front (λ p. queues.IsPassOf (arc_value c.args.workers.queue) p) c.pop.new.self.items c.loop-jobs.takers.items c.in-Some.jobs c.in-Some.ensures.items i.takers;
-      take = all_front (λ p. role_of p ≡ taking) c.pop.new.self.items c.loop-jobs.takers.items c.in-Some.jobs c.in-Some.ensures.items i.take;
       made = i.made + 1;
-      all = omega (arith, i.all, ap (λ xs. length xs) c.in-Some.ensures.items, length-append c.pop.new.self.items (c.in-Some.jobs ∷ []));
+      all = omega (arith, i.all, ap (λ xs. length xs) c.in-Some.ensures.items, length-append c.next_taker.new.self.takers.items (c.in-Some.jobs ∷ []));
       begun = λ well. begun_then _ _ _ _ _ _ _ _ _ (i.begun (unfaulted _ _ _ _ _ _ b.gathers well)) (ok.begun well);
       few = omega (arith, i.few, b.few);
       kept = omega (arith, i.kept, ok.kept);
@@ -41,18 +34,10 @@ loop-jobs-preserved g c =
       unasked = (b.unasked.0 ∙ i.unasked.0, b.unasked.1 ∙ i.unasked.1);
     }
 
-pub begin_worker-requires-clause-of_queue : goal.begin_worker-requires-clause-of_queue
-begin_worker-requires-clause-of_queue g c κs within =
-    all_last (λ p. queues.IsPassOf (arc_value c.args.workers.queue) p) c.pop.new.self.items c.loop-jobs.takers.items c.in-Some.jobs c.in-Some.ensures.items c.loop-jobs.invariant.takers
-
-pub begin_worker-requires-clause-takes : goal.begin_worker-requires-clause-takes
-begin_worker-requires-clause-takes g c κs within =
-    all_last (λ p. role_of p ≡ taking) c.pop.new.self.items c.loop-jobs.takers.items c.in-Some.jobs c.in-Some.ensures.items c.loop-jobs.invariant.take
-
 pub begin_worker-requires-clause-few : goal.begin_worker-requires-clause-few
 begin_worker-requires-clause-few g c =
     let i = c.loop-jobs.invariant in
-    omega (arith, c.requires.few, i.few, i.all, ap (λ xs. length xs) c.in-Some.ensures.items, length-append c.pop.new.self.items (c.in-Some.jobs ∷ []))
+    omega (arith, c.requires.few, i.few, i.all, ap (λ xs. length xs) c.in-Some.ensures.items, length-append c.next_taker.new.self.takers.items (c.in-Some.jobs ∷ []))
 
 pub returns-in_err-begin_worker-clause-ends : goal.returns-in_err-begin_worker-clause-ends
 returns-in_err-begin_worker-clause-ends g c = λ others h. c.begin_worker.ensures.ends others (c.loop-jobs.invariant.ends others h)

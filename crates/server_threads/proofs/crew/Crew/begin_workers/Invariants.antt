@@ -1,9 +1,5 @@
 use Rattle.std.proofs.Common.{◌≡◌, ◌≤◌, ◌+◌, ℕ, false, length, sum}
-use Rattle.std.specs.List.{All}
 use Rattle.std.specs.Arc.{arc_value}
-use Rattle.transform_pool.specs.Passes as queues
-use Rattle.transform_pool.specs.Passes.{role_of}
-use Rattle.transform_pool.specs.Roles.{taking}
 use Rattle.hmr_hub.specs.Passes.{IsPassOf, all_given}
 use Rattle.server_threads.specs.Begun.{HasBegun}
 use Rattle.server_threads.specs.Crews.{IsCrew, ends_due, logs_due, passes_due}
@@ -26,10 +22,8 @@ invariant-loop-jobs g l =
       gathers : Gathers l.fn.self.gathered l.self.gathered (faults l.fn.net) (faults l.net) (starts l.fn.spawner) (starts l.spawner);
       asked : (g.N.Net.asked l.net ≡ g.N.Net.asked l.fn.net) × (g.N.Net.heard l.net ≡ g.N.Net.heard l.fn.net);
       given : all_given l.fn.pass ≡ false → all_given l.pass ≡ false;
-      takers : All (λ p. queues.IsPassOf (arc_value l.queue) p) l.takers.items;
-      take : All (λ p. role_of p ≡ taking) l.takers.items;
       made : ℕ;
-      all : made + length l.takers.items ≡ length l.fn.workers.takers.items;
+      all : made + length l.workers.takers.items ≡ length l.fn.workers.takers.items;
       begun : l.self.gathered.fault ≡ false → HasBegun made 0 0 (count l.fn.spawner) (count l.spawner);
       few : sum (count l.spawner) ≤ sum (count l.fn.spawner) + made;
       kept : passes_due l.self.running l.self.gathered ≡ passes_due l.fn.self.running l.fn.self.gathered + made;
@@ -39,4 +33,4 @@ invariant-loop-jobs g l =
     }
 
 abbrev pub decreases-loop-jobs : goal.decreases-loop-jobs
-decreases-loop-jobs g l = length l.takers.items
+decreases-loop-jobs g l = length l.workers.takers.items

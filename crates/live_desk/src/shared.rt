@@ -1,5 +1,6 @@
 // What all threads of a live server share.
-use live_desk::{Bell, NewsBoard};
+use crate::bell::Bell;
+use crate::news_board::NewsBoard;
 use live_site::Site;
 use std::alloc::{AllocError, Global};
 use std::sync::Arc;
