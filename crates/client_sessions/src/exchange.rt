@@ -6,10 +6,10 @@ ghost use Rattle.update_msgs.specs.Writable.{IsFormat, IsSayable, IsWritable};
 ghost use Rattle.sessions.specs.declared.ended.Ended.{Ended};
 ghost use Rattle.client_sessions.specs.Exchange.{Exchanged, Ends, takes_none};
 
-use transport::Link;
 use message_json::{decode, encode_client};
 use sessions::Ended;
 use std::alloc::Global;
+use transport::Link;
 use update_msgs::{ClientMsg, ServerMsg};
 
 /// Sends a request, and reads the answer in this format, 1 or 2. Where it can't, the session has ended:

@@ -16,11 +16,11 @@ ghost use Rattle.client_sessions.specs.Exchange.{Ends, takes_bye};
 use crate::exchange::exchange;
 use const_eval::Ran;
 use hot_runtime::{HotRuntime, RuntimeFault};
-use transport::Link;
 use output_lines::OutLine;
 use retained_data::Bag;
 use sessions::Ended;
 use std::alloc::{AllocError, Global};
+use transport::Link;
 use update_msgs::{ClientMsg, ServerMsg};
 
 /// Opens a fresh link, sends hello, so many requests of a runtime that took no message yet, and bye, and

@@ -4,9 +4,9 @@ ghost use Rattle.transport.specs.declared.link.Phase.{Phase};
 ghost use Rattle.doors.specs.Accepting.{one_more};
 
 use crate::Visitor;
-use transport::Link;
 use std::alloc::Global;
 use std::sync::Wait;
+use transport::Link;
 
 /// Serves one visitor after another, and may have enough at some time. What each visit keeps of it is a
 /// relation: so a job that has an attendant can say what is kept over any number of visits, as the pass of a

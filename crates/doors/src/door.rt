@@ -10,8 +10,8 @@ ghost use Rattle.transport.specs.Told.{IsNoneLeft};
 ghost use Rattle.doors.specs.Accepting.{Enters, is_given, is_last, visits_after};
 
 use crate::{OutFault, Visitor};
-use transport::Link;
 use std::alloc::Global;
+use transport::Link;
 
 /// A share of what listens, which one thread has. It gives one end at a time: the next only once the last was
 /// given back.

@@ -3,9 +3,9 @@
 ghost use Rattle.std.specs.Prelude.{◌≡◌, ◌≤◌, Some, IsSome, false, map};
 
 use crate::{Door, MemVisitor, OutFault};
-use transport::{Link, Net};
 use std::alloc::Global;
 use std::collections::VecDeque;
+use transport::{Link, Net};
 
 /// A door that gives the ends of a net, as many as lists of bytes were handed in, and then answers that no
 /// more come. An end is refused where the net refuses it.

@@ -6,8 +6,8 @@ ghost use Rattle.doors.specs.Coming.{IsNext};
 
 use crate::heads::{take_body, take_head};
 use crate::{Coming, OutFault, Visitor};
-use transport::Link;
 use std::alloc::Global;
+use transport::Link;
 
 /// A link with bytes before its messages: those that are left to read, and those that were written.
 #[derive(Drop)]

@@ -9,8 +9,8 @@ ghost use Rattle.doors.specs.Coming.{IsBody, IsNext};
 ghost use Rattle.doors.specs.Told.{TellsFront};
 
 use crate::OutFault;
-use transport::Link;
 use std::alloc::Global;
+use transport::Link;
 
 /// What came next of a visitor.
 #[derive(Debug, Drop)]

@@ -15,6 +15,6 @@ mod mem_tree;
 mod tree;
 
 pub use folder_tree::{FolderDir, FolderFile, FolderTree};
-pub use mem_tree::{MemDir, MemFile, MemPlace, MemTree};
 pub use hmr_base::OutFault;
+pub use mem_tree::{MemDir, MemFile, MemPlace, MemTree};
 pub use tree::{Entry, Node, Reading, Tree};

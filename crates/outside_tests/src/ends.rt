@@ -2,8 +2,8 @@
 ghost use Rattle.std.specs.Prelude.{◌≡◌, None, IsSome};
 ghost use Rattle.transport.specs.declared.link.Phase.{Phase};
 
-use transport::{Link, Net, OutFault};
 use std::alloc::{AllocError, Global};
+use transport::{Link, Net, OutFault};
 
 /// Sends messages, in order.
 pub fn send_all<L: Link>(alloc: Global, link: &mut L, messages: &[&[u8]]) -> Result<(), OutFault>

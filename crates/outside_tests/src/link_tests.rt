@@ -2,11 +2,11 @@
 ghost use Rattle.std.specs.Prelude.{◌≡◌, None};
 
 use crate::{ask, receive, send_all, serve};
-use transport::{Link, MemNet, Net, OutFault, TellNet};
 use std::alloc::Global;
 use std::collections::VecDeque;
 use std::test::Fail;
 use std::thread;
+use transport::{Link, MemNet, Net, OutFault, TellNet};
 
 /// Two connections, of which the server closes the first and the client the second: what the server
 /// received of each.

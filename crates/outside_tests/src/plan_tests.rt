@@ -1,10 +1,10 @@
 // Calls fail exactly where the plan says.
 use crate::{end_trial, net_trial};
 use hmr_base::{Failed, FaultPlan};
-use transport::{Net, TellNet};
 use std::alloc::{AllocError, Global};
 use std::collections::VecDeque;
 use std::test::Fail;
+use transport::{Net, TellNet};
 
 /// Plans of one end.
 fn one_end(alloc: Global, failing: &[u64]) -> Result<VecDeque<Vec<u64>>, AllocError> {

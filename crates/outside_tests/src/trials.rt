@@ -2,8 +2,8 @@
 ghost use Rattle.std.specs.Prelude.{◌≡◌, None, Some, IsSome};
 ghost use Rattle.transport.specs.declared.link.Phase.{Phase};
 
-use transport::{Link, Net};
 use std::alloc::Global;
+use transport::{Link, Net};
 
 /// Which calls fail of a net that listens, connects to itself and accepts. Where it doesn't listen, the
 /// other two aren't tried.

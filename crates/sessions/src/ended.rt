@@ -3,9 +3,9 @@ ghost use Rattle.std.specs.Prelude.{◌≡◌};
 ghost use Rattle.sessions.specs.declared.ended.Ended.TheVariants.{NoMemory};
 ghost use Rattle.sessions.specs.Endings.{ended_at, ended_by, ended_for};
 
-use transport::OutFault;
 use message_json::MsgFault;
 use std::alloc::AllocError;
+use transport::OutFault;
 use update_msgs::HubStop;
 
 /// How a session ended, of a server or of a client.

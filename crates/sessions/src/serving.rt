@@ -8,10 +8,10 @@ ghost use Rattle.update_msgs.specs.declared.message.ClientMsg.TheVariants.{Bye};
 ghost use Rattle.sessions.specs.Course.{Course, format_after};
 
 use crate::ended::Ended;
-use transport::Link;
 use message_json::{decode_client, encode};
 use std::alloc::Global;
 use std::sync::Wait;
+use transport::Link;
 use update_msgs::{ClientMsg, Desk};
 
 /// Opens a fresh link, answers each message of it by the desk until the session ends, and closes it.

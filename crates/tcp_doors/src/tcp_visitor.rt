@@ -8,7 +8,6 @@ ghost use Rattle.transport.specs.declared.link.Phase.{Phase};
 use crate::http_stream::HttpStream;
 use crate::patient_stream::PatientStream;
 use doors::{Coming, OutFault, Visitor};
-use transport::{Link, Phase};
 use std::alloc::Global;
 use std::io::{Read, Write};
 use std::mem;
@@ -16,6 +15,7 @@ use std::random::RandomSource;
 use std::sync::atomic::AtomicBool;
 use std::sync::{Arc, Wait};
 use std::time::Clock;
+use transport::{Link, Phase};
 use ws_links::WsLink;
 
 /// A visitor over a stream, whose reads end after half a second without bytes. It tells neither bytes nor

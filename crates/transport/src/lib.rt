@@ -21,9 +21,9 @@ mod pipe;
 mod port;
 mod tell_net;
 
+pub use hmr_base::OutFault;
 pub use link::{Link, Phase};
 pub use mem_link::MemLink;
 pub use mem_net::MemNet;
 pub use net::{Asked, Net};
-pub use hmr_base::OutFault;
 pub use tell_net::TellNet;

@@ -9,12 +9,12 @@ ghost use Rattle.transport.specs.Lending.{HasGiven, HasRefused};
 ghost use Rattle.transport.specs.Told.{told_none, told_of};
 
 use crate::ws_link::WsLink;
-use transport::{Asked, Net, OutFault};
 use std::alloc::Global;
 use std::net::{IpAddr, Ipv4Addr, OpenListener, SocketAddr, TcpListener, TcpStream};
 use std::random::RandomSource;
 use std::sync::Wait;
 use std::time::Clock;
+use transport::{Asked, Net, OutFault};
 
 /// A net whose ends are WebSockets over TCP on this machine. It tells no messages.
 #[derive(Drop)]

@@ -8,13 +8,13 @@ ghost use Rattle.transport.specs.declared.link.Phase.{Phase};
 ghost use Rattle.transport.specs.Messages.{message_bytes};
 
 use hmr_types::limits::MESSAGE_BYTES;
-use transport::{Link, OutFault, Phase};
 use std::alloc::Global;
 use std::io::{Read, Write};
 use std::random::RandomSource;
 use std::sync::Wait;
 use std::thread;
 use std::time::{Clock, Duration};
+use transport::{Link, OutFault, Phase};
 use tungstenite::handshake::client::request_of;
 use tungstenite::{
     Error, HandshakeError, MaskKeys, Message, NoMask, RandomKeys, WebSocket, WebSocketConfig,
