@@ -595,8 +595,14 @@ unknown 3
 """,
 )
 
+# A client has 64 closures of the label H; there is none for a further call of `host`.
+SPENT = (
+    "root /m.js\nquiet\nedit /m.js\n" + "|import.meta.hot.dispose(host('H'));\n" * 65 + "settle\nopen\nturns 1 9\n",
+    "1 nohost /m.js H\n1 loaded\n",
+)
+
 
 def runs():
-    pages = [LOADED, COUNTER, LEAF, AGAIN, CLOSURES, CHAIN, STATUSES, MISSING, LINK, BROKEN, IMPORTER, ROOT, TWO_CLIENTS]
-    for script, lines in pages:
+    pages = [LOADED, COUNTER, LEAF, AGAIN, CLOSURES, SPENT, CHAIN, STATUSES]
+    for script, lines in [*pages, MISSING, LINK, BROKEN, IMPORTER, ROOT, TWO_CLIENTS]:
         yield play(script, lines)
