@@ -1,4 +1,4 @@
--- What an answer says that may also tell of a fault, or of want of memory.
+-- What an answer says that may also tell of a fault, or of memory that ran out.
 use Rattle.std.specs.Prelude.{◌≡◌, Some, None, Result, Ok, Err}
 use Rattle.hmr_types.specs.declared.value.EvalFault.{EvalFault}
 use Rattle.module_semantics.specs.Bodies.{State, Progress}

@@ -11,8 +11,8 @@ ghost use Rattle.server_core.specs.Said.{event_of};
 ghost use Rattle.event_facts.specs.Tellable.{IsTellable};
 
 use hmr_types::{ModName, Outcome, Table, Ver};
-use import_scan::Transformed;
 use server_core::Event;
+use transforms::Transformed;
 
 /// The event is one that a record can tell: its names are names, its table is a table, and the place of a fault
 /// in its result can be told. It takes time in the number of its names.

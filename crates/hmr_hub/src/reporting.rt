@@ -3,7 +3,7 @@ ghost use Rattle.std.specs.Prelude.{◌≡◌, ◌≤◌, ◌++◌, ◌∷◌, [
 ghost use Rattle.hmr_types.specs.declared.limits.TheConstants.{LARGEST_CLIENT};
 ghost use Rattle.core_model.specs.Core.{Event};
 ghost use Rattle.world_model.specs.Steps.{fresh_lines};
-ghost use Rattle.server_core.specs.Fresh.{load_of};
+ghost use Rattle.fresh_loads.specs.Fresh.{load_of};
 ghost use Rattle.server_core.specs.Kept.{StandsFor};
 ghost use Rattle.hmr_hub.specs.Pages.{ArePages, IsPage, last_page};
 ghost use Rattle.hmr_hub.specs.Reports.{client_lines, page_line, pages_lines, report_of};
@@ -12,10 +12,10 @@ ghost use Rattle.hmr_hub.specs.declared.report_line.ReportLine.TheVariants.{Line
 
 use crate::recorded_core::RecordedCore;
 use crate::report_line::ReportLine;
-use client_exchange::load_lines;
+use fresh_loads::{Fresh, fresh, load_lines};
 use hmr_types::{ClientId, ModName, Table, Ver};
 use output_lines::OutLine;
-use server_core::{Core, Fresh};
+use server_core::Core;
 use std::alloc::{AllocError, Global};
 
 impl RecordedCore {
@@ -28,7 +28,7 @@ impl RecordedCore {
     {
         let mut lines = Vec::new(self.alloc);
         lines.push(ReportLine::Steps(self.transcript.len()))?;
-        add_load(self.alloc, &mut lines, self.core.fresh(self.alloc)?)?;
+        add_load(self.alloc, &mut lines, fresh(self.alloc, &self.core)?)?;
         add_pages(self.alloc, &mut lines, &self.core, &self.pages)?;
         Ok(lines)
     }

@@ -90,7 +90,7 @@ stopped : (start from : List (List ℕ)) (text : List ℕ) (n : ℕ) (part : Lis
 stopped start from text n part fault leads turn e =
     ap (λ r. r >>= name_of) (sym leads ∙ walk_turn from (parts text) n part turn ∙ ap (λ r. r >>= λ next. walk next (drop (n + 1) (parts text))) e)
 
--- the same for a refusal that may be want of memory
+-- the same for a refusal that may be out of memory
 pub walk_stops : (start from : List (List ℕ)) (text : List ℕ) (n : ℕ) (part : List ℕ) (fault : SpecFault) → walk from (drop n (parts text)) ≡ walk start (parts text)
     → (n < length (parts text)) × (part ≡ get_or (parts text) n part) → Refuses fault (step from part) → Refuses fault (led_to start text)
 walk_stops start from text n part NoMemory leads turn e = tt

@@ -63,12 +63,12 @@ resolve base (b ∷ bs) =
     then led_to (without_last (segments base)) (b ∷ bs)
     else Err Bare
 
--- a refusal is the definition's, or want of memory
+-- a refusal is the definition's, or out of memory
 abbrev pub Refuses : {A : Type 0} → SpecFault → Result A SpecFault → Type 0
 Refuses NoMemory meant = ⊤
 Refuses fault meant = meant ≡ Err fault
 
--- the answer is the definition's, or want of memory
+-- the answer is the definition's, or out of memory
 abbrev pub Gives : {A B : Type 0} → (A → B) → Result A SpecFault → Result B SpecFault → Type 0
 Gives view (Ok x) meant = meant ≡ Ok (view x)
 Gives view (Err fault) meant = Refuses fault meant

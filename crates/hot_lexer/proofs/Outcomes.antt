@@ -15,7 +15,7 @@ not_wrong last count at b bs f is (inl w) = let e = w.0 in cc
 not_wrong last count at b bs f is (inr (inl w)) = subst (λ k. WrongPiece at b bs k f.at) is w.1
 not_wrong last count at b bs f is (inr (inr w)) = let e = w.0 in cc
 
--- want of memory is no fault of a text
+-- out of memory is no fault of a text
 no_fault : (text : List ℕ) (f : LexFault) → IsFirstLexFault text f → f.kind ≡ NoMemory → ⊥
 no_fault text f l is = not_wrong _ _ _ _ _ f is l.wrong
 

@@ -11,7 +11,7 @@ use Rattle.hot_parser.specs.declared.syntax_fault.SyntaxFault.{SyntaxFault}
 use Rattle.hot_parser.specs.declared.syntax_fault.SyntaxKind.{SyntaxKind}
 use Rattle.hot_parser.specs.declared.syntax_fault.SyntaxKind.TheVariants as kinds
 
--- the word of a fault of the tokens, none for want of memory
+-- the word of a fault of the tokens, none where memory ran out
 abbrev pub token_word : LexKind → Option FaultWord
 token_word lex.BadByte = Some words.BadByte
 token_word lex.OpenString = Some words.OpenString
@@ -21,7 +21,7 @@ token_word lex.NumberTooLarge = Some words.NumberTooLarge
 token_word lex.TooManyTokens = Some words.TooManyTokens
 token_word lex.NoMemory = None
 
--- the word of what is wrong, none for want of memory
+-- the word of what is wrong, none where memory ran out
 abbrev pub word_of : SyntaxKind → Option FaultWord
 word_of (kinds.Lex kind) = token_word kind
 word_of kinds.Unexpected = Some words.Unexpected
@@ -31,15 +31,15 @@ word_of kinds.NotUtf8 = Some words.NotUtf8
 word_of kinds.NotAssignable = Some words.NotAssignable
 word_of kinds.NoMemory = None
 
--- the fault of the text, none for want of memory
+-- the fault of the text, none where memory ran out
 abbrev pub text_fault_of : SyntaxFault → Option TextFault
 text_fault_of f = option_map (λ w. record { line = f.line; col = f.col; word = w }) (word_of f.kind)
 
--- want of memory has no place
+-- out of memory has no place
 abbrev pub no_memory : SyntaxFault
 no_memory = record { line = 0; col = 0; kind = kinds.NoMemory }
 
--- a fault of the text is the one that the definition gives; want of memory says nothing of the text, and has
+-- a fault of the text is the one that the definition gives; out of memory says nothing of the text, and has
 -- no place
 abbrev pub FaultIs : Option TextFault → SyntaxFault → Result ModuleTree TextFault → Type 0
 FaultIs None f read = f ≡ no_memory

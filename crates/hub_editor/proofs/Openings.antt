@@ -15,7 +15,7 @@ use Rattle.version_map.specs.declared.outcome.EditOutcome.TheVariants.{Job, Same
 use Rattle.server_core.specs.declared.event.Reply.{Reply}
 use Rattle.server_core.specs.declared.event.Reply.TheVariants as replies
 use Rattle.server_core.specs.Said.{edit_said}
-use Rattle.import_scan.specs.Transform.{Transform}
+use Rattle.transforms.specs.Transform.{Transform}
 use Rattle.hmr_hub.specs.declared.pass.Pass.{Pass}
 use Rattle.hmr_hub.specs.Passes.{is_alone, seen_of}
 use Rattle.hmr_hub.specs.Transcripts.{past_of}

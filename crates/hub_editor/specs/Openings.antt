@@ -4,7 +4,7 @@ use Prim.{⊥}
 use Rattle.core_model.specs.Sources.{Change, edit, edit_answer, sources_after}
 use Rattle.core_model.specs.Sources as answers
 use Rattle.core_model.specs.Transcript.{Recorded}
-use Rattle.import_scan.specs.Transform.{Transform}
+use Rattle.transforms.specs.Transform.{Transform}
 use Rattle.hmr_hub.specs.declared.pass.Pass.{Pass}
 use Rattle.hmr_hub.specs.Passes.{seen_of}
 use Rattle.transform_pool.specs.Tasks.{Task}

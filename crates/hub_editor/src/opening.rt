@@ -17,11 +17,11 @@ use crate::stop::EditStop;
 use crate::telling::{stop_by, tell_result, told_work};
 use hmr_hub::{Hub, Pass};
 use hmr_types::{ModName, Ver};
-use import_scan::Transformed;
 use std::alloc::{AllocError, Global};
 use std::sync::Wait;
 use std::thread::Threads;
 use transform_pool::{TextJob, run_jobs};
+use transforms::Transformed;
 
 /// Makes the first edits of a hub, each of a name and a text of at most 16,777,216 bytes together, by its
 /// first pass before any other was split off; then works the jobs that came of them, by so many threads at

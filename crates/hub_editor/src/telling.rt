@@ -16,11 +16,11 @@ use crate::stop::EditStop;
 use crate::work::Work;
 use hmr_hub::{Hub, Pass};
 use hmr_types::{EditRefusal, ModName, Ver};
-use import_scan::Transformed;
 use server_core::{Event, Reply, copy_text};
 use std::alloc::Global;
 use std::sync::Wait;
 use transform_pool::TextJob;
+use transforms::Transformed;
 use version_map::EditOutcome;
 
 // Tells an edit, and gives it with what was answered.

@@ -23,7 +23,7 @@ analysis_with meant items = record {
   declined = list_any is_decline items;
 }
 
--- the refusal of a specifier as one of the analysis: want of memory is want of memory
+-- the refusal of a specifier as one of the analysis: out of memory stays out of memory
 abbrev pub scan_fault : SpecFault → ScanFault
 scan_fault specs.Bare = scan.Spec specs.Bare
 scan_fault specs.Climbs = scan.Spec specs.Climbs
@@ -32,7 +32,7 @@ scan_fault specs.TooLong = scan.Spec specs.TooLong
 scan_fault specs.BadSegment = scan.Spec specs.BadSegment
 scan_fault specs.NoMemory = scan.NoMemory
 
--- the word of a refusal, none for want of memory
+-- the word of a refusal, none where memory ran out
 abbrev pub told_word : ScanFault → Option FaultWord
 told_word (scan.Spec specs.Bare) = Some words.SpecifierBare
 told_word (scan.Spec specs.Climbs) = Some words.SpecifierClimbs

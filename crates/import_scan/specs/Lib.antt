@@ -2,4 +2,3 @@ pub mod Analysing
 pub mod Fault
 pub mod Links
 pub mod Scanning
-pub mod Transform

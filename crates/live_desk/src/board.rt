@@ -11,12 +11,12 @@ use crate::bell::Bell;
 use crate::news_board::NewsBoard;
 use hmr_hub::Pass;
 use hmr_types::{Outcome, Ver};
-use import_scan::Transformed;
 use live_lines::{News, line_at};
 use session_desks::HubBoard;
 use std::alloc::{AllocError, Global};
 use std::sync::{Arc, Wait};
 use transform_pool::{Board, TextJob};
+use transforms::Transformed;
 use update_msgs::HubStop;
 
 /// The board of one worker: a board of the hub, the bell that rings for each of its results, and where the

@@ -12,7 +12,7 @@ use Rattle.module_semantics.specs.declared.scanning.ScanFault.{ScanFault}
 use Rattle.module_semantics.specs.declared.scanning.ScanFault.TheVariants as scan
 use Rattle.module_semantics.specs.Analysis.{analysed, analysis_of, if_all_mean, if_few, first_refusal, refusal_or, specifiers_of}
 
--- an answer that isn't want of memory
+-- an answer that isn't out of memory
 abbrev IsMeant : {A : Type 0} → Result A SpecFault → Type 0
 IsMeant r = r ≢ Err NoMemory
 

@@ -135,7 +135,7 @@ if_all_mean (Some fault) result = Err (scan.Spec fault)
 abbrev pub analysed : List ℕ → ModuleTree → Result Analysis ScanFault
 analysed base m = if_all_mean (first_refusal base (flat_map specifiers_of m)) (if_few (analysis_of base m))
 
--- the word of a refusal; want of memory, which no definition answers, has none of its own
+-- the word of a refusal; out of memory, which no definition answers, has none of its own
 abbrev pub specifier_word : SpecFault → FaultWord
 specifier_word specs.Bare = words.SpecifierBare
 specifier_word specs.Climbs = words.SpecifierClimbs

@@ -168,7 +168,7 @@ lex_from (suc turns) at last done (b ∷ bs) = do
 unfoldable pub lexing : List ℕ → Result (List Lexeme) LexFault
 lexing bs = lex_from (length bs) 0 after.Other [] bs
 
--- a fault of code, beside what lexing gives: want of memory says nothing of the text
+-- a fault of code, beside what lexing gives: out of memory says nothing of the text
 abbrev pub FaultIs : {Y : Type 0} → LexKind → LexFault → Result Y LexFault → Type 0
 FaultIs NoMemory f read = Unit {0}
 FaultIs BadByte f read = read ≡ Err f

@@ -33,7 +33,7 @@ pub record ReadsAs (text : List ℕ) (m : ModuleTree) : Type 0 where
   pub named : first_broken items ≡ None
   pub is : module_tree items ≡ m
 
--- the word of a fault of the tokens; want of memory is none of a text
+-- the word of a fault of the tokens; out of memory is none of a text
 abbrev pub lex_word : LexKind → FaultWord
 lex_word kinds.BadByte = words.BadByte
 lex_word kinds.OpenString = words.OpenString

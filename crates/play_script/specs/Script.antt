@@ -360,17 +360,17 @@ abbrev pub refused_at : ℕ → Refusal → ScriptRefusal
 refused_at n (refusals.Fault kind) = Faulty (record { line = n; kind = kind })
 refused_at n refusals.NoMemory = NoMemory
 
--- a refusal is the fault that the definition says, or want of memory
+-- a refusal is the fault that the definition says, or out of memory
 abbrev pub Refuses : {Y : Type 0} → Refusal → Result Y ScriptKind → Type 0
 Refuses (refusals.Fault kind) meant = meant ≡ Err kind
 Refuses refusals.NoMemory meant = Unit {0}
 
--- the answer is the definition's, or want of memory
+-- the answer is the definition's, or out of memory
 abbrev pub Gives : {X Y : Type 0} → (X → Y) → Result X Refusal → Result Y ScriptKind → Type 0
 Gives view (Ok x) meant = meant ≡ Ok (view x)
 Gives view (Err refusal) meant = Refuses refusal meant
 
--- a reader's answer is what the bytes say, or want of memory
+-- a reader's answer is what the bytes say, or out of memory
 abbrev pub IsReading : {X : Type 0} → Result X ScriptRefusal → Result X ScriptFault → Type 0
 IsReading (Ok script) meant = meant ≡ Ok script
 IsReading (Err (Faulty fault)) meant = meant ≡ Err fault

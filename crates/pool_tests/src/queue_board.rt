@@ -4,11 +4,11 @@ ghost use Rattle.std.specs.Arc.{arc_value};
 ghost use Rattle.transform_pool.specs.Passes.{IsPassOf, role_of};
 
 use hmr_types::Ver;
-use import_scan::Transformed;
 use std::alloc::Global;
 use std::sync::atomic::{AtomicBool, Ordering};
 use std::sync::{Arc, Wait};
 use transform_pool::{Board, JobPass, JobQueue, TextJob};
+use transforms::Transformed;
 use update_msgs::HubStop;
 
 /// Takes jobs from a queue, by a pass of its own, and keeps what is posted. It tells nothing of either. A

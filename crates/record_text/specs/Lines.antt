@@ -22,7 +22,7 @@ abbrev pub ◌>>=◌ : {A B : Type 0} → Option A → (A → Option B) → Opti
 (Some x) >>= f = f x
 None >>= f = None
 
--- the answer is the definition's, where None is a bad line; of want of memory nothing is said
+-- the answer is the definition's, where None is a bad line; where memory ran out nothing is said
 abbrev pub Gives : {X Y : Type 0} → (X → Y) → Result X Refusal → Option Y → Type 0
 Gives view (Ok x) meant = meant ≡ Some (view x)
 Gives view (Err refusals.BadLine) meant = meant ≡ None

@@ -94,7 +94,7 @@ abbrev pub fault_at : ℕ → Refusal → RecordFault
 fault_at n refusals.BadLine = faults.BadLine n
 fault_at n refusals.NoMemory = faults.NoMemory
 
--- a reader's answer is the definition's, or want of memory
+-- a reader's answer is the definition's, or out of memory
 abbrev pub IsReading : {X : Type 0} → Result X RecordFault → Result X ℕ → Type 0
 IsReading (Ok x) meant = meant ≡ Ok x
 IsReading (Err (faults.BadLine n)) meant = meant ≡ Err n

@@ -1,22 +1,24 @@
 -- What is read of the sources by look-up alone is the same where the look-ups are: what a request makes of
 -- a client, its reply, and what is kept of a client.
-use Rattle.std.proofs.Common.{◌≡◌, ℕ, Bool, true, false, List, [], ◌∷◌, ◌++◌, refl, ap, sym, ◌∙◌}
-use Rattle.std.specs.Prelude.{map, filter, Option, Some, None}
+use Rattle.std.proofs.Common.{◌≡◌, ℕ, Bool, List, [], ◌∷◌, ◌++◌, refl, ap, sym, ◌∙◌}
+use Rattle.std.specs.Prelude.{cond, map, filter, Option, Some, None}
 use Rattle.core_model.specs.Names.{Name, at, names_of, sorted}
-use Rattle.core_model.specs.Sources.{Sources, Source, Serving}
+use Rattle.core_model.specs.Sources.{Sources}
 use Rattle.core_model.specs.Page.{Plan}
 use Rattle.core_model.specs.View.{View, differs, changed_of}
 use Rattle.core_model.specs.FreshLoad.{Served, version_in}
 use Rattle.core_model.specs.Spread.{reason_of, replaced_of, pairs_of, cause_of}
-use Rattle.core_model.specs.Client.{Client, same_number, is_held, changed, dropped, reason, replaced, pairs, triggered, first_notice}
-use Rattle.core_model.specs.Asking.{AskRow, out_of_turn, tell, load, idle, prune, reload, update, row_plan, row_notice, row_loaded, row_dropped, row_held, row_reason, row_replaced, ask_row, asked, js_update, number_or_zero, begins, counted}
-use Rattle.core_model.specs.Requests.{Request, Reply, ask, fetch, applied_as, aborted, invalidate, to_client, answer_ask, ask_reply, heard, fetched_in, fetched, fetch_row, fetch_reply, row_served}
+use Rattle.core_model.specs.Client.{Client, same_number, is_held, changed, dropped, triggered, first_notice}
+use Rattle.core_model.specs.Asking.{AskRow, out_of_turn, tell, load, idle, prune, reload, update, row_plan, row_notice, row_loaded, row_dropped, row_held, row_reason, row_replaced, ask_row, asked, js_update, number_or_zero}
+use Rattle.core_model.specs.Requests.{Request, ask, fetch, applied_as, aborted, invalidate, to_client, answer_ask, ask_reply, heard, fetched_in, fetched, fetch_row, fetch_reply, row_served}
 use Rattle.update_msgs.specs.declared.message.ServerMsg.TheVariants as msg
-use Rattle.update_msgs.specs.declared.message.JsUpdate.{JsUpdate}
 use Rattle.version_map.specs.Standing.{Matches}
 use Rattle.client_records.specs.Record as client
 use Rattle.client_records.specs.Record.{IsRecord}
-use Rattle.server_core.proofs.Same.{same_filtered}
+
+pub same_filtered : (p q : Name → Bool) (names : List Name) → ((n : Name) → p n ≡ q n) → filter p names ≡ filter q names
+same_filtered p q [] e = refl
+same_filtered p q (n ∷ names) e = ap (λ b. cond b (n ∷ filter p names) (filter p names)) (e n) ∙ ap (λ l. cond (q n) (n ∷ l) l) (same_filtered p q names e)
 
 same_changed : (s t : Served) (view : View) → ((n : Name) → at s n ≡ at t n) → changed_of s view ≡ changed_of t view
 same_changed s t view e = same_filtered (λ n. differs (at view n) (at s n)) (λ n. differs (at view n) (at t n)) (names_of view) (λ n. ap (differs (at view n)) (e n))

@@ -64,7 +64,7 @@ change_step old ch s clients reply stands told answer w = record {
   others = λ j k l e. absurd (false≢true l);
 }
 
--- a want of memory
+-- memory ran out
 pub failed_step : (event : Event) (old : Kept) (clients : Clients) (e : AllocError) → ((past : List Event) → StandsFor past old → StandsFor past (record old { clients = clients })) → ((j : ℕ) → leaves j event ≡ true → clients ≡ old.clients) → ((past : List Event) → StandsFor past old → is_free (core_after old.roots past) event ≡ true → ⊥) → IsStep event old (record old { clients = clients }) (Err e)
 failed_step event old clients e f g free = record {
   roots = refl;
@@ -144,7 +144,7 @@ module _ (past : List Change) (old new : Sources) (h : sources.StandsFor past ol
   result_serves n t o v (refuse w) g e f m = g.served m ∙ ap (λ x. at (after_result x n t v (sources_after past)).served m) e ∙ sym (h.served m)
   result_serves n t o v late g e f m = g.served m ∙ ap (λ x. at (after_result x n t v (sources_after past)).served m) e ∙ sym (h.served m)
 
--- a removal isn't refused for want of memory
+-- a removal isn't refused where memory ran out
 
 numbered_removal : (b : Bool) (w : EditRefusal) (v : ℕ) → is_job (if b then edit_refused w else removed v) ≡ false
 numbered_removal true w v = refl

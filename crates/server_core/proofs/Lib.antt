@@ -1,13 +1,9 @@
-mod Alike
+pub mod Alike
 mod Changing
 mod Hearing
 mod Keeping
-mod Linking
-mod Looking
+pub mod Looking
 mod Numbers
-mod Reaching
 mod Reloads
-mod Rows
-mod Same
 mod Stepping
 mod Upto

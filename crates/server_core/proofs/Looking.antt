@@ -4,19 +4,16 @@ use Rattle.std.specs.Prelude.{Option, Some, None}
 use Rattle.std.specs.Option.{option_map}
 use Rattle.std.proofs.Math.Path.{subst}
 use Rattle.core_model.specs.Names.{Name, at}
-use Rattle.core_model.specs.Sources.{Sources, sources_after}
-use Rattle.core_model.specs.FreshLoad.{fresh_load}
+use Rattle.core_model.specs.Sources.{Sources}
 use Rattle.core_model.specs.Client.{Client}
-use Rattle.core_model.specs.Core.{Event, core_after, client_at, changes_of}
+use Rattle.core_model.specs.Core.{Event, core_after, client_at}
 use Rattle.core_model.proofs.Replaying.{sources_are}
-use Rattle.import_scan.specs.Links.{links}
 use Rattle.client_records.specs.Record as client
 use Rattle.client_records.specs.Record.{IsRecord, is_at_rest}
 use Rattle.server_core.specs.Kept.{Kept, StandsFor}
-use Rattle.server_core.specs.Reading.{is_resting, load_at, rests}
+use Rattle.server_core.specs.Reading.{is_resting, rests}
 use Rattle.server_core.proofs.Alike.{record_same}
 use Rattle.server_core.proofs.Numbers.{IsOne, at_one}
-use Rattle.server_core.proofs.Same.{same_load}
 
 one_same : (s t : Sources) → ((n : Name) → at t.served n ≡ at s.served n) → (o : Option Client) (p : Option client.Kept) → IsOne s o p → IsOne t o p
 one_same s t e None None h = h
@@ -59,8 +56,3 @@ module _ (past : List Event) (core : Kept) (h : StandsFor past core) (i : ℕ) w
 
   pub rests_not : None ≡ client_at core.clients i → false ≡ is_resting (core_after core.roots past) i
   rests_not is = rest_unknown (core_after core.roots past).sources (client_at (core_after core.roots past).clients i) (subst (IsOne (core_after core.roots past).sources (client_at (core_after core.roots past).clients i)) (sym is) (one_of past core h i))
-
-  -- what a client's page would load anew
-  pub load_is : (o : Option client.Kept) → o ≡ client_at core.clients i → option_map (λ (k : client.Kept). fresh_load links core.sources.served k.roots) o ≡ load_at (core_after core.roots past) i
-  load_is o is = read_is (λ (c : Client). fresh_load links (core_after core.roots past).sources.served c.roots) (λ (k : client.Kept). fresh_load links core.sources.served k.roots)
-      (λ s c k r. ap (fresh_load links core.sources.served) r.roots ∙ same_load links core.sources.served (core_after core.roots past).sources.served (λ n. sym (served_alike past core h n)) c.roots) o is

@@ -22,7 +22,7 @@ abbrev pub heard_by : Sources → ℕ → Request → List (ℕ × Client) → L
 heard_by s i r rows = heard_of (client_at rows i) s i r rows
 
 -- a request was heard: the clients are those after it, the reply is the definition's and can be written,
--- after a want of memory they are as before, and every other record is as it was
+-- after memory ran out they are as before, and every other record is as it was
 pub record IsHeard (s : Sources) (i : ℕ) (r : Request) (old new : Clients)
     (result : Result Reply AllocError) : Type 0 where
   pub stands : (rows : List (ℕ × Client)) → AreClients s rows old

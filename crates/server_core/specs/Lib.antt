@@ -1,8 +1,6 @@
 pub mod Clients
-pub mod Fresh
 pub mod Heard
 pub mod Inside
 pub mod Kept
 pub mod Reading
 pub mod Said
-pub mod Searching

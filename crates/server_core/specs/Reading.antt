@@ -1,13 +1,11 @@
--- What is read of a connected client: whether it is at rest, its page, and what it would load anew.
+-- What is read of a connected client: whether it is at rest, and its page.
 use Rattle.std.specs.Prelude.{ℕ, Bool, false, List, Option, Some, None}
 use Rattle.std.specs.Option.{option_map}
 use Rattle.core_model.specs.Names.{Name}
 use Rattle.core_model.specs.Sources.{Sources}
 use Rattle.core_model.specs.View.{table_of}
-use Rattle.core_model.specs.FreshLoad.{FreshLoad, fresh_load}
 use Rattle.core_model.specs.Client.{Client}
 use Rattle.core_model.specs.Core.{Core, client_at}
-use Rattle.import_scan.specs.Links.{links}
 use Rattle.client_records.specs.Record.{is_at_rest}
 
 -- the client is connected, and nothing is to be done for it
@@ -26,8 +24,3 @@ roots_of core i = option_map (λ (c : Client). c.roots) (client_at core.clients 
 -- the modules of a connected client's page, with their versions
 abbrev pub page_of : Core → ℕ → Option (List (Name × ℕ))
 page_of core i = option_map (λ (c : Client). table_of c.page.view) (client_at core.clients i)
-
--- what a connected client's page would load anew
-abbrev pub load_at : Core → ℕ → Option FreshLoad
-load_at core i =
-    option_map (λ (c : Client). fresh_load links core.sources.served c.roots) (client_at core.clients i)

@@ -10,8 +10,8 @@ use crate::clients::{copies_for, give_notices, make_room, tell_changed};
 use crate::event::Reply;
 use crate::page_core::Core;
 use hmr_types::{ModName, Outcome, Ver};
-use import_scan::Transformed;
 use std::alloc::{AllocError, Global};
+use transforms::Transformed;
 use version_map::{EditFault, EditOutcome, Settled};
 
 impl Core {

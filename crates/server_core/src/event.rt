@@ -5,9 +5,9 @@ ghost use Rattle.server_core.specs.Said.{event_of};
 
 use core_model::Refusal;
 use hmr_types::{ClientId, EditRefusal, ModName, Table, Ver};
-use import_scan::Transformed;
 use module_graph::copy_of;
 use std::alloc::{AllocError, Global};
+use transforms::Transformed;
 use update_msgs::ServerMsg;
 use version_map::{EditOutcome, Settled};
 

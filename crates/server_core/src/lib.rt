@@ -1,5 +1,4 @@
-//! The server core: the sources of modules, what is served of them, the connected clients, and what a
-//! page loads anew.
+//! The server core: the sources of modules, what is served of them, and the connected clients.
 //!
 //! Stands on the version map, on the records of clients and on the definitions of the core. Keeps: a
 //! [`Core`] has what its events so far give, by the definitions; an event of one client leaves the
@@ -11,15 +10,9 @@ mod change;
 mod clients;
 mod connect;
 mod event;
-mod exports;
-mod fresh;
-mod linked;
 mod page_core;
-mod reach;
 mod reads;
 mod requests;
-mod unlinked;
 
 pub use event::{Event, NewFault, Reply, copy_text};
-pub use fresh::Fresh;
 pub use page_core::Core;

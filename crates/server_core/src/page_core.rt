@@ -3,9 +3,6 @@ ghost use Rattle.std.specs.Prelude.{◌≡◌, ◌↔◌, ◌<◌, ◌≤◌, []
 ghost use Rattle.std.specs.Prelude.{ℕ, List, IfOk, IsErrOf, IsOk, OnErr, OnOk, Some, false, length, true};
 ghost use Rattle.hmr_types.specs.declared.limits.TheConstants.{ROOTS};
 ghost use Rattle.core_model.specs.Core as model;
-ghost use Rattle.core_model.specs.FreshLoad.{fresh_load};
-ghost use Rattle.import_scan.specs.Links.{links};
-ghost use Rattle.server_core.specs.Fresh.{load_of};
 ghost use Rattle.core_model.specs.Roots.{are_distinct};
 ghost use Rattle.core_model.specs.Client.{Client};
 ghost use Rattle.core_model.specs.Names.{Name};
@@ -20,7 +17,6 @@ ghost use Rattle.server_core.specs.declared.event.NewFault.TheVariants.{TooManyR
 use crate::clients::Row;
 use crate::connect::are_distinct;
 use crate::event::{Event, NewFault, Reply};
-use crate::fresh::{Fresh, fresh_load};
 use crate::requests::{aborted, applied, ask, fetch, invalidate};
 use hmr_types::limits::ROOTS;
 use hmr_types::{ClientId, ModName, Sequence};
@@ -125,18 +121,5 @@ impl Core {
             }
             Event::Disconnect(client) => Ok(self.disconnect(client)),
         }
-    }
-
-    /// What a page would load anew. It looks at each reached module once, and reads the text of each
-    /// that is served.
-    pub fn fresh(&self, alloc: Global) -> Result<Fresh, AllocError>
-        ensures load { IfOk result
-            (λ fresh. load_of fresh ≡ fresh_load links self.now.sources.served self.now.roots) }
-        ensures stands { (past : List model.Event) → StandsFor past self.now
-            → IfOk result
-            (λ fresh. load_of fresh
-            ≡ fresh_load links (model.core_after self.now.roots past).sources.served self.now.roots) }
-    {
-        fresh_load(alloc, &self.versions, self.roots.as_slice())
     }
 }

@@ -4,18 +4,32 @@ ghost use Rattle.std.specs.Option.{option_map};
 ghost use Rattle.core_model.specs.Core as model;
 ghost use Rattle.core_model.specs.Core.{client_at, core_after};
 ghost use Rattle.core_model.specs.Names.{at};
+ghost use Rattle.client_records.specs.Record.{Kept};
 ghost use Rattle.version_map.specs.Standing.{outstanding_in};
-ghost use Rattle.server_core.specs.Fresh.{load_of};
 ghost use Rattle.server_core.specs.Kept.{StandsFor};
-ghost use Rattle.server_core.specs.Reading.{is_resting, load_at, page_of, roots_of};
+ghost use Rattle.server_core.specs.Reading.{is_resting, page_of, roots_of};
 
 use crate::clients::record_of;
-use crate::fresh::{Fresh, fresh_load};
 use crate::page_core::Core;
 use hmr_types::{ClientId, ModName, Table};
 use std::alloc::{AllocError, Global};
+use version_map::VersionMap;
 
 impl Core {
+    /// The roots of the server's page.
+    pub fn roots(&self) -> &[ModName]
+        ensures { result.now ≡ self.now.roots }
+    {
+        self.roots.as_slice()
+    }
+
+    /// The sources of all modules, and what is served of them.
+    pub fn sources(&self) -> &VersionMap
+        ensures { result.now ≡ self.now.sources }
+    {
+        &self.versions
+    }
+
     /// Whether the name has a source for which no result came yet.
     pub fn outstanding(&self, name: &ModName) -> bool
         ensures { (past : List model.Event) → StandsFor past self.now
@@ -38,7 +52,9 @@ impl Core {
 
     /// The roots of a connected client's page.
     pub fn roots_of(&self, client: ClientId) -> Option<&[ModName]>
-        ensures { (past : List model.Event) → StandsFor past self.now
+        ensures kept { option_map (λ names. names.now) result
+            ≡ option_map (λ (kept : Kept). kept.roots) (client_at self.now.clients client) }
+        ensures stands { (past : List model.Event) → StandsFor past self.now
             → option_map (λ names. names.now) result ≡ roots_of (core_after self.now.roots past) client }
     {
         let Some(known) = record_of(&self.clients, client) else {
@@ -58,20 +74,5 @@ impl Core {
         };
         let table = known.table(alloc)?;
         Ok(Some(table))
-    }
-
-    /// What a connected client's page would load anew, from its own roots. It looks at each reached
-    /// module once, and reads the text of each that is served.
-    pub fn fresh_of(&self, alloc: Global, client: ClientId) -> Result<Option<Fresh>, AllocError>
-        ensures stands { (past : List model.Event) → StandsFor past self.now
-            → IfOk result
-            (λ fresh. option_map load_of fresh ≡ load_at (core_after self.now.roots past) client) }
-        ensures unknown { client_at self.now.clients client ≡ None → IsOk result }
-    {
-        let Some(known) = record_of(&self.clients, client) else {
-            return Ok(None);
-        };
-        let fresh = fresh_load(alloc, &self.versions, known.roots())?;
-        Ok(Some(fresh))
     }
 }

@@ -4,7 +4,7 @@ use Rattle.update_msgs.specs.declared.desk.HubStop.{HubStop}
 use Rattle.core_model.specs.Core.{change}
 use Rattle.core_model.specs.Sources.{result}
 use Rattle.hmr_types.specs.Table.{is_version}
-use Rattle.import_scan.specs.Transform.{Transform}
+use Rattle.transforms.specs.Transform.{Transform}
 use Rattle.server_core.specs.declared.event.Reply.{Reply}
 use Rattle.transform_pool.specs.Passes.{role_of}
 use Rattle.hmr_hub.specs.Passes.{number_of}

@@ -12,11 +12,11 @@ ghost use Rattle.session_desks.specs.Fullness.{is_nearly_full};
 use crate::telling::tell;
 use hmr_hub::{Hub, Pass, has_version};
 use hmr_types::Ver;
-use import_scan::Transformed;
 use server_core::Event;
 use std::alloc::Global;
 use std::sync::{Arc, Wait};
 use transform_pool::{Board, JobPass, JobQueue, TextJob};
+use transforms::Transformed;
 use update_msgs::HubStop;
 
 /// The board of one worker: a hub and a queue, and a pass of each. It has whether the hub answered it that

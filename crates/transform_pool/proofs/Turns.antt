@@ -4,7 +4,7 @@ use Rattle.std.specs.Prelude.{Option, None, Some, Result, Err}
 use Rattle.std.proofs.lemmas.List.{map-append}
 use Rattle.std.proofs.lemmas.List.Elements.{All-append, All-cons, All-nil}
 use Rattle.update_msgs.specs.declared.desk.HubStop.{HubStop}
-use Rattle.import_scan.specs.Transform.{Transform}
+use Rattle.transforms.specs.Transform.{Transform}
 use Rattle.transform_pool.specs.Boards.{told_more}
 use Rattle.transform_pool.specs.Results.{post_of}
 use Rattle.transform_pool.specs.Tasks.{Task}

@@ -1,6 +1,6 @@
 -- What contracts see of a board in memory.
 use Rattle.std.specs.Prelude.{ℕ, Bool, List}
-use Rattle.import_scan.specs.Transform.{Transform}
+use Rattle.transforms.specs.Transform.{Transform}
 use Rattle.transform_pool.specs.Left.{taken_of}
 use Rattle.transform_pool.specs.Tasks.{Task}
 use Rattle.transform_pool.specs.declared.mem_board.MemBoard.{MemBoard}

@@ -2,7 +2,7 @@
 use Rattle.std.specs.Prelude.{ℕ}
 use Rattle.module_semantics.specs.Analysis.{transformed}
 use Rattle.module_semantics.specs.ModuleText.{parsing}
-use Rattle.import_scan.specs.Transform.{Transform}
+use Rattle.transforms.specs.Transform.{Transform}
 use Rattle.transform_pool.specs.Tasks.{Task}
 
 -- the result of a job

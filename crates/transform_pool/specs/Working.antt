@@ -2,7 +2,7 @@
 use Rattle.std.specs.Prelude.{◌≡◌, ◌-◌, ◌^◌, [], ◌∷◌, ◌++◌}
 use Rattle.std.specs.Prelude.{ℕ, min, List, length, map, All, Option, Result, Ok, Err}
 use Rattle.update_msgs.specs.declared.desk.HubStop.{HubStop}
-use Rattle.import_scan.specs.Transform.{Transform}
+use Rattle.transforms.specs.Transform.{Transform}
 use Rattle.transform_pool.specs.Boards.{told_more}
 use Rattle.transform_pool.specs.Results.{post_of}
 use Rattle.transform_pool.specs.Tasks.{Task}

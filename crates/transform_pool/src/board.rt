@@ -2,15 +2,15 @@
 ghost use Rattle.std.specs.Prelude.{◌≡◌, ◌+◌, ◌≤◌, ◌∷◌, []};
 ghost use Rattle.std.specs.Prelude.{ℕ, Bool, List, MatchOption, OnErr, OnOk, Option, false, is_none, length};
 ghost use Rattle.hmr_types.specs.declared.limits.TheConstants.{MESSAGE_BYTES};
-ghost use Rattle.import_scan.specs.Transform.{Transform};
+ghost use Rattle.transforms.specs.Transform.{Transform};
 ghost use Rattle.transform_pool.specs.Boards.{full_after, told_more};
 ghost use Rattle.transform_pool.specs.Tasks.{Task};
 
 use crate::TextJob;
 use hmr_types::Ver;
-use import_scan::Transformed;
 use std::alloc::Global;
 use std::sync::Wait;
+use transforms::Transformed;
 use update_msgs::HubStop;
 
 /// The board of one worker.

@@ -5,11 +5,11 @@ ghost use Rattle.transform_pool.specs.Left.{IsLeft, taken_of};
 
 use crate::{Board, TextJob};
 use hmr_types::Ver;
-use import_scan::Transformed;
 use std::alloc::Global;
 use std::collections::VecDeque;
 use std::snapshot::Snapshot;
 use std::sync::Wait;
+use transforms::Transformed;
 use update_msgs::HubStop;
 
 /// A board that is made of a list of jobs. It tells what was taken and what was posted, and is never full.

@@ -5,10 +5,10 @@ ghost use Rattle.std.specs.Thread.{IsSync};
 ghost use Rattle.transform_pool.specs.Results.{result_of};
 
 use crate::TextJob;
-use import_scan::Transformed;
 use std::alloc::{AllocError, Global};
 use std::thread;
 use std::thread::Threads;
+use transforms::Transformed;
 
 /// The results of the jobs, each at the place of its job, whatever the number of workers. At most so many
 /// threads are used, the caller's among them; 0 counts as 1. Where a thread can't be made its part is done

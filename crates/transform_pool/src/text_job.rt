@@ -4,9 +4,10 @@ ghost use Rattle.hmr_types.specs.declared.limits.TheConstants.{MESSAGE_BYTES};
 ghost use Rattle.transform_pool.specs.Results.{result_of};
 
 use hmr_types::{ModName, Ver};
-use import_scan::{Transformed, transform};
+use import_scan::transform;
 use std::alloc::{AllocError, Global};
 use std::marker::Model;
+use transforms::Transformed;
 
 /// The text of a module under the version of its edit. Name and text have together at most 16,777,216
 /// bytes. Contracts see the three as a `Task`.

@@ -6,10 +6,10 @@ ghost use Rattle.transform_pool.specs.Working.{IsGated, Worked};
 
 use crate::Board;
 use hmr_types::Ver;
-use import_scan::Transformed;
 use jobs::Gate;
 use std::alloc::Global;
 use std::sync::Wait;
+use transforms::Transformed;
 use update_msgs::HubStop;
 
 /// Takes jobs from a board that is not full and has not ended until it has ended, transforms each, passes

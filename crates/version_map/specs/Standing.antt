@@ -40,7 +40,7 @@ Answers (Err faults.NoMemory) same = ⊥
 Answers (Err faults.NoMemory) (removed v) = ⊥
 Answers (Err faults.NoMemory) (edit_refused refusal) = ⊥
 
--- what follows an answer, which want of memory isn't
+-- what follows an answer, which out of memory isn't
 abbrev pub Answered : Result EditOutcome EditFault → Type 0 → Type 0
 Answered (Ok outcome) P = P
 Answered (Err (faults.Refused refusal)) P = P

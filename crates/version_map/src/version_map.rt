@@ -19,10 +19,10 @@ use crate::entry::{Entry, Served, Unserved};
 use crate::outcome::{EditFault, EditOutcome, Settled};
 use hmr_types::limits::{LARGEST_NUMBER, SOURCE_BYTES, SOURCE_NAMES, TEXT_BYTES};
 use hmr_types::{EditRefusal, ModName, Outcome, Sequence, TextFault, Ver};
-use import_scan::Transformed;
 use std::alloc::{AllocError, Global};
 use std::collections::BTreeMap;
 use std::marker::Model;
+use transforms::Transformed;
 
 /// The sources of modules by name, and what is served of each. Contracts see it as the definitions
 /// do, each list in the order of the names; that it is what the edits and results so far give is the

@@ -1,0 +1,5 @@
+mod Linking
+mod Looking
+mod Reaching
+mod Rows
+mod Same

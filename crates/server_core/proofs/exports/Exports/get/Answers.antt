@@ -1,6 +1,0 @@
-use Rattle.std.proofs.Common.{sym, ◌∙◌}
-use Rattle.server_core.proofs.Linking.{found}
-use Rattle.server_core.proofs.exports.Exports.get.Goals as goal
-
-pub returns : goal.returns
-returns c = rw (← c.self.view_is) (c.get.ensures.value ∙ sym (found c.self.inside.sets.entries c.args.name.now))

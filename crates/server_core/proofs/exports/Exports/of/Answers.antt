@@ -1,6 +1,0 @@
-use Rattle.std.proofs.Common.{refl}
-use Rattle.server_core.proofs.Linking.{one_module_more}
-use Rattle.server_core.proofs.exports.Exports.of.Goals as goal
-
-pub loop-name-preserved : goal.loop-name-preserved
-loop-name-preserved c = one_module_more c.args.versions.now.served c.args.names.now c.loop-name.name-index c.name-item.result c.loop-name-test.true _ _ c.name-item.is (c.in_ok-add.ensures _ c.loop-name.invariant)
