@@ -21,8 +21,7 @@ use Rattle.client_model.specs.Runtime.{Runtime}
 use Rattle.client_model.proofs.Walking.{walk_is}
 use Rattle.client_plan.specs.Renewing.{IsRenewing}
 use Rattle.client_plan.specs.Whole.{IsAlone, IsLone, IsLoneFetched, IsWhole}
-use Rattle.client_plan.proofs.Altering.{names_once}
-use Rattle.client_plan.proofs.Orders.{Distinct}
+use Rattle.client_plan.proofs.Orders.{Distinct, names_once}
 use Rattle.client_plan.proofs.Paging.{met_left}
 use Rattle.client_plan.proofs.Reached.{whole_stays}
 

@@ -1,15 +1,10 @@
 -- A plan for which a cause was found.
-use Rattle.std.proofs.Common.{ℕ, refl}
+use Rattle.std.proofs.Common.{refl}
 use Rattle.std.specs.Prelude.{Some}
-use Rattle.hmr_types.specs.declared.analysis.Outcome.{Outcome}
-use Rattle.hmr_types.specs.declared.analysis.Outcome.TheVariants.{Good, Bad}
-use Rattle.core_model.specs.Names.{Name}
 use Rattle.core_model.specs.Page.{Plan}
-use Rattle.core_model.specs.Sources.{Text}
 use Rattle.client_model.specs.Runtime as model
-use Rattle.client_model.specs.Runtime.{Runtime, broken}
-use Rattle.client_plan.specs.Reads.{IsBad}
-use Rattle.client_plan.specs.UnderWay.{AreModules, IsFetched, IsNext, IsUnderWay, IsWalk, cause_of, with_cause_of}
+use Rattle.client_model.specs.Runtime.{Runtime}
+use Rattle.client_plan.specs.UnderWay.{AreModules, IsNext, IsUnderWay, IsWalk, cause_of, with_cause_of}
 use Rattle.client_plan.specs.declared.cause.Cause.{Cause}
 use Rattle.client_plan.specs.declared.under_way.Modules.{Modules}
 use Rattle.client_plan.specs.declared.under_way.Modules.TheVariants.{Anew, Renewed}
@@ -35,8 +30,3 @@ walk_caused r p cause (Finish ready) walk w = w
 -- a plan with a cause that was found
 pub caused : (r : Runtime) (p : Plan) (cause : Cause) (u : UnderWay) → IsUnderWay r p u → IsUnderWay (with_cause_of (cause_of cause) r) p (record u { cause = Some cause })
 caused r p cause u i = record { plan = i.plan; walk = walk_caused r p (cause_of cause) u.next u.walk i.walk; next = next_caused r p (cause_of cause) u.next i.next; texts = i.texts; pairs = i.pairs; cause = refl }
-
--- a text that can't be read
-pub bad_fetched : (o : Outcome) (r : Runtime) (p : Plan) (n : Name) (version : ℕ) (text : Text) (u : UnderWay) → IsBad o → IsUnderWay (with_cause_of (broken n) r) p u → IsFetched o r p n version text u
-bad_fetched (Good a) r p n version text u b i = absurd b
-bad_fetched (Bad fault) r p n version text u b i = i

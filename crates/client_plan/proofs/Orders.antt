@@ -8,7 +8,8 @@ use Rattle.core_model.specs.View.{View}
 use Rattle.core_model.specs.Page.{Plan}
 use Rattle.core_model.proofs.Naming.{or_cases, or_left, or_right, same_true, true_same, filtered_from, false_from, neither, has_more, more_left, more_last, more_cases}
 use Rattle.client_model.specs.Order.{Walked, met_too, left_too, visit, walk, depth_of, next_of, evaluation_order}
-use Rattle.client_model.specs.Linking.{place_of}
+use Rattle.client_model.specs.Linking.{new_names, place_of}
+use Rattle.client_model.specs.Runtime.{Runtime}
 
 -- no name twice
 abbrev pub Distinct : List Name → Type 0
@@ -84,6 +85,10 @@ filter_once p (n ∷ names) d = by (p n) (filter_once p names d.1)
     by : (b : Bool) → Distinct (filter p names) → Distinct (cond b (n ∷ filter p names) (filter p names))
     by true k = (false_from (has (filter p names) n) (λ h. false≢true (sym d.0 ∙ (filtered_from p names n h).1)), k)
     by false k = k
+
+-- so does a plan's list of new names
+pub names_once : (p : Plan) (r : Runtime) → Distinct (new_names p r)
+names_once p r = filter_once _ (evaluation_order r.roots p r.page.view) (left_once r.roots p r.page.view)
 
 -- The places of names count up.
 

@@ -17,7 +17,7 @@ use Rattle.client_model.specs.Runtime.{Runtime}
 use Rattle.client_model.proofs.Walking.{orders_agree}
 use Rattle.page_plan.specs.Plans.{IsSamePlan}
 use Rattle.page_plan.proofs.Same.{left_met}
-use Rattle.client_plan.specs.Changing.{AreCountedIn}
+use Rattle.live_instances.specs.Counted.{AreCountedIn}
 use Rattle.client_plan.specs.Planned.{AreCounted}
 
 -- the walk leaves what is met

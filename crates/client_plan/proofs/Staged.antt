@@ -34,7 +34,7 @@ use Rattle.client_plan.specs.Planned.{IsPlanned}
 use Rattle.client_plan.specs.Staging.{HasStaged}
 use Rattle.client_plan.specs.UnderWay.{HasTrees, IsNext, IsUnderWay, IsWalk, cause_of, plan_with, runtime_with}
 use Rattle.client_plan.specs.Whole.{IsWalkFetched}
-use Rattle.client_plan.specs.declared.reading.Parsed.{Parsed}
+use Rattle.client_plan.specs.declared.fetching.Parsed.{Parsed}
 use Rattle.client_plan.specs.declared.under_way.Next.{Next}
 use Rattle.client_plan.specs.declared.under_way.Next.TheVariants.{Fetch, Finish}
 use Rattle.client_plan.specs.declared.under_way.Walk.{Walk}

@@ -3,8 +3,5 @@ pub mod Whole
 pub mod Renewing
 pub mod UnderWay
 pub mod Planned
-pub mod Reads
 pub mod Unlinked
 pub mod Telling
-pub mod Changing
-pub mod Finding

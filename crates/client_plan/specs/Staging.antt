@@ -4,7 +4,7 @@ use Rattle.module_tree.specs.declared.tree.Module.{Module}
 use Rattle.core_model.specs.Names.{Name, at, same_name}
 use Rattle.core_model.specs.Page.{Plan}
 use Rattle.module_graph.specs.Entries.{put_entry}
-use Rattle.client_plan.specs.declared.reading.Parsed.{Parsed}
+use Rattle.client_plan.specs.declared.fetching.Parsed.{Parsed}
 
 -- the plan has the entry of what was read, and the trees have its tree
 pub record HasStaged (n : Name) (version : ℕ) (found : Parsed) (before : Plan) (old : List (Name × Module))

@@ -1,6 +1,5 @@
-// A text came for the plan under way: it is staged, and the plan goes on from where it stood; or it can't be
-// read, and the plan can't be carried out.
-ghost use Rattle.std.specs.Prelude.{◌≡◌, ◌≤◌, Bool, Some, true, if◌then◌else◌, length, OnOk};
+// A text that came for the plan under way was read: it is staged, and the plan goes on from where it stood.
+ghost use Rattle.std.specs.Prelude.{◌≡◌, Bool, Some, true, if◌then◌else◌, OnOk};
 ghost use Rattle.update_msgs.specs.Writable.{IsVersion};
 ghost use Rattle.module_semantics.specs.ModuleText.{parsing};
 ghost use Rattle.module_tree.specs.Tree.{module_of};
@@ -10,61 +9,38 @@ ghost use Rattle.core_model.specs.Sources.{Text};
 ghost use Rattle.core_model.specs.View.{imports_of};
 ghost use Rattle.client_model.specs.Linking.{next_needed};
 ghost use Rattle.client_model.specs.Runtime.{Runtime};
-ghost use Rattle.module_language.specs.ModuleLanguage.{module_in, module_language};
+ghost use Rattle.module_language.specs.ModuleLanguage.{module_in};
 ghost use Rattle.client_plan.specs.Planned.{IsPlanned};
 ghost use Rattle.client_plan.specs.Staging.{HasStaged};
 ghost use Rattle.page_plan.specs.Plans.{IsSamePlan};
-ghost use Rattle.client_plan.specs.UnderWay.{HasTrees, IsFetched, IsNext, IsUnderWay, IsWalk, plan_with};
+ghost use Rattle.client_plan.specs.UnderWay.{HasTrees, IsNext, IsUnderWay, IsWalk, plan_with};
 ghost use Rattle.client_plan.specs.UnderWay.{runtime_with};
 ghost use Rattle.client_plan.specs.Whole.{IsWalkFetched};
 
-use crate::cause::Cause;
 use crate::planning::next_after;
 use crate::putting::put;
-use crate::reading::{Parsed, read};
 use crate::under_way::UnderWay;
-use hmr_types::{Analysis, ModName, Text, Ver};
+use hmr_types::{Analysis, ModName, Ver};
 use module_graph::{View, copy_name};
 use module_tree::Module;
 use page_plan::Plan;
 use std::alloc::{AllocError, Global};
 use std::collections::BTreeMap;
 
-impl UnderWay {
-    /// The text of the module that the plan needs came, over a page of these roots and modules: the text is
-    /// read, and the plan goes on from where it stood; or it can't be read, and the plan can't be carried out.
-    /// It takes time linear in the text, and that of what the plan's walk meets next; where the walk is spared
-    /// and the text keeps the module's imports, time linear in the text and in the exports of what it imports.
-    /// It fails only where memory runs out; the plan is then of no more use.
-    pub fn fetched(
-        &mut self,
-        alloc: Global,
-        roots: &[ModName],
-        view: &View,
-        name: &ModName,
-        version: Ver,
-        text: &Text,
-    ) -> Result<(), AllocError>
-        requires short { length text.now ≤ 4294967294 }
-        ensures under_way { (r : Runtime) (p : Plan) → r.roots ≡ roots.now → r.page.view ≡ view.now
-            → IsUnderWay r p self.old → next_needed p r ≡ Some name.now
-            → OnOk result (IsFetched (module_language.transformed name.now text.now)
-            r p name.now version text.now self.new) }
-        ensures planned { (loaded : Bool) → IsPlanned loaded self.old → IsVersion version
-            → OnOk result (IsPlanned loaded self.new) }
-    {
-        match read(alloc, name, text.as_str().as_bytes())? {
-            Some(found) => self.add_text(alloc, roots, view, name, version, found),
-            None => {
-                let cause = Cause::Broken(copy_name(name)?);
-                put(&mut self.cause, Some(cause));
-                Ok(())
-            }
-        }
-    }
+/// What the text of a module reads as, and what analysis tells of that.
+#[derive(Drop)]
+pub struct Parsed {
+    pub tree: Module,
+    pub analysis: Analysis,
+}
 
-    // Keeps a text that was read, and goes on.
-    fn add_text(
+impl UnderWay {
+    /// The text of the module that the plan needs came, over a page of these roots and modules, and this is what
+    /// it reads as: it is kept, and the plan goes on from where it stood. It takes the time of what the plan's
+    /// walk meets next; where the walk is spared and the text keeps the module's imports, time in proportion to
+    /// the text's tree and to the exports of what it imports. It fails only where memory runs out; the plan is
+    /// then of no more use.
+    pub fn add_text(
         &mut self,
         alloc: Global,
         roots: &[ModName],

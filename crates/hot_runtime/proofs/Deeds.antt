@@ -18,13 +18,14 @@ use Rattle.client_model.specs.Runtime.{Runtime, Did, for_each}
 use Rattle.module_language.specs.ModuleLanguage.{module_language}
 use Rattle.page_lifecycle.specs.Live.{number_of}
 use Rattle.page_lifecycle.specs.Standing as deeds
-use Rattle.page_lifecycle.specs.Standing.{Follows, Orderly, StaysElsewhere}
+use Rattle.live_instances.specs.Orderly.{Orderly}
+use Rattle.page_lifecycle.specs.Standing.{Follows, StaysElsewhere}
 use Rattle.page_lifecycle.specs.declared.page.Page.{Page}
 use Rattle.page_lifecycle.proofs.Gone.{none_meant, none_stays}
 use Rattle.client_plan.specs.declared.under_way.UnderWay.{UnderWay}
-use Rattle.client_plan.proofs.Counting.{IsCounted}
-use Rattle.client_plan.proofs.Living.{heard_counts, live_apart, live_there, pruned_counts, there_reversed}
-use Rattle.client_plan.proofs.Sounding.{counted_of, unsent_of, versions_of}
+use Rattle.live_instances.proofs.Counting.{IsCounted}
+use Rattle.live_instances.proofs.Living.{heard_counts, live_apart, live_there, pruned_counts, there_reversed}
+use Rattle.plan_changes.proofs.Sounding.{counted_of, unsent_of, versions_of}
 use Rattle.hot_runtime.specs.Becoming.{Becomes}
 use Rattle.hot_runtime.specs.Standing.{IsPlan, IsSound, Keeps}
 use Rattle.hot_runtime.specs.declared.runtime.HotRuntime.{HotRuntime}

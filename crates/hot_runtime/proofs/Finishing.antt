@@ -26,12 +26,13 @@ use Rattle.page_lifecycle.specs.declared.page.Page.{Page}
 use Rattle.page_lifecycle.specs.Live.{number_of}
 use Rattle.page_lifecycle.proofs.Following.{lines_then}
 use Rattle.hmr_types.specs.declared.words.PlanKind.{PlanKind}
-use Rattle.client_plan.specs.Changing.{AreCountedIn, HasChanged, page_done}
-use Rattle.client_plan.specs.Finding.{IsFound, IsFoundFor, IsPageOf, IsToApply}
+use Rattle.plan_changes.specs.Changing.{HasChanged, page_done}
+use Rattle.plan_changes.specs.Finding.{IsFound, IsFoundFor, IsPageOf, IsToApply}
+use Rattle.live_instances.specs.Counted.{AreCountedIn}
 use Rattle.client_plan.specs.Planned.{AreCounted, IsPlanned}
 use Rattle.client_plan.specs.UnderWay.{IsNext, IsReady, IsUnderWay, is_applied_told}
 use Rattle.client_plan.specs.Whole.{IsWhole}
-use Rattle.client_plan.specs.declared.finding.Found.{Found}
+use Rattle.plan_changes.specs.declared.finding.Found.{Found}
 use Rattle.client_plan.specs.declared.under_way.Next.{Next}
 use Rattle.client_plan.specs.declared.under_way.Next.TheVariants.{Fetch, Finish}
 use Rattle.client_plan.specs.declared.under_way.Ready.{Ready}

@@ -16,7 +16,7 @@ use Rattle.client_model.specs.Running.{drop_each, end_instance, give_up_bag, no_
 use Rattle.client_model.specs.Runtime.{Did, Runtime}
 use Rattle.client_model.proofs.Acts.{handled_hear, handled_run_each}
 use Rattle.module_language.specs.ModuleLanguage.{module_language}
-use Rattle.page_lifecycle.specs.Live.{without_number}
+use Rattle.live_instances.specs.Orderly.{without_number}
 use Rattle.page_lifecycle.proofs.Gone.{KeepsLive, Loses, drop_keeps, end_loses, handled_keeps}
 
 -- what hears an event stays live

@@ -10,7 +10,7 @@ use Rattle.core_model.proofs.Naming.{both_true, head_has, tail_has, true_same}
 use Rattle.core_model.proofs.Rising.{tail_rises}
 use Rattle.client_model.specs.Runtime.{Runtime}
 use Rattle.client_model.specs.Stale.{stale_from, stale_of}
-use Rattle.page_lifecycle.specs.Showing.{stale_among}
+use Rattle.page_showing.specs.Showing.{stale_among}
 use Rattle.page_plan.proofs.Making.{behind, below_apart}
 use Rattle.hot_runtime.specs.Showing.{stale_row}
 

@@ -9,10 +9,10 @@ use Rattle.core_model.specs.View.{View}
 use Rattle.client_model.specs.Runtime.{Runtime}
 use Rattle.page_plan.specs.Plans.{IsSamePlan}
 use Rattle.page_lifecycle.specs.declared.page.Page.{Page}
-use Rattle.client_plan.specs.Changing.{HasChanged, page_done}
-use Rattle.client_plan.specs.Finding.{IsFoundIn, IsPageOf, IsToApply}
+use Rattle.plan_changes.specs.Changing.{HasChanged, page_done}
+use Rattle.plan_changes.specs.Finding.{IsFoundIn, IsPageOf, IsToApply}
 use Rattle.client_plan.specs.UnderWay.{IsReady}
-use Rattle.client_plan.specs.declared.finding.Found.{Found}
+use Rattle.plan_changes.specs.declared.finding.Found.{Found}
 use Rattle.client_plan.specs.declared.under_way.Next.TheVariants.{Finish}
 use Rattle.client_plan.specs.declared.under_way.Ready.{Ready}
 use Rattle.client_plan.specs.declared.under_way.UnderWay.{UnderWay}

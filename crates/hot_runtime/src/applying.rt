@@ -7,8 +7,8 @@ ghost use Rattle.client_model.specs.Requesting.{request};
 ghost use Rattle.client_model.specs.Runtime.{Runtime};
 ghost use Rattle.module_language.specs.ModuleLanguage.{module_language};
 ghost use Rattle.page_lifecycle.specs.Standing.{KeepWords, StandsFor};
-ghost use Rattle.client_plan.specs.Changing.{CanChange};
-ghost use Rattle.client_plan.specs.Finding.{IsFound};
+ghost use Rattle.plan_changes.specs.Changing.{CanChange};
+ghost use Rattle.plan_changes.specs.Finding.{IsFound};
 ghost use Rattle.client_plan.specs.UnderWay.{is_applied_told};
 ghost use Rattle.hot_runtime.specs.Applying.{IsApplied, IsTurned};
 ghost use Rattle.hot_runtime.specs.Becoming.{Becomes};
@@ -16,12 +16,13 @@ ghost use Rattle.hot_runtime.specs.Standing.{HasRoom, IsSound, Keeps, KeepsWords
 ghost use Rattle.client_plan.specs.declared.under_way.UnderWay.{UnderWay};
 
 use crate::runtime::HotRuntime;
-use client_plan::{Found, UnderWay, change_page, put};
+use client_plan::{UnderWay, put};
 use const_eval::Ran;
 use hmr_types::ModName;
 use module_graph::View;
 use output_lines::OutLine;
 use page_lifecycle::Page;
+use plan_changes::{Found, change_page, find};
 use retained_data::Bag;
 use std::alloc::{AllocError, Global};
 
@@ -72,7 +73,7 @@ fn turned<F>(
 {
     match plan {
         Some(plan) => {
-            let found = plan.find(alloc, page, view, forced)?;
+            let found = find(plan, alloc, page, view, forced)?;
             plan.renew(view)?;
             Ok(found)
         }

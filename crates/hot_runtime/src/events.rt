@@ -14,6 +14,7 @@ use crate::runtime::HotRuntime;
 use const_eval::Ran;
 use hmr_types::{ModName, Value};
 use output_lines::OutLine;
+use prunes_and_events::hear_all;
 use retained_data::Bag;
 use std::alloc::AllocError;
 
@@ -81,7 +82,7 @@ impl<F: FnOnce(Bag) -> Result<Ran, AllocError> + Drop> HotRuntime<F> {
     {
         let alloc = self.allocator();
         let mut lines = Vec::new(alloc);
-        self.page.hear_all(alloc, name, value, &mut lines)?;
+        hear_all(&mut self.page, alloc, name, value, &mut lines)?;
         Ok(lines)
     }
 }

@@ -16,6 +16,7 @@ ghost use Rattle.hot_runtime.specs.Standing.{IsSound, Keeps};
 use crate::runtime::HotRuntime;
 use client_plan::UnderWay;
 use const_eval::Ran;
+use fetched_texts::fetched;
 use hmr_types::{ModName, Text, Ver};
 use module_graph::View;
 use output_lines::OutLine;
@@ -71,7 +72,7 @@ fn stage_for(
         → OnOk result (IsStagedIn u roots.now view.now name.now version text.now plan.new) }
 {
     match plan {
-        Some(plan) => plan.fetched(alloc, roots, view, name, version, text),
+        Some(plan) => fetched(plan, alloc, roots, view, name, version, text),
         None => Ok(()),
     }
 }

@@ -14,6 +14,7 @@ use const_eval::Ran;
 use hmr_types::{ModName, Sequence};
 use module_graph::has_name;
 use output_lines::OutLine;
+use prunes_and_events::prune_all;
 use retained_data::Bag;
 use std::alloc::AllocError;
 
@@ -33,7 +34,7 @@ impl<F: FnOnce(Bag) -> Result<Ran, AllocError> + Drop> HotRuntime<F> {
         let alloc = self.allocator();
         let names = paths.as_slice();
         let mut lines = Vec::new(alloc);
-        self.page.prune_all(alloc, names, &mut lines)?;
+        prune_all(&mut self.page, alloc, names, &mut lines)?;
         self.view.drop_names(names);
         self.whole = false;
         drop_forced(&mut self.forced, names);

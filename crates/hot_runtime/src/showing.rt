@@ -15,6 +15,7 @@ use client_plan::table_of;
 use hmr_types::{ModName, Table};
 use module_graph::{copy_of, rising};
 use output_lines::OutLine;
+use page_showing::{fate_lines, tell_stale, value_lines};
 use std::alloc::AllocError;
 
 impl<F> HotRuntime<F> {
@@ -57,8 +58,7 @@ impl<F> HotRuntime<F> {
             Some((name, _, analysis)) => {
                 let imports = copy_of(self.allocator(), analysis.imports.as_slice())?;
                 let imports = rising(imports)?;
-                self.page
-                    .tell_stale(self.allocator(), name, &imports, edges)
+                tell_stale(&self.page, self.allocator(), name, &imports, edges)
             }
             None => Ok(()),
         }
@@ -72,7 +72,7 @@ impl<F> HotRuntime<F> {
     {
         let names = self.view.names(self.allocator())?;
         let names = rising(names)?;
-        self.page.value_lines(self.allocator(), &names)
+        value_lines(&self.page, self.allocator(), &names)
     }
 
     /// The lines of each instance that was made, with its handlers. It takes time in proportion to them.
@@ -80,6 +80,6 @@ impl<F> HotRuntime<F> {
         ensures { (opening : Opening) (past : Past) → StandsFor opening past self.now
             → IfOk result (λ lines. lines.items ≡ fate_lines (runtime_after module_language opening past)) }
     {
-        self.page.fate_lines(self.allocator())
+        fate_lines(&self.page, self.allocator())
     }
 }

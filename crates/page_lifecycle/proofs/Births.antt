@@ -46,7 +46,7 @@ use Rattle.page_lifecycle.specs.Births.{Adds, IsBirth, HasRegistry, Registers, e
 use Rattle.page_lifecycle.specs.Live.{Numbers, number_of, HasNumber}
 use Rattle.page_lifecycle.specs.Standing.{BothOrNone, Matches, StandsFor, StaysElsewhere, Follows, name_at, invalidation_as}
 use Rattle.page_lifecycle.proofs.Following.{follows_as}
-use Rattle.page_lifecycle.proofs.Order.{born_order}
+use Rattle.live_instances.proofs.Order.{born_order}
 use Rattle.page_lifecycle.proofs.Runs.{bag_back, bounds_seen}
 
 -- One more at the end of a list.

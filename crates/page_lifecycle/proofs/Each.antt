@@ -22,9 +22,10 @@ use Rattle.page_instances.specs.declared.instance.Instance.{Instance}
 use Rattle.page_instances.specs.Scopes.{kept_at}
 use Rattle.page_lifecycle.specs.declared.page.Page.{Page}
 use Rattle.page_lifecycle.specs.Each.{HasNew, is_live_of, falling, live_places, StandAt, FollowsEach, EachBegins}
-use Rattle.page_lifecycle.specs.Standing.{BothOrNone, NumbersFall, StandsFor, Follows, name_at}
+use Rattle.live_instances.specs.Orderly.{NumbersFall}
+use Rattle.page_lifecycle.specs.Standing.{BothOrNone, StandsFor, Follows, name_at}
 use Rattle.page_lifecycle.proofs.Following.{follows_nothing, follows_more}
-use Rattle.page_lifecycle.proofs.Order.{itself}
+use Rattle.live_instances.proofs.Order.{itself}
 
 -- some instance of a number and a name
 abbrev some_instance : ℕ → Name → model.Instance

@@ -19,9 +19,10 @@ use Rattle.client_model.specs.Running.{after_run, did_run, drop_each, end_instan
 use Rattle.client_model.specs.Runtime.{Runtime, Did, bag_of, for_each}
 use Rattle.module_language.specs.ModuleLanguage.{module_language}
 use Rattle.page_lifecycle.specs.declared.page.Page.{Page}
-use Rattle.page_lifecycle.specs.Live.{number_of, without_number}
-use Rattle.page_lifecycle.specs.Standing.{Orderly, StandsFor, Follows}
-use Rattle.page_lifecycle.proofs.Order.{itself, is_live_as, quiet_number, quiet_order, ended_number, ended_order}
+use Rattle.page_lifecycle.specs.Live.{number_of}
+use Rattle.live_instances.specs.Orderly.{Orderly, without_number}
+use Rattle.page_lifecycle.specs.Standing.{StandsFor, Follows}
+use Rattle.live_instances.proofs.Order.{itself, is_live_as, quiet_number, quiet_order, ended_number, ended_order}
 
 -- what is live stays so
 pub record KeepsLive (r : Runtime) (did : Did) : Type 0 where

@@ -1,12 +1,10 @@
 pub mod Numbers
-pub mod Order
 pub mod Matching
 pub mod Standing
 pub mod Following
 pub mod Runs
 pub mod Words
 pub mod Listing
-pub mod Shown
 pub mod Turns
 pub mod Each
 pub mod Meant

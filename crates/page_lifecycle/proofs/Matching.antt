@@ -15,30 +15,10 @@ use Rattle.client_model.specs.Linking.{number_in}
 use Rattle.page_instances.specs.declared.instance.Instance.{Instance}
 use Rattle.page_instances.specs.Scopes.{kept_at}
 use Rattle.page_instances.specs.Seeing.{Sees}
-use Rattle.page_lifecycle.specs.Live.{Numbers, number_of, without_number, LosesNumber}
+use Rattle.live_instances.specs.Orderly.{without_number}
+use Rattle.page_lifecycle.specs.Live.{Numbers, number_of, LosesNumber}
 use Rattle.page_lifecycle.specs.Standing.{BothOrNone, Matches}
-use Rattle.page_lifecycle.proofs.Order.{Quiet, Ends, quiet_number, quiet_order, ended_number, ended_order, live_numbered, live_named}
-
-module _ (f : model.Instance → model.Instance) (same : (i : model.Instance) → (f i).number ≡ i.number) (k : ℕ) where
-  pub changed_here : (is : List model.Instance) → numbered (with_change k f is) k ≡ option_map f (numbered is k)
-  changed_here [] = refl
-  changed_here (i ∷ is) = by (i.number == k) refl (changed_here is)
-    where
-      by : (b : Bool) → (i.number == k) ≡ b → numbered (with_change k f is) k ≡ option_map f (numbered is k)
-          → cond ((if b then f i else i).number == k) (Some (if b then f i else i)) (numbered (with_change k f is) k) ≡ option_map f (cond b (Some i) (numbered is k))
-      by true e rest = ap (λ c. cond c (Some (f i)) (numbered (with_change k f is) k)) (ap (λ j. j == k) (same i) ∙ e)
-      by false e rest = ap (λ c. cond c (Some i) (numbered (with_change k f is) k)) e ∙ rest
-
-  pub changed_elsewhere : (m : ℕ) → (m == k) ≡ false → (is : List model.Instance) → numbered (with_change m f is) k ≡ numbered is k
-  changed_elsewhere m other [] = refl
-  changed_elsewhere m other (i ∷ is) = by (i.number == m) refl (changed_elsewhere m other is)
-    where
-      by : (b : Bool) → (i.number == m) ≡ b → numbered (with_change m f is) k ≡ numbered is k
-          → cond ((if b then f i else i).number == k) (Some (if b then f i else i)) (numbered (with_change m f is) k) ≡ cond (i.number == k) (Some i) (numbered is k)
-      by true e rest =
-          let apart : (i.number == k) ≡ false = ap (λ j. j == k) (eqb-true i.number m e) ∙ other in
-          ap (λ c. cond c (Some (f i)) (numbered (with_change m f is) k)) (ap (λ j. j == k) (same i) ∙ apart) ∙ rest ∙ ap (λ c. cond c (Some i) (numbered is k)) (sym apart)
-      by false e rest = ap (cond (i.number == k) (Some i)) rest
+use Rattle.live_instances.proofs.Order.{Quiet, Ends, changed_elsewhere, changed_here, quiet_number, quiet_order, ended_number, ended_order, live_numbered, live_named}
 
 pub set_same : {X : Type 0} (xs : List X) (i : ℕ) (w x : X) → slice_get xs i ≡ Some x → slice_get (slice_set xs i w) i ≡ Some w
 set_same [] i w x h = absurd (none-some x h)

@@ -37,7 +37,8 @@ use Rattle.page_lifecycle.specs.Live.{number_of}
 use Rattle.page_lifecycle.specs.Settling.{Settles, left_by, live_in, kept_by, version_in, invalidated, exports_of, own_count, own_left}
 use Rattle.page_lifecycle.specs.Standing.{BothOrNone, Matches, StandsFor, StaysElsewhere, Follows, name_at, invalidation_as}
 use Rattle.page_lifecycle.proofs.Following.{lines_then, elsewhere_then}
-use Rattle.page_lifecycle.proofs.Matching.{Found, found, matches_changed, changed_here, set_same, set_other, set_twice}
+use Rattle.live_instances.proofs.Order.{changed_here}
+use Rattle.page_lifecycle.proofs.Matching.{Found, found, matches_changed, set_same, set_other, set_twice}
 use Rattle.page_lifecycle.proofs.Standing.{names_at, version_seen, live_seen}
 
 -- What code reads.

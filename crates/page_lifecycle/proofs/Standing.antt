@@ -25,7 +25,7 @@ use Rattle.page_lifecycle.specs.Settling.{kept_by, live_in, version_in}
 use Rattle.page_lifecycle.specs.Standing.{BothOrNone, Matches, StandsFor, Follows, name_at, invalidation_as}
 use Rattle.handler_table.specs.Shelf.{marks_of}
 use Rattle.page_lifecycle.proofs.Matching.{Found, found, set_same, set_other, matches_changed, matches_ended}
-use Rattle.page_lifecycle.proofs.Order.{by_number, live_is}
+use Rattle.live_instances.proofs.Order.{by_number, live_is}
 
 -- the instance of a place was set; live numbers and bags may differ too
 pub record SetAt {F : Type 0} (place : ℕ) (p q : Page F) (c d : Instance F) : Type 0 where

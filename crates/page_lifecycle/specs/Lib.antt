@@ -3,7 +3,6 @@ pub mod Standing
 pub mod Births
 pub mod Settling
 pub mod Telling
-pub mod Showing
 pub mod Each
 pub mod Tellings
 pub mod EachBirth

@@ -1,6 +1,7 @@
 -- The numbers of live instances, by name.
-use Rattle.std.specs.Prelude.{◌≡◌, ◌==◌, ℕ, if◌then◌else◌, List, Option, Some, None, bytes_eq}
+use Rattle.std.specs.Prelude.{◌≡◌, ℕ, if◌then◌else◌, List, Option, bytes_eq}
 use Rattle.module_semantics.specs.Entries.{entry_at}
+use Rattle.live_instances.specs.Orderly.{without_number}
 
 -- names with their numbers
 abbrev pub Numbers : Type 0
@@ -14,11 +15,6 @@ number_of numbers name = entry_at name numbers
 abbrev pub HasNumber : List ℕ → Option ℕ → Numbers → Numbers → Type 0
 HasNumber name number before after = (n : List ℕ)
     → number_of after n ≡ (if bytes_eq n name then number else number_of before n)
-
--- the number, none where it is this one
-abbrev pub without_number : ℕ → Option ℕ → Option ℕ
-without_number k None = None
-without_number k (Some m) = if m == k then None else Some m
 
 -- afterwards the name lacks this number, if it had it, and all else is as before
 abbrev pub LosesNumber : List ℕ → ℕ → Numbers → Numbers → Type 0

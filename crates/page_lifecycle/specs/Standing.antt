@@ -1,14 +1,13 @@
 -- What a page stands for, and what a deed of the code follows. A page and a runtime of the model agree by
 -- number and by name, never by the order of a list.
-use Rattle.std.specs.Prelude.{◌≡◌, ◌==◌, ◌&&◌, [], ◌∷◌, ◌++◌}
-use Rattle.std.specs.Prelude.{ℕ, suc, true, List, length, map, slice_get, Option, Some, None}
+use Rattle.std.specs.Prelude.{◌≡◌, ◌++◌, ℕ, List, length, map, slice_get, Option, Some, None}
 use Rattle.std.specs.Option.{option_map}
 use Rattle.std.specs.List.{All}
 use Prim.{⊥}
 use Rattle.output_lines.specs.declared.out_line.OutLine.{OutLine}
-use Rattle.core_model.specs.Names.{Name, same_name}
+use Rattle.core_model.specs.Names.{Name}
 use Rattle.client_model.specs.Instance as model
-use Rattle.client_model.specs.Instance.{numbered, live_at, is_live}
+use Rattle.client_model.specs.Instance.{numbered, live_at}
 use Rattle.client_model.specs.Journal.{lines_of_all}
 use Rattle.client_model.specs.Linking.{number_in}
 use Rattle.client_model.specs.Runtime as runtime
@@ -17,6 +16,7 @@ use Rattle.handler_table.specs.Held.{Answers, IsHost}
 use Rattle.handler_table.specs.Handlers.{KeepTheirWord}
 use Rattle.handler_table.specs.Shelf.{marks_of}
 use Rattle.retained_data.specs.Bags as kept
+use Rattle.live_instances.specs.Orderly.{Orderly}
 use Rattle.page_instances.specs.declared.instance.Instance.{Instance}
 use Rattle.page_instances.specs.Scopes.{kept_at}
 use Rattle.page_instances.specs.Seeing.{Sees}
@@ -30,21 +30,6 @@ BothOrNone None None = Unit {0}
 BothOrNone None (Some c) = ⊥
 BothOrNone (Some i) None = ⊥
 BothOrNone (Some i) (Some c) = Sees i c
-
--- the numbers of instances fall by one to 1
-abbrev pub NumbersFall : List model.Instance → Type 0
-NumbersFall [] = Unit {0}
-NumbersFall (i ∷ is) = (i.number ≡ suc (length is)) × NumbersFall is
-
--- what is live under this name has number k
-abbrev pub OnlyLive : ℕ → Name → List model.Instance → Type 0
-OnlyLive k n [] = Unit {0}
-OnlyLive k n (i ∷ is) = ((is_live i && same_name i.name n) ≡ true → (i.number == k) ≡ true) × OnlyLive k n is
-
--- instances stand by falling number, and a name has at most one that is live
-pub record Orderly (is : List model.Instance) : Type 0 where
-  pub numbers : NumbersFall is
-  pub single : (n : Name) (k : ℕ) → number_in (live_at is n) ≡ Some k → OnlyLive k n is
 
 -- an invalidation as the model has it
 abbrev pub invalidation_as : Invalidation → runtime.Invalidation

@@ -110,8 +110,12 @@ impl<F: FnOnce(Bag) -> Result<Ran, AllocError> + Drop> Page<F> {
         Ok(())
     }
 
-    /// The callbacks on dependencies that list the name are run, in the order in which they came.
-    pub(crate) fn run_listing(
+    /// The callbacks on dependencies of the instance at a place that list the name are run, in the order in
+    /// which they came. Each gets what is given for the name at the places where it lists it, and
+    /// `undefined` at the others. Adds their lines. It fails only where memory runs out; the page can't be
+    /// used then. It takes time in proportion to the callbacks that the instance holds and to what those
+    /// that are run do.
+    pub fn run_listing(
         &mut self,
         alloc: Global,
         place: usize,

@@ -1,16 +1,13 @@
-// The callbacks of an instance on its dependencies that list a name are run: they were given a new instance
-// of that dependency, or an event was fired under the name.
+// The callbacks of an instance that list one of its dependencies are run: it got a new instance.
 ghost use Rattle.std.specs.Prelude.{◌≡◌, ◌<◌, suc, Some, length, OnOk};
 ghost use Rattle.client_model.specs.Applying.{run_dep};
-ghost use Rattle.client_model.specs.Firing.{hear_event};
-ghost use Rattle.client_model.specs.Instance as model;
 ghost use Rattle.module_language.specs.ModuleLanguage.{module_language};
 ghost use Rattle.page_lifecycle.specs.Standing.{Follows, KeepWords};
 
 use crate::given::Given;
 use crate::page::Page;
 use const_eval::Ran;
-use hmr_types::{ModName, Value};
+use hmr_types::ModName;
 use output_lines::OutLine;
 use retained_data::Bag;
 use std::alloc::{AllocError, Global};
@@ -37,33 +34,6 @@ impl<F: FnOnce(Bag) -> Result<Ran, AllocError> + Drop> Page<F> {
     {
         let given = Given::Live;
         self.run_listing(alloc, place, name, &given, lines)?;
-        Ok(())
-    }
-
-    /// The callbacks of the instance at a place that list this event are run, in the order in which they
-    /// came. Each is given a module whose one export `data` is the value at the places where it lists the
-    /// event, and `undefined` at the others. Adds their lines. It fails only where memory runs out; the
-    /// page can't be used then.
-    pub fn hear_event(
-        &mut self,
-        alloc: Global,
-        place: usize,
-        event: &ModName,
-        value: &Value,
-        lines: &mut Vec<OutLine>,
-    ) -> Result<(), AllocError>
-        requires place { place < length self.old.instances.items }
-        requires callable { (f : F) → F.IsAlwaysCallable f }
-        requires words { KeepWords F.post self.old }
-        ensures count { OnOk result (length self.new.instances.items ≡ length self.old.instances.items) }
-        ensures words { OnOk result (KeepWords F.post self.new) }
-        ensures follows { (i : model.Instance) → i.number ≡ suc place
-            → OnOk result (Follows (hear_event module_language event.now value.now i)
-            self.old self.new lines.old.items lines.new.items) }
-    {
-        let copy = value.clone()?;
-        let given = Given::Event(copy);
-        self.run_listing(alloc, place, event, &given, lines)?;
         Ok(())
     }
 }

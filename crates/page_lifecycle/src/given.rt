@@ -13,7 +13,7 @@ use std::alloc::{AllocError, Global};
 
 /// What a callback gets for a name that it lists.
 #[derive(Drop)]
-pub(crate) enum Given {
+pub enum Given {
     /// The live module of the name.
     Live,
     /// A module whose one export `data` is this value.

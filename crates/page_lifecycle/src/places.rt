@@ -10,7 +10,7 @@ use std::alloc::{AllocError, Global};
 
 /// Which of the live instances are meant.
 #[derive(Drop)]
-pub(crate) enum Whose {
+pub enum Whose {
     /// All of them.
     All,
     /// Those that have one of these names.
@@ -40,12 +40,8 @@ fn add_place(places: &mut Vec<usize>, place: usize, is_meant: bool) -> Result<()
 
 impl<F> Page<F> {
     /// The places of the live instances that are meant, rising. It takes time in proportion to the number
-    /// of instances, and to the logarithm of the number of names.
-    pub(crate) fn rising_places(
-        &self,
-        alloc: Global,
-        whose: &Whose,
-    ) -> Result<Vec<usize>, AllocError>
+    /// of instances, and to the logarithm of the number of names. It fails only where memory runs out.
+    pub fn rising_places(&self, alloc: Global, whose: &Whose) -> Result<Vec<usize>, AllocError>
         ensures { IfOk result (λ places. places.items ≡ reverse (live_places (is_of whose.now) self.now)) }
     {
         let mut places = Vec::new(alloc);
@@ -56,11 +52,7 @@ impl<F> Page<F> {
     }
 
     /// The same, falling.
-    pub(crate) fn falling_places(
-        &self,
-        alloc: Global,
-        whose: &Whose,
-    ) -> Result<Vec<usize>, AllocError>
+    pub fn falling_places(&self, alloc: Global, whose: &Whose) -> Result<Vec<usize>, AllocError>
         ensures { IfOk result (λ places. places.items ≡ live_places (is_of whose.now) self.now) }
     {
         let mut places = self.rising_places(alloc, whose)?;

@@ -1,5 +1,5 @@
 use Rattle.std.proofs.Math.Path.{subst}
-use Rattle.client_plan.specs.Changing.{HasChanged, page_done}
+use Rattle.plan_changes.specs.Changing.{HasChanged, page_done}
 use Rattle.hot_runtime.proofs.applying.apply_to.Goals as goal
 
 pub returns-clause-applied : goal.returns-clause-applied

@@ -11,8 +11,8 @@ returns-in-Some-clause-none c = λ e. absurd (none-some _ (sym e ∙ c.in-Some.i
 
 pub returns-in-Some-clause-staged : goal.returns-in-Some-clause-staged
 returns-in-Some-clause-staged c = λ u e.
-    subst (λ v. OnOk c.fetched.result (IsStaged v c.args.roots.now c.args.view.now c.args.name.now c.args.version c.args.text.now c.fetched.new.self)) (same_Some _ _ (sym c.in-Some.is ∙ e))
-    (staged_in c.fetched.result c.in-Some.plan c.fetched.new.self c.args.roots.now c.args.view.now c.args.name.now c.args.version c.args.text.now c.fetched.ensures.under_way c.fetched.ensures.planned)
+    subst (λ v. OnOk c.fetched.result (IsStaged v c.args.roots.now c.args.view.now c.args.name.now c.args.version c.args.text.now c.fetched.new.plan)) (same_Some _ _ (sym c.in-Some.is ∙ e))
+    (staged_in c.fetched.result c.in-Some.plan c.fetched.new.plan c.args.roots.now c.args.view.now c.args.name.now c.args.version c.args.text.now c.fetched.ensures.under_way c.fetched.ensures.planned)
 
 pub returns-in-None-clause-staged : goal.returns-in-None-clause-staged
 returns-in-None-clause-staged c = λ u e. absurd (none-some u (sym c.in-None.is ∙ e))

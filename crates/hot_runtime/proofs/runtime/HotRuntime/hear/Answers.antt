@@ -7,5 +7,5 @@ use Rattle.hot_runtime.proofs.runtime.HotRuntime.hear.Goals as goal
 
 pub returns-clause-becomes : goal.returns-clause-becomes
 returns-clause-becomes g c = λ r k s.
-    all_heard c.args.name.now c.args.value.now r c.args.self.now c.hear_all.new.self c.hear_all.new.lines.items k s
-    (subst (λ told. Follows (hear_all module_language c.args.name.now c.args.value.now) c.args.self.now.page c.hear_all.new.self told c.hear_all.new.lines.items) c.new-lines.ensures.items c.in_ok-hear_all.ensures.follows)
+    all_heard c.args.name.now c.args.value.now r c.args.self.now c.hear_all.new.page c.hear_all.new.lines.items k s
+    (subst (λ told. Follows (hear_all module_language c.args.name.now c.args.value.now) c.args.self.now.page c.hear_all.new.page told c.hear_all.new.lines.items) c.new-lines.ensures.items c.in_ok-hear_all.ensures.follows)

@@ -12,8 +12,8 @@ use Rattle.hot_runtime.proofs.runtime.HotRuntime.prune.Goals as goal
 
 pub returns-clause-becomes : goal.returns-clause-becomes
 returns-clause-becomes g c = λ r k s asked.
-    all_pruned c.args.paths r c.args.self.now c.prune_all.new.self c.drop_names.new.self c.drop_forced.new.forced c.prune_all.new.lines.items k s (ask_plan r asked)
-    (subst (λ names. Follows (λ r. for_each (prune_instance module_language) (live_of (has names) r) r) c.args.self.now.page c.prune_all.new.self [] c.prune_all.new.lines.items) c.as_slice-names.ensures
-    (subst (λ told. Follows (λ r. for_each (prune_instance module_language) (live_of (has c.as_slice-names.result.now) r) r) c.args.self.now.page c.prune_all.new.self told c.prune_all.new.lines.items) c.new-lines.ensures.items c.in_ok-prune_all.ensures.follows))
+    all_pruned c.args.paths r c.args.self.now c.prune_all.new.page c.drop_names.new.self c.drop_forced.new.forced c.prune_all.new.lines.items k s (ask_plan r asked)
+    (subst (λ names. Follows (λ r. for_each (prune_instance module_language) (live_of (has names) r) r) c.args.self.now.page c.prune_all.new.page [] c.prune_all.new.lines.items) c.as_slice-names.ensures
+    (subst (λ told. Follows (λ r. for_each (prune_instance module_language) (live_of (has c.as_slice-names.result.now) r) r) c.args.self.now.page c.prune_all.new.page told c.prune_all.new.lines.items) c.new-lines.ensures.items c.in_ok-prune_all.ensures.follows))
     (c.drop_names.ensures ∙ ap (λ names. without_all names c.args.self.now.view) c.as_slice-names.ensures)
     (c.drop_forced.ensures ∙ ap (λ names. filter (λ n. not (has names n)) c.args.self.now.forced.items) c.as_slice-names.ensures)

@@ -3,7 +3,7 @@ use Rattle.std.specs.Prelude.{OnOk}
 use Rattle.std.proofs.Math.Path.{subst}
 use Rattle.std.proofs.lemmas.List.{append-nil}
 use Rattle.core_model.specs.Names.{sorted}
-use Rattle.page_lifecycle.specs.Showing.{stale_among}
+use Rattle.page_showing.specs.Showing.{stale_among}
 use Rattle.hot_runtime.specs.Showing.{stale_row}
 use Rattle.hot_runtime.proofs.runtime.HotRuntime.tell_stale.Goals as goal
 

@@ -5,7 +5,7 @@ use Rattle.output_lines.specs.declared.out_line.OutLine.TheVariants.{Values}
 use Rattle.core_model.specs.Names.{names_of, sorted}
 use Rattle.client_model.specs.Past.{runtime_after}
 use Rattle.module_language.specs.ModuleLanguage.{module_language}
-use Rattle.page_lifecycle.specs.Showing.{values_among}
+use Rattle.page_showing.specs.Showing.{values_among}
 use Rattle.hot_runtime.proofs.runtime.HotRuntime.values.Goals as goal
 
 pub returns : goal.returns

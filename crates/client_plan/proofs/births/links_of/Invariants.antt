@@ -1,6 +1,0 @@
-use Rattle.std.proofs.Common.{◌≡◌, take}
-use Rattle.client_plan.specs.Changing.{links_by}
-use Rattle.client_plan.proofs.births.links_of.Given as goal
-
-abbrev pub invariant-loop-import : goal.invariant-loop-import
-invariant-loop-import l = l.links.items ≡ links_by l.numbers l.live (take l.import-index l.imports)

@@ -1,0 +1,4 @@
+pub mod Order
+pub mod Counting
+pub mod Living
+pub mod Applied

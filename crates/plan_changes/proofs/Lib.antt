@@ -1,0 +1,5 @@
+pub mod Sounding
+pub mod Gathering
+pub mod Making
+pub mod Foreseen
+pub mod Altering
