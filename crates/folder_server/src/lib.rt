@@ -2,26 +2,18 @@
 //! clients over a net, and workers transform the texts.
 //!
 //! [`serve`] is the whole of a task, from the first scan to the report, over an [`Outside`]. Stands on
-//! `folder_watch` for folders, on `hub_editor` for edits, on `server_threads` for the jobs in threads, and on
-//! `serve_reports` for the end. Keeps: what is written is the report of one transcript, which begins with the
-//! first scan and has each later edit once and in order; a status of failure comes only where the count of
-//! what failed rose. A call takes memory only where its result can say that memory ran out. Knows nothing of
-//! the command line, nor of what carries a connection.
+//! `folder_edits` for the edits and the report, whose definitions say what it did and wrote, and on
+//! `server_threads` for the jobs in threads. Keeps: what is written is the report of one transcript, which
+//! begins with the first scan and has each later edit once and in order; a status of failure comes only where
+//! the count of what failed rose. A call takes memory only where its result can say that memory ran out.
+//! Knows nothing of the command line, nor of what carries a connection.
 #![tactic(auto)]
 
-mod changes;
-mod context;
-mod ending;
-mod opening;
 mod outside;
 mod plan;
-mod recording;
-mod rounds;
 mod running;
-mod stop;
 mod top;
 
 pub use outside::Outside;
 pub use plan::{Plan, ServeTask};
-pub use stop::{Limit, ServeStop};
 pub use top::serve;

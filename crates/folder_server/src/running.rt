@@ -1,6 +1,6 @@
 // A server while it runs: jobs are begun, the editor makes the later edits, and all jobs are finished.
-ghost use Rattle.std.specs.Prelude.{◌≡◌, ◌≤◌, ◌⊎◌, ◌+◌, ◌∷◌, [], All, Err, IfErr};
-ghost use Rattle.std.specs.Prelude.{IsOk, IsSome, List, OnOk, Some, false, length, true};
+ghost use Rattle.std.specs.Prelude.{◌≡◌, ◌≤◌, ◌+◌, ◌∷◌, [], All, Err, IfErr, IsSome, OnOk, Some};
+ghost use Rattle.std.specs.Prelude.{false, length, List};
 ghost use Rattle.std.specs.Arc.{arc_value};
 ghost use Rattle.hmr_base.specs.Causes.{Rose};
 ghost use Rattle.hmr_types.specs.declared.limits.TheConstants.{MESSAGE_BYTES};
@@ -9,41 +9,31 @@ ghost use Rattle.handler_table.specs.Held.{IsHost};
 ghost use Rattle.jobs.specs.Begun.{none_begun};
 ghost use Rattle.transform_pool.specs.Passes as pool;
 ghost use Rattle.transform_pool.specs.Roles.{putting};
-ghost use Rattle.hmr_hub.specs.Calls.{SameKnower};
 ghost use Rattle.hmr_hub.specs.Passes.{HasTranscript, IsPassOf, all_given, number_of};
-ghost use Rattle.hmr_hub.specs.declared.pass.Pass.{Pass};
 ghost use Rattle.hub_moves.specs.Moves.{KnowsOwn};
 ghost use Rattle.hub_editor.specs.Edits.{Made, edits_in, length_of};
-ghost use Rattle.hub_editor.specs.Editing.{Edited, HaveLastResults, SameEdits, made_by};
-ghost use Rattle.server_threads.specs.Gathers.{IsGathered};
-ghost use Rattle.folder_server.specs.Causes.{IsSettleCause, IsWorkCause};
-ghost use Rattle.folder_server.specs.Rounds.{MakesEdits};
-ghost use Rattle.folder_server.specs.Running.{Finds, Later};
+ghost use Rattle.crew_plans.specs.Gathers.{IsGathered};
+ghost use Rattle.folder_edits.specs.Causes.{IsWorkCause};
+ghost use Rattle.folder_edits.specs.Running.{Finds, Later};
 
-use crate::context::{Editing, LaterEdits, ServerContext};
 use crate::outside::Outside;
-use crate::rounds::make_edits;
-use crate::stop::ServeStop;
 use const_eval::Ran;
+use crew_plans::CrewPlan;
+use folder_edits::{
+    Editing, LaterEdits, RunEnd, ServeStop, ServerContext, edit_to_the_end, settle_after,
+};
 use folders::Tree;
 use handler_table::Shelf;
 use hmr_hub::{Hub, Pass};
 use hub_editor::Editor;
 use jobs::{Gate, Spawner};
 use retained_data::Bag;
-use server_threads::{Cause, Crew, CrewPlan, Gathered};
+use server_threads::Crew;
 use std::alloc::{AllocError, Global};
 use std::sync::{Arc, Wait};
 use std::thread::Threads;
 use transform_pool::{JobPass, JobQueue};
 use transport::Net;
-
-/// What the jobs of a server have left, and how its work ended.
-#[derive(Drop)]
-pub(crate) struct RunEnd {
-    pub gathered: Gathered,
-    pub ended: Result<(), ServeStop>,
-}
 
 /// What a server works by: the hub and the queue, which its jobs share with it, the pass that puts into the
 /// queue, and what its crew is to begin.
@@ -140,127 +130,4 @@ where
     let gathered = crew.finish_all(&mut outside.net, &mut outside.spawner);
     let ended = settle_after(context, pass, &mut editing.editor, edited);
     RunEnd { gathered, ended }
-}
-
-// The later edits, where all jobs were begun; then the queue is closed, and what it hands back is worked.
-fn edit_to_the_end<T: Tree, R: Wait>(
-    context: &ServerContext<R>,
-    pass: &mut Pass,
-    editing: &mut Editing,
-    tree: &mut T,
-    later: LaterEdits,
-    begun: Result<(), Cause>,
-) -> Result<(), ServeStop>
-    requires of { IsPassOf context.now.caller.hub.now pass.old }
-    requires number { number_of pass.old ≡ 0 }
-    requires may { MayOpen (T.asked tree.old) context.now.folder.now }
-    requires none { made_by editing.old.editor ≡ [] }
-    requires short { All (λ e. length_of e ≤ MESSAGE_BYTES) (edits_in later.script.items) }
-    requires of_queue { pool.IsPassOf editing.old.queue.now editing.old.jobs }
-    requires puts { pool.role_of editing.old.jobs ≡ putting }
-    requires spent { begun ≡ Err Cause.Spent → all_given pass.old ≡ true }
-    ensures of { IsPassOf context.now.caller.hub.now pass.new }
-    ensures same { SameKnower pass.old pass.new }
-    ensures transcript { HasTranscript pass.old → HasTranscript pass.new }
-    ensures edited { (p : Pass) → Edited p pass.old [] → Edited p pass.new (made_by editing.new.editor) }
-    ensures makes { MakesEdits (T.coming tree.old) later.listing (edits_in later.script.items) later.rounds
-        [] (made_by editing.new.editor) result }
-    ensures begun { OnOk result (IsOk begun) }
-    ensures no_other { MayOpen (T.asked tree.new) context.now.folder.now }
-    ensures later { T.faults tree.old ≤ T.faults tree.new }
-    ensures tree_fault { result ≡ Err ServeStop.Tree → Rose (T.faults tree.old) (T.faults tree.new) }
-    ensures fault { result ≡ Err ServeStop.Fault → begun ≡ Err Cause.Fault }
-    ensures cause { IfErr result (IsWorkCause pass.new) }
-{
-    let edited = edit_all(context, pass, editing, tree, later, begun);
-    match edited {
-        Ok(()) => {
-            editing
-                .editor
-                .close(&context.caller, pass, editing.queue, &mut editing.jobs)?;
-            Ok(())
-        }
-        Err(stop) => {
-            close_queue(context.caller.rt, editing.queue, &mut editing.jobs);
-            Err(stop)
-        }
-    }
-}
-
-// The later edits, where all jobs were begun.
-fn edit_all<T: Tree, R: Wait>(
-    context: &ServerContext<R>,
-    pass: &mut Pass,
-    editing: &mut Editing,
-    tree: &mut T,
-    later: LaterEdits,
-    begun: Result<(), Cause>,
-) -> Result<(), ServeStop>
-    requires of { IsPassOf context.now.caller.hub.now pass.old }
-    requires number { number_of pass.old ≡ 0 }
-    requires may { MayOpen (T.asked tree.old) context.now.folder.now }
-    requires none { made_by editing.old.editor ≡ [] }
-    requires short { All (λ e. length_of e ≤ MESSAGE_BYTES) (edits_in later.script.items) }
-    requires of_queue { pool.IsPassOf editing.old.queue.now editing.old.jobs }
-    requires puts { pool.role_of editing.old.jobs ≡ putting }
-    requires spent { begun ≡ Err Cause.Spent → all_given pass.old ≡ true }
-    ensures of { IsPassOf context.now.caller.hub.now pass.new }
-    ensures same { SameKnower pass.old pass.new }
-    ensures transcript { HasTranscript pass.old → HasTranscript pass.new }
-    ensures edited { (p : Pass) → Edited p pass.old [] → Edited p pass.new (made_by editing.new.editor) }
-    ensures makes { MakesEdits (T.coming tree.old) later.listing (edits_in later.script.items) later.rounds
-        [] (made_by editing.new.editor) result }
-    ensures of_queue { pool.IsPassOf editing.new.queue.now editing.new.jobs }
-    ensures puts { (pool.role_of editing.new.jobs).puts ≡ true }
-    ensures begun { OnOk result (IsOk begun) }
-    ensures no_other { MayOpen (T.asked tree.new) context.now.folder.now }
-    ensures later { T.faults tree.old ≤ T.faults tree.new }
-    ensures tree_fault { result ≡ Err ServeStop.Tree → Rose (T.faults tree.old) (T.faults tree.new) }
-    ensures fault { result ≡ Err ServeStop.Fault → begun ≡ Err Cause.Fault }
-    ensures cause { IfErr result (IsWorkCause pass.new) }
-{
-    begun?;
-    make_edits(context, pass, editing, tree, later)
-}
-
-// Closes the queue after a stop. The jobs that it hands back are let go.
-fn close_queue<R: Wait>(rt: &R, queue: &JobQueue, jobs: &mut JobPass)
-    requires of_queue { pool.IsPassOf queue.now jobs.old }
-    requires puts { (pool.role_of jobs.old).puts ≡ true }
-    ensures { (pool.role_of jobs.new).closed ≡ true }
-{
-    for _ in rt.forever() {
-        if queue.close(rt, jobs).is_none() {
-            return;
-        }
-    }
-    unreachable!()
-}
-
-// Settles what is left, where the work went well.
-fn settle_after<R: Wait>(
-    context: &ServerContext<R>,
-    pass: &mut Pass,
-    editor: &mut Editor,
-    ended: Result<(), ServeStop>,
-) -> Result<(), ServeStop>
-    requires of { IsPassOf context.now.caller.hub.now pass.old }
-    requires number { number_of pass.old ≡ 0 }
-    requires knows { KnowsOwn pass.old }
-    ensures of { IsPassOf context.now.caller.hub.now pass.new }
-    ensures same { SameKnower pass.old pass.new }
-    ensures transcript { HasTranscript pass.old → HasTranscript pass.new }
-    ensures edited { (p : Pass) → Edited p pass.old (made_by editor.old)
-        → Edited p pass.new (made_by editor.new) }
-    ensures edits { SameEdits (made_by editor.old) (made_by editor.new) }
-    ensures results { OnOk result ((p : Pass) → Edited p pass.old (made_by editor.old)
-        → HaveLastResults pass.new (made_by editor.new)) }
-    ensures well { OnOk result (IsOk ended) }
-    ensures cause { IfErr result
-        (λ stop. ((ended ≡ Err stop) × (pass.new ≡ pass.old))
-        ⊎ (IsOk ended × IsSettleCause pass.new stop)) }
-{
-    ended?;
-    editor.settle_rest(&context.caller, pass)?;
-    Ok(())
 }

@@ -9,17 +9,17 @@ ghost use Rattle.jobs.specs.Begun.{none_begun};
 ghost use Rattle.transport.specs.declared.net.Asked.{Asked};
 ghost use Rattle.hub_editor.specs.Edits.{edits_in, length_of};
 ghost use Rattle.hmr_hub.specs.declared.pass.Pass.{Pass};
-ghost use Rattle.folder_server.specs.Stops.{last_text};
-ghost use Rattle.folder_server.specs.Serving.{Served, StopsEarly, Wrote, WroteEarly, WroteReport};
+ghost use Rattle.folder_edits.specs.Serving.{Served, StopsEarly, Wrote, WroteEarly, WroteReport};
 
-use crate::context::{LaterEdits, ServerContext};
-use crate::ending::{end_of, write_end};
-use crate::opening::{new_hub, open_folder};
 use crate::outside::Outside;
 use crate::plan::ServeTask;
-use crate::running::{RunEnd, Staff, run};
-use crate::stop::ServeStop;
+use crate::running::{Staff, run};
 use const_eval::Ran;
+use crew_plans::{Clients, CrewPlan, Workers};
+use folder_edits::{
+    LaterEdits, RunEnd, ServeStop, ServerContext, end_of, new_hub, open_folder, write_end,
+    write_last,
+};
 use folders::Tree;
 use handler_table::Shelf;
 use hmr_base::{Sink, write_all};
@@ -27,7 +27,6 @@ use hub_editor::HubCaller;
 use jobs::{Gate, Spawner};
 use module_graph::copy_of;
 use retained_data::Bag;
-use server_threads::{Clients, CrewPlan, Workers};
 use std::alloc::{AllocError, Global};
 use std::sync::{Arc, Wait};
 use std::thread::Threads;
@@ -107,26 +106,6 @@ where
     let ended = serve_folder(rt, alloc, task, outside, gate, shelves);
     write_last(&mut outside.out, ended);
     ended
-}
-
-// Writes the line of a limit, where the server ended by one.
-fn write_last<K: Sink>(out: &mut K, ended: Result<(), ServeStop>)
-    ensures last { WroteEarly ended (K.written out.old) (K.written out.new) (K.faults out.old)
-        (K.faults out.new) }
-    ensures later { K.faults out.old ≤ K.faults out.new }
-{
-    let _ = write_all(out, last_line(ended).as_bytes());
-}
-
-// The line of a limit, where the server ended by one, and nothing else.
-fn last_line(ended: Result<(), ServeStop>) -> &'static str
-    ensures { result.now ≡ last_text ended }
-{
-    match ended {
-        Ok(()) => "",
-        Err(ServeStop::Limit(limit)) => limit.line(),
-        Err(ServeStop::Unwritten | ServeStop::Tree | ServeStop::Fault | ServeStop::NoMemory) => "",
-    }
 }
 
 // The same, but for the line of a limit.

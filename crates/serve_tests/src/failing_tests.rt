@@ -3,7 +3,7 @@
 use crate::page::{Over, Setting, only, plan, served};
 use crate::site::one_module;
 use const_eval::Ran;
-use folder_server::ServeStop;
+use folder_edits::ServeStop;
 use handler_table::host_run;
 use jobs::OpenGate;
 use retained_data::Bag;

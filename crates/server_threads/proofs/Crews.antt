@@ -24,10 +24,10 @@ use Rattle.serve_jobs.specs.declared.job.ServeOut.TheVariants.{Worker as WorkerO
 use Rattle.serve_jobs.specs.ClientEnds.{ending_of}
 use Rattle.serve_jobs.specs.Outs.{JobOf, OutOf, is_unrun}
 use Rattle.serve_reports.specs.declared.log.Log.{Log}
-use Rattle.server_threads.specs.declared.gathered.Gathered.{Gathered}
+use Rattle.crew_plans.specs.declared.gathered.Gathered.{Gathered}
 use Rattle.server_threads.specs.Crews.{GivenUp, IsCrew, RunsOn, Worked}
 use Rattle.server_threads.specs.Ends.{IsDone, ended_by_link, found_full, has_link_fault, is_faulty, is_faulty_end, pass_in}
-use Rattle.server_threads.specs.Gathers.{HasPlace, HasRoom, IsGathered, SomeFull, TakenIn}
+use Rattle.crew_plans.specs.Gathers.{HasPlace, HasRoom, IsGathered, SomeFull, TakenIn}
 
 -- the last of a list, and those before it
 pub all_front : {X : Type 0} (P : X → Type 0) (xs ys : List X) (x : X) → ys ≡ xs ++ x ∷ [] → All P ys → All P xs

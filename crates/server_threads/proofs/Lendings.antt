@@ -14,7 +14,7 @@ use Rattle.std.specs.Global.{Vec}
 use Rattle.jobs.specs.declared.running.Running.{Running}
 use Rattle.server_threads.specs.Crews.{ends_due, ends_held, ends_of}
 use Rattle.server_threads.specs.Ends.{ends_back}
-use Rattle.server_threads.specs.Lendings.{Lends}
+use Rattle.crew_plans.specs.Lendings.{Lends}
 
 pub lends_same : (a b l m : ℕ) → b ≡ a → m ≡ l → Lends a b l m
 lends_same a b l m due lent = λ others h. omega (arith, due, lent, h)

@@ -11,8 +11,8 @@ use Rattle.serve_jobs.specs.declared.job.ServeJob.{ServeJob}
 use Rattle.serve_jobs.specs.declared.job.ServeJob.TheVariants.{Worker, Session}
 use Rattle.serve_jobs.specs.declared.job.ServeOut.{ServeOut}
 use Rattle.serve_jobs.specs.Outs.{HasLeft, IsUntouched, JobOf, OutOf, is_unrun}
-use Rattle.server_threads.specs.declared.gathered.Gathered.{Gathered}
-use Rattle.server_threads.specs.Gathers.{HasRoom, IsGathered}
+use Rattle.crew_plans.specs.declared.gathered.Gathered.{Gathered}
+use Rattle.crew_plans.specs.Gathers.{HasRoom, IsGathered}
 
 -- how many passes there are once all jobs are finished: each worker and each session gives one back
 abbrev pub passes_due : {J : Type 0} → Vec J → Gathered → ℕ

@@ -14,18 +14,17 @@ ghost use Rattle.transform_pool.specs.Roles.{taking};
 ghost use Rattle.hmr_hub.specs.Passes.{IsPassOf, all_given};
 ghost use Rattle.handler_table.specs.Held.{IsHost};
 ghost use Rattle.serve_jobs.specs.Clients.{IsReady};
-ghost use Rattle.server_threads.specs.Begun.{HasBegun};
+ghost use Rattle.crew_plans.specs.Begun.{HasBegun};
 ghost use Rattle.server_threads.specs.Crews.{IsCrew, ends_due, logs_due, passes_due};
-ghost use Rattle.server_threads.specs.Gathers.{Gathers};
-ghost use Rattle.server_threads.specs.Lendings.{Lends};
-ghost use Rattle.server_threads.specs.Splits.{Divided, IsSpentBy};
+ghost use Rattle.crew_plans.specs.Gathers.{Gathers};
+ghost use Rattle.crew_plans.specs.Lendings.{Lends};
+ghost use Rattle.crew_plans.specs.Splits.{Divided, IsSpentBy};
 
-use crate::cause::Cause;
-use crate::crew::{Crew, reserve_place};
+use crate::crew::Crew;
 use crate::ends::hang_up;
-use crate::plan::{Clients, CrewPlan, Workers};
-use crate::shelves::take_shelf;
+use crate::taking::take_client;
 use const_eval::Ran;
+use crew_plans::{Cause, Clients, CrewPlan, Workers, reserve_place, take_shelf};
 use handler_table::Shelf;
 use hmr_hub::Pass;
 use jobs::{Gate, Spawner};
@@ -334,7 +333,7 @@ where
         let job = ClientJob::new(opening, end, turns);
         match start_client(&self.rt, self.alloc, spawner, job) {
             Ok(running) => self.clients.push_reserved(running),
-            Err(end) => self.gathered.take_client(net, end),
+            Err(end) => take_client(&mut self.gathered, net, end),
         }
         Ok(())
     }

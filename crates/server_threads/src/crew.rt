@@ -1,17 +1,17 @@
 // A crew, and how one job is begun.
-ghost use Rattle.std.specs.Prelude.{◌≡◌, ◌≢◌, ◌≤◌, ◌<◌, ◌+◌, IfErr, IfOk, OnOk, false, sum, vec_len};
+ghost use Rattle.std.specs.Prelude.{◌≡◌, ◌≢◌, ◌≤◌, ◌<◌, ◌+◌, IfErr, IfOk, OnOk, false, sum};
 ghost use Rattle.std.specs.Arc.{arc_value};
 ghost use Rattle.jobs.specs.Begun.{most_starts, one_more};
 ghost use Rattle.hmr_hub.specs.Passes.{IsPassOf, all_given, hub_mark};
 ghost use Rattle.serve_jobs.specs.Outs.{JobOf, kind_of};
 ghost use Rattle.server_threads.specs.Crews.{IsCrew, ends_due, ends_of, logs_due, passes_due};
-ghost use Rattle.server_threads.specs.Gathers.{Gathers, HasPlace, HasRoom, SameGathered};
-ghost use Rattle.server_threads.specs.Lendings.{Lends};
-ghost use Rattle.server_threads.specs.Splits.{Divided, IsSpentBy};
+ghost use Rattle.crew_plans.specs.Gathers.{Gathers, HasPlace, SameGathered};
+ghost use Rattle.crew_plans.specs.Lendings.{Lends};
+ghost use Rattle.crew_plans.specs.Splits.{Divided, IsSpentBy};
 
-use crate::cause::Cause;
-use crate::gathered::Gathered;
+use crate::taking::take_in;
 use const_eval::Ran;
+use crew_plans::{Cause, Gathered, reserve_place};
 use hmr_hub::{Hub, Pass};
 use jobs::{Gate, Job, Running, Spawner, start};
 use retained_data::Bag;
@@ -122,19 +122,7 @@ where
     {
         match start(&self.rt, self.alloc, spawner, job) {
             Ok(running) => self.running.push_reserved(running),
-            Err(out) => self.gathered.take_in(net, out),
+            Err(out) => take_in(&mut self.gathered, net, out),
         }
     }
-}
-
-// Makes room for one more job, and for what it leaves.
-pub(crate) fn reserve_place<J, T>(running: &mut Vec<J>, left: &mut Vec<T>) -> Result<(), AllocError>
-    ensures running { running.new.items ≡ running.old.items }
-    ensures left { left.new.items ≡ left.old.items }
-    ensures counts { (vec_len running.new ≡ vec_len running.old) × (vec_len left.new ≡ vec_len left.old) }
-    ensures room { HasRoom running.old left.old → HasRoom running.new left.new }
-    ensures place { OnOk result (HasPlace running.new left.new) }
-{
-    running.reserve(1)?;
-    left.reserve(running.len() + 1)
 }

@@ -3,12 +3,13 @@ ghost use Rattle.std.specs.Prelude.{◌≡◌, ◌<◌, ◌+◌, ◌-◌, length
 ghost use Rattle.std.specs.List.{All, sum_by};
 ghost use Rattle.std.specs.Arc.{arc_value};
 ghost use Rattle.server_threads.specs.Crews.{IsCrew, RunsOn, ends_due, ends_held, logs_due, passes_due};
-ghost use Rattle.server_threads.specs.Gathers.{Gathers, HasRoom, IsGathered};
-ghost use Rattle.server_threads.specs.Lendings.{Lends};
+ghost use Rattle.crew_plans.specs.Gathers.{Gathers, HasRoom, IsGathered};
+ghost use Rattle.crew_plans.specs.Lendings.{Lends};
 
 use crate::crew::Crew;
-use crate::gathered::Gathered;
+use crate::taking::{take_client, take_in};
 use const_eval::Ran;
+use crew_plans::Gathered;
 use hmr_hub::Hub;
 use jobs::{Gate, Running, Spawner, finish};
 use retained_data::Bag;
@@ -114,7 +115,7 @@ where
 {
     let _hub = hub;
     let out = finish(rt, spawner, running);
-    gathered.take_in(net, out);
+    take_in(gathered, net, out);
 }
 
 // Waits for the end of each client, in the order in which they were begun.
@@ -168,5 +169,5 @@ where
     ensures begun { P.begun spawner.new ≡ P.begun spawner.old }
 {
     let end = finish_client(rt, spawner, running);
-    gathered.take_client(net, end);
+    take_client(gathered, net, end);
 }

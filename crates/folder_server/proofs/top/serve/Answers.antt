@@ -1,4 +1,4 @@
-use Rattle.folder_server.proofs.Serving.{serve_wrote}
+use Rattle.folder_edits.proofs.Serving.{serve_wrote}
 use Rattle.folder_server.proofs.top.serve.Goals as goal
 
 pub returns-clause-wrote : goal.returns-clause-wrote

@@ -4,12 +4,12 @@ use Rattle.std.specs.Io.KnownBytes.{Appends}
 use Rattle.std.proofs.lemmas.Result.{err_from_is_err_and}
 use Rattle.hmr_base.specs.Fronts.{WritesFront}
 use Rattle.hub_editor.specs.Edits.{edits_in}
-use Rattle.folder_server.specs.Running.{Later}
-use Rattle.folder_server.specs.Serving.{Reported, header, job_ends, status_after}
-use Rattle.folder_server.specs.declared.stop.ServeStop.TheVariants.{Unwritten}
-use Rattle.folder_server.proofs.Causes.{either_later, rose_later}
-use Rattle.folder_server.proofs.Serving.{end_as, served_early, served_end, status_cause, status_fault, status_tree, status_well, stops_first, stops_memory, stops_outside, wrote_report}
-use Rattle.folder_server.proofs.Works.{on_ok}
+use Rattle.folder_edits.specs.Running.{Later}
+use Rattle.folder_edits.specs.Serving.{Reported, header, job_ends, status_after}
+use Rattle.folder_edits.specs.declared.stop.ServeStop.TheVariants.{Unwritten}
+use Rattle.folder_edits.proofs.Causes.{either_later, rose_later}
+use Rattle.folder_edits.proofs.Serving.{end_as, served_early, served_end, status_cause, status_fault, status_tree, status_well, stops_first, stops_memory, stops_outside, wrote_report}
+use Rattle.folder_edits.proofs.Works.{on_ok}
 use Rattle.folder_server.proofs.top.serve_folder.Goals as goal
 
 pub returns-in_err-names-clause-wrote : goal.returns-in_err-names-clause-wrote

@@ -1,6 +1,6 @@
 use Rattle.std.proofs.Common.{length, ap, ◌∙◌, ◌∷◌, [], arith}
 use Rattle.std.proofs.lemmas.List.{length-append}
-use Rattle.server_threads.proofs.Faults.{gathers_then}
+use Rattle.crew_plans.proofs.Faults.{gathers_then}
 use Rattle.server_threads.proofs.finishing.finish_clients.Goals as goal
 
 pub loop-client-preserved : goal.loop-client-preserved

@@ -1,8 +1,8 @@
 use Rattle.std.proofs.Common.{◌≡◌, length}
 use Rattle.std.specs.Prelude.{vec_len}
 use Rattle.server_threads.specs.Crews.{logs_due}
-use Rattle.server_threads.specs.Gathers.{Gathers, HasRoom}
-use Rattle.server_threads.specs.Lendings.{Lends}
+use Rattle.crew_plans.specs.Gathers.{Gathers, HasRoom}
+use Rattle.crew_plans.specs.Lendings.{Lends}
 use Rattle.server_threads.proofs.finishing.finish_clients.Given as goal
 
 -- there is room for what those that are left leave

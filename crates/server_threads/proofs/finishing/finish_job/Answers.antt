@@ -1,7 +1,7 @@
 use Rattle.std.proofs.Common.{ap, arith}
 use Rattle.server_threads.specs.Crews.{ends_of}
 use Rattle.server_threads.proofs.Crews.{done_of, finished_out, finished_rose, gathered_taken, out_cause, pass_of_hub}
-use Rattle.server_threads.proofs.Faults.{gathers_taken}
+use Rattle.crew_plans.proofs.Faults.{gathers_taken}
 use Rattle.server_threads.proofs.Lendings.{back_of}
 use Rattle.server_threads.proofs.finishing.finish_job.Goals as goal
 
@@ -16,7 +16,7 @@ returns-clause-gathered g c =
     let r = c.requires.runs in
     let out = c.finish-out.result in
     let its = finished_out g.N.End.Link _ _ r.job out (c.finish-out.ensures.out r.job r.runs) in
-    gathered_taken c.args.hub.now out _ _ _ c.args.gathered.now c.take_in.new.self c.take_in.ensures.taken (pass_of_hub g.N.End.Link c.args.hub.now r.job out r.of its)
+    gathered_taken c.args.hub.now out _ _ _ c.args.gathered.now c.take_in.new.gathered c.take_in.ensures.taken (pass_of_hub g.N.End.Link c.args.hub.now r.job out r.of its)
 
 pub returns-clause-gathers : goal.returns-clause-gathers
 returns-clause-gathers g c =

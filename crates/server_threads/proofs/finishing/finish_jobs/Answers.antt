@@ -2,7 +2,7 @@ use Rattle.std.proofs.Common.{length, ◌+◌, sum_by, ap, ◌∙◌, ◌∷◌,
 use Rattle.std.proofs.lemmas.List.{length-append}
 use Rattle.server_threads.specs.Crews.{RunsOn, ends_held}
 use Rattle.server_threads.proofs.Crews.{all_front, all_last}
-use Rattle.server_threads.proofs.Faults.{gathers_then}
+use Rattle.crew_plans.proofs.Faults.{gathers_then}
 use Rattle.server_threads.proofs.Emptied.{lends_all}
 use Rattle.server_threads.proofs.Lendings.{sum_last}
 use Rattle.server_threads.proofs.finishing.finish_jobs.Goals as goal

@@ -2,8 +2,8 @@ use Rattle.std.proofs.Common.{◌≡◌}
 use Rattle.std.specs.Prelude.{vec_len}
 use Rattle.std.specs.List.{All, sum_by}
 use Rattle.server_threads.specs.Crews.{RunsOn, ends_held, passes_due}
-use Rattle.server_threads.specs.Gathers.{Gathers, HasRoom, IsGathered}
-use Rattle.server_threads.specs.Lendings.{Lends}
+use Rattle.crew_plans.specs.Gathers.{Gathers, HasRoom, IsGathered}
+use Rattle.crew_plans.specs.Lendings.{Lends}
 use Rattle.server_threads.proofs.finishing.finish_jobs.Given as goal
 
 -- those that are left run on, and there is room for what they leave

@@ -1,5 +1,5 @@
 use Rattle.server_threads.proofs.Crews.{end_cause}
-use Rattle.server_threads.proofs.Faults.{gathers_taken}
+use Rattle.crew_plans.proofs.Faults.{gathers_taken}
 use Rattle.server_threads.proofs.finishing.finish_one_client.Goals as goal
 
 pub returns-clause-gathers : goal.returns-clause-gathers

@@ -1,7 +1,7 @@
 use Rattle.std.proofs.Common.{◌∙◌}
-use Rattle.server_threads.proofs.Counts.{begun_in_all}
-use Rattle.server_threads.proofs.Faults.{unfaulted}
-use Rattle.server_threads.proofs.Passes.{divided_then, given_ok, on_ok}
+use Rattle.crew_plans.proofs.Counts.{begun_in_all}
+use Rattle.crew_plans.proofs.Faults.{unfaulted}
+use Rattle.crew_plans.proofs.Passes.{divided_then, given_ok, on_ok}
 use Rattle.server_threads.proofs.crew.Crew.begin_all.Goals as goal
 
 pub returns-in_err-begin_pairs-clause-divided : goal.returns-in_err-begin_pairs-clause-divided

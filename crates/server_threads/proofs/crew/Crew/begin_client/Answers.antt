@@ -1,7 +1,7 @@
 use Rattle.std.proofs.Common.{◌∷◌, [], ap, arith, length, rules, sym, subst}
 use Rattle.std.proofs.lemmas.List.{length-append}
 use Rattle.serve_jobs.specs.Clients.{IsReady}
-use Rattle.server_threads.specs.Gathers.{HasPlace}
+use Rattle.crew_plans.specs.Gathers.{HasPlace}
 use Rattle.server_threads.proofs.Crews.{client_room, crew_clients, full_same}
 use Rattle.server_threads.proofs.crew.Crew.begin_client.Goals as goal
 

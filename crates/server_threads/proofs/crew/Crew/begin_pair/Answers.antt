@@ -1,7 +1,7 @@
 use Rattle.std.proofs.Common.{◌∙◌, ◌+◌, arith}
 use Rattle.std.proofs.lemmas.Result.{on_ok_weaker}
-use Rattle.server_threads.proofs.Counts.{begun_then}
-use Rattle.server_threads.proofs.Faults.{unfaulted}
+use Rattle.crew_plans.proofs.Counts.{begun_then}
+use Rattle.crew_plans.proofs.Faults.{unfaulted}
 use Rattle.server_threads.proofs.Lendings.{given_late}
 use Rattle.server_threads.proofs.crew.Crew.begin_pair.Goals as goal
 

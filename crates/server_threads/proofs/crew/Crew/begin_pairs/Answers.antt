@@ -1,8 +1,8 @@
 use Rattle.std.proofs.Common.{◌∙◌, arith, subst, sym}
 use Rattle.serve_jobs.specs.Clients.{IsReady}
-use Rattle.server_threads.proofs.Counts.{begun_then}
-use Rattle.server_threads.proofs.Faults.{gathers_then, unfaulted}
-use Rattle.server_threads.proofs.Passes.{divided_then, given_ok}
+use Rattle.crew_plans.proofs.Counts.{begun_then}
+use Rattle.crew_plans.proofs.Faults.{gathers_then, unfaulted}
+use Rattle.crew_plans.proofs.Passes.{divided_then, given_ok}
 use Rattle.server_threads.proofs.crew.Crew.begin_pairs.Goals as goal
 
 pub returns-in_err-begin_pair-clause-gathers : goal.returns-in_err-begin_pair-clause-gathers

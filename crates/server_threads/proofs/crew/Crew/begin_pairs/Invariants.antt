@@ -3,11 +3,11 @@ use Rattle.std.specs.List.{All}
 use Rattle.std.specs.Arc.{arc_value}
 use Rattle.handler_table.specs.Held.{IsHost}
 use Rattle.hmr_hub.specs.Passes.{IsPassOf, all_given}
-use Rattle.server_threads.specs.Begun.{HasBegun}
+use Rattle.crew_plans.specs.Begun.{HasBegun}
 use Rattle.server_threads.specs.Crews.{IsCrew, ends_due, logs_due, passes_due}
-use Rattle.server_threads.specs.Gathers.{Gathers}
-use Rattle.server_threads.specs.Lendings.{Lends}
-use Rattle.server_threads.specs.Splits.{Divided}
+use Rattle.crew_plans.specs.Gathers.{Gathers}
+use Rattle.crew_plans.specs.Lendings.{Lends}
+use Rattle.crew_plans.specs.Splits.{Divided}
 use Rattle.server_threads.proofs.crew.Crew.begin_pairs.Given as goal
 
 -- so many pairs were begun

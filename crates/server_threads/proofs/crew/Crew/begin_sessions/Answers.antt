@@ -1,7 +1,7 @@
 use Rattle.std.proofs.Common.{◌∙◌, arith}
-use Rattle.server_threads.proofs.Counts.{begun_then}
-use Rattle.server_threads.proofs.Faults.{gathers_then, unfaulted}
-use Rattle.server_threads.proofs.Passes.{divided_then, given_ok}
+use Rattle.crew_plans.proofs.Counts.{begun_then}
+use Rattle.crew_plans.proofs.Faults.{gathers_then, unfaulted}
+use Rattle.crew_plans.proofs.Passes.{divided_then, given_ok}
 use Rattle.server_threads.proofs.crew.Crew.begin_sessions.Goals as goal
 
 pub returns-in_err-begin_outside-clause-gathers : goal.returns-in_err-begin_outside-clause-gathers

@@ -1,7 +1,7 @@
 use Rattle.std.proofs.Common.{◌∙◌, ◌+◌, ◌∷◌, [], ap, length, arith}
-use Rattle.server_threads.proofs.Counts.{begun_then}
-use Rattle.server_threads.proofs.Faults.{gathers_then, unfaulted}
-use Rattle.server_threads.proofs.Passes.{divided_then, given_ok}
+use Rattle.crew_plans.proofs.Counts.{begun_then}
+use Rattle.crew_plans.proofs.Faults.{gathers_then, unfaulted}
+use Rattle.crew_plans.proofs.Passes.{divided_then, given_ok}
 use Rattle.std.proofs.lemmas.List.{length-append}
 use Rattle.server_threads.proofs.crew.Crew.begin_workers.Goals as goal
 

@@ -1,11 +1,11 @@
 use Rattle.std.proofs.Common.{◌≡◌, ◌≤◌, ◌+◌, ℕ, false, length, sum}
 use Rattle.std.specs.Arc.{arc_value}
 use Rattle.hmr_hub.specs.Passes.{IsPassOf, all_given}
-use Rattle.server_threads.specs.Begun.{HasBegun}
+use Rattle.crew_plans.specs.Begun.{HasBegun}
 use Rattle.server_threads.specs.Crews.{IsCrew, ends_due, logs_due, passes_due}
-use Rattle.server_threads.specs.Gathers.{Gathers}
-use Rattle.server_threads.specs.Lendings.{Lends}
-use Rattle.server_threads.specs.Splits.{Divided}
+use Rattle.crew_plans.specs.Gathers.{Gathers}
+use Rattle.crew_plans.specs.Lendings.{Lends}
+use Rattle.crew_plans.specs.Splits.{Divided}
 use Rattle.server_threads.proofs.crew.Crew.begin_workers.Given as goal
 
 -- workers were begun for the passes that are gone

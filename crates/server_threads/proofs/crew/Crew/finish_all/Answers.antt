@@ -2,9 +2,9 @@ use Rattle.std.proofs.Common.{◌≡◌, ◌+◌, arith, length, rules, ap, sym,
 use Rattle.std.specs.List.{All}
 use Rattle.std.specs.Arc.{arc_value}
 use Rattle.server_threads.specs.Crews.{RunsOn}
-use Rattle.server_threads.specs.Gathers.{IsGathered}
+use Rattle.crew_plans.specs.Gathers.{IsGathered}
 use Rattle.server_threads.proofs.Crews.{gathered_same}
-use Rattle.server_threads.proofs.Faults.{gathers_then}
+use Rattle.crew_plans.proofs.Faults.{gathers_then}
 use Rattle.server_threads.proofs.crew.Crew.finish_all.Goals as goal
 
 pub finish_jobs-requires-clause-jobs : goal.finish_jobs-requires-clause-jobs

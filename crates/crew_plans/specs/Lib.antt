@@ -1,0 +1,4 @@
+pub mod Gathers
+pub mod Begun
+pub mod Splits
+pub mod Lendings
