@@ -1,8 +1,2 @@
-mod CoreEvents
-mod Hearing
-mod Keeping
-mod Listening
-mod Lives
 mod Logging
-mod Presence
 mod Standing

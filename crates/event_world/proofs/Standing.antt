@@ -1,6 +1,6 @@
 -- A world with events goes on.
 use Rattle.std.proofs.Common.{◌≡◌, ℕ, Bool, true, false, List, [], ◌∷◌, map, refl, sym, ap, ◌∙◌}
-use Rattle.std.specs.Prelude.{Option, Some, None, Result, Ok, Err, OnOk, is_some, option_map, not, ◌||◌, if◌then◌else◌}
+use Rattle.std.specs.Prelude.{Option, Some, None, Result, Ok, Err, OnOk, is_some}
 use Rattle.std.specs.Global.{Vec}
 use Rattle.std.proofs.Math.Path.{subst}
 use Rattle.std.proofs.lemmas.Bool.{false≢true}
@@ -8,31 +8,29 @@ use Rattle.hmr_types.specs.declared.value.Value.{Value}
 use Rattle.output_lines.specs.declared.out_line.OutLine.{OutLine}
 use Rattle.output_lines.specs.declared.out_line.OutLine.TheVariants as line
 use Rattle.core_model.specs.Names.{Name}
-use Rattle.core_model.specs.Core.{client_at, with_client}
-use Rattle.core_laws.proofs.Refusing.{put_back}
-use Rattle.client_model.specs.Firing.{Firing, busy, did_hear, fire, hear_all, is_stopped, unheard}
-use Rattle.client_model.specs.Runtime.{Runtime, Did}
+use Rattle.core_model.specs.Core.{client_at}
+use Rattle.client_model.specs.Runtime.{Runtime}
 use Rattle.module_language.specs.ModuleLanguage.{module_language}
-use Rattle.world_model.specs.Turning.{fire_of, heard_at, lines_heard}
+use Rattle.world_model.specs.Turning.{heard_at}
 use Rattle.world_model.specs.World as model
 use Rattle.world_laws.specs.Runs.{Run, world_of}
 use Rattle.hmr_world.specs.Standing as worlds
+use Rattle.run_promises.specs.RunSteps as run_steps
 use Rattle.hmr_world.specs.Standing.{Has}
-use Rattle.hmr_world.specs.Steps.{step_of}
-use Rattle.hmr_world.specs.Stops.{AreHeard, AreLines}
-use Rattle.hmr_world.specs.declared.step.Step.{Step}
-use Rattle.hmr_world.specs.declared.stop.WorldStop.{WorldStop}
-use Rattle.hmr_world.specs.declared.stop.WorldStop.TheVariants.{InstancesFull, NoMemory}
-use Rattle.hmr_world.specs.declared.world.World.{World}
+use Rattle.world_parts.specs.Steps.{step_of}
+use Rattle.world_parts.specs.Stops.{AreHeard, AreLines}
+use Rattle.world_parts.specs.declared.step.Step.{Step}
+use Rattle.world_parts.specs.declared.stop.WorldStop.{WorldStop}
+use Rattle.world_parts.specs.declared.stop.WorldStop.TheVariants.{InstancesFull, NoMemory}
 use Rattle.hot_events.specs.Calls as lists
 use Rattle.hot_events.specs.Calls.{Event, first, full}
-use Rattle.hot_events.specs.Rows.{Row}
-use Rattle.event_world.specs.Courses.{Course, EventStep, Moved, calls_of, emits, fired_at, hear_step, hears, only, or_none, passage_of, plain}
-use Rattle.event_world.specs.Runs.{EventRun, KeepsEvents, course_of, run_of, run_on, stage_of, step_in}
+use Rattle.event_runs.specs.Courses.{Course, EventStep, Moved, calls_of, emits, fired_at, hear_step, hears, only, or_none, passage_of, plain}
+use Rattle.event_runs.specs.Runs.{EventRun, KeepsEvents, course_of, run_of, run_on, stage_of, step_in}
 use Rattle.event_world.specs.Standing.{IsRunning, IsStepped, StandsFor}
-use Rattle.event_world.specs.declared.event_step.Passage.{Passage}
+use Rattle.event_runs.specs.declared.event_step.Passage.{Passage}
 use Rattle.event_world.specs.declared.event_world.EventWorld.{EventWorld}
-use Rattle.event_world.proofs.Keeping.{emit_keeps, hear_keeps, plain_keeps}
+use Rattle.event_runs.proofs.Keeping.{emit_keeps, hear_keeps, plain_keeps}
+use Rattle.event_runs.proofs.Unheard.{heard_none, heard_some, unheard_world}
 
 pub on_ok : {X E P : Type 0} (result : Result X E) → P → OnOk result P
 on_ok (Ok x) p = p
@@ -64,21 +62,21 @@ module _ {F : Type 0} (run : EventRun) (s : EventStep) (after : EventWorld F) (l
 
 -- a step of the world
 pub plain_stepped : {F : Type 0} (run : EventRun) (s : Step) (old after : EventWorld F) (lines : Vec OutLine) (passage : Passage)
-    → StandsFor run old → passage ≡ passage_of (step_of s) → (worlds.step_in (run_of run) (step_of s)).lines ≡ Some lines.items
-    → worlds.StandsFor (worlds.run_on (run_of run) (step_of s)) after.world → lists.StandsFor (calls_of passage lines.items (course_of run).calls) after.waiting
+    → StandsFor run old → passage ≡ passage_of (step_of s) → (run_steps.step_in (run_of run) (step_of s)).lines ≡ Some lines.items
+    → worlds.StandsFor (run_steps.run_on (run_of run) (step_of s)) after.world → lists.StandsFor (calls_of passage lines.items (course_of run).calls) after.waiting
     → IsStepped run (plain (step_of s)) after (Ok lines)
 plain_stepped run s old after lines passage h p l world waiting = record {
   lines = l;
   stands = record {
     world_stands = world;
-    lists_stand = subst (λ q. lists.StandsFor (calls_of q (or_none (worlds.step_in (run_of run) (step_of s)).lines) (course_of run).calls) after.waiting) p
+    lists_stand = subst (λ q. lists.StandsFor (calls_of q (or_none (run_steps.step_in (run_of run) (step_of s)).lines) (course_of run).calls) after.waiting) p
         (subst (λ ls. lists.StandsFor (calls_of passage ls (course_of run).calls) after.waiting) (sym (ap or_none l)) waiting);
     keeps = plain_keeps run s h.keeps;
   };
 }
 
 -- a step of the world that stops the run
-pub plain_stops : {F : Type 0} (run : EventRun) (s : Step) (after : EventWorld F) (stop : WorldStop) → AreLines (worlds.step_in (run_of run) (step_of s)).lines (Err stop) → IsStepped run (plain (step_of s)) after (Err stop)
+pub plain_stops : {F : Type 0} (run : EventRun) (s : Step) (after : EventWorld F) (stop : WorldStop) → AreLines (run_steps.step_in (run_of run) (step_of s)).lines (Err stop) → IsStepped run (plain (step_of s)) after (Err stop)
 plain_stops run s after stop l = record { lines = l; stands = tt }
 
 -- an event whose firing stops the run
@@ -99,32 +97,6 @@ emit_stepped run n v old after lines clients h same answer l waiting = record {
     keeps = emit_keeps run n v h.keeps;
   };
 }
-
--- An event that isn't heard changes nothing.
-
-unheard_stays : (stopped unfit : Bool) (r : Runtime) (did : Did)
-    → lines_heard (if stopped then unheard is_stopped r else (if unfit then unheard busy r else did_hear did)).answer ≡ None
-    → (if stopped then unheard is_stopped r else (if unfit then unheard busy r else did_hear did)).after ≡ r
-unheard_stays true unfit r did e = refl
-unheard_stays false true r did e = refl
-unheard_stays false false r did e = absurd (false≢true (sym (ap is_some e)))
-
-unheard_world : (w : model.World) (i : ℕ) (n : Name) (v : Value) (r : Runtime) → client_at w.clients i ≡ Some r → heard_at module_language n v (Some r) ≡ None
-    → (fire_of module_language i n v w (client_at w.clients i)).world ≡ w
-unheard_world w i n v r there e =
-    ap (λ o. (fire_of module_language i n v w o).world) there
-    ∙ ap (λ x. record w { clients = with_client i x w.clients }) (unheard_stays r.stopped (not r.page.loaded || is_some r.page.plan) r (hear_all module_language n v r) e)
-    ∙ ap (λ rows. record w { clients = rows }) (put_back i r w.clients there)
-
--- what firing an event answered
-
-heard_none : (heard : Option (List OutLine)) (shown : Option (Vec OutLine)) → AreHeard heard (Ok shown) → shown ≡ None → heard ≡ None
-heard_none heard None h e = h
-heard_none heard (Some lines) h e = absurd (false≢true (sym (ap is_some e)))
-
-heard_some : (heard : Option (List OutLine)) (shown : Option (Vec OutLine)) (lines : Vec OutLine) → AreHeard heard (Ok shown) → shown ≡ Some lines → heard ≡ Some lines.items
-heard_some heard None lines h e = absurd (false≢true (ap is_some e))
-heard_some heard (Some all) lines h e = h ∙ ap (option_map (λ (x : Vec OutLine). x.items)) e
 
 -- a client is to hear its first event
 module _ {F : Type 0} (run : EventRun) (i : ℕ) (old : EventWorld F) (h : StandsFor run old) where
@@ -164,7 +136,7 @@ module _ {F : Type 0} (run : EventRun) (i : ℕ) (old : EventWorld F) (h : Stand
 
   module _ (told : Bool) (told_is : told ≡ is_some (client_at w.clients i)) (there : told ≡ true) (n : Name) (v : Value) (waits : first c.calls i ≡ Some (n, v)) where
     busy_by : (o : Option Runtime) (after : EventWorld F) (lines : Vec OutLine) → client_at w.clients i ≡ o → is_some o ≡ true → after.waiting ≡ old.waiting
-        → worlds.StandsFor (worlds.run_on (run_of run) (model.fires i n v)) after.world → heard_at module_language n v o ≡ None → lines.items ≡ line.Busy i ∷ []
+        → worlds.StandsFor (run_steps.run_on (run_of run) (model.fires i n v)) after.world → heard_at module_language n v o ≡ None → lines.items ≡ line.Busy i ∷ []
         → IsStepped run (hears i) after (Ok lines)
     busy_by None after lines p there same world none is = absurd (false≢true there)
     busy_by (Some r) after lines p there same world none is =
@@ -177,14 +149,14 @@ module _ {F : Type 0} (run : EventRun) (i : ℕ) (old : EventWorld F) (h : Stand
         (subst (lists.StandsFor c.calls) (sym same) h.lists_stand) keeps
 
     -- its page isn't loaded, or a plan is under way
-    pub hear_busy : (after : EventWorld F) (lines : Vec OutLine) (shown : Option (Vec OutLine)) → after.waiting ≡ old.waiting → worlds.StandsFor (worlds.run_on (run_of run) (model.fires i n v)) after.world
+    pub hear_busy : (after : EventWorld F) (lines : Vec OutLine) (shown : Option (Vec OutLine)) → after.waiting ≡ old.waiting → worlds.StandsFor (run_steps.run_on (run_of run) (model.fires i n v)) after.world
         → AreHeard (heard_at module_language n v (client_at w.clients i)) (Ok shown) → shown ≡ None → lines.items ≡ line.Busy i ∷ []
         → IsStepped run (hears i) after (Ok lines)
     hear_busy after lines shown = λ same world answer none is.
         busy_by (client_at w.clients i) after lines refl (sym told_is ∙ there) same world (heard_none (heard_at module_language n v (client_at w.clients i)) shown answer none) is
 
     heard_by : (o : Option Runtime) (after : EventWorld F) (all lines : Vec OutLine) → client_at w.clients i ≡ o → is_some o ≡ true → lists.StandsFor (lists.takes i ∷ c.calls) after.waiting
-        → worlds.StandsFor (worlds.run_on (run_of run) (model.fires i n v)) after.world → heard_at module_language n v o ≡ Some lines.items → all.items ≡ line.Event i n ∷ lines.items
+        → worlds.StandsFor (run_steps.run_on (run_of run) (model.fires i n v)) after.world → heard_at module_language n v o ≡ Some lines.items → all.items ≡ line.Event i n ∷ lines.items
         → IsStepped run (hears i) after (Ok all)
     heard_by None after all lines p there waiting world heard is = absurd (false≢true there)
     heard_by (Some r) after all lines p there waiting world heard is =
@@ -193,7 +165,7 @@ module _ {F : Type 0} (run : EventRun) (i : ℕ) (old : EventWorld F) (h : Stand
         world waiting keeps
 
     -- it hears the event
-    pub hear_heard : (after : EventWorld F) (all lines : Vec OutLine) (shown : Option (Vec OutLine)) → lists.StandsFor (lists.takes i ∷ c.calls) after.waiting → worlds.StandsFor (worlds.run_on (run_of run) (model.fires i n v)) after.world
+    pub hear_heard : (after : EventWorld F) (all lines : Vec OutLine) (shown : Option (Vec OutLine)) → lists.StandsFor (lists.takes i ∷ c.calls) after.waiting → worlds.StandsFor (run_steps.run_on (run_of run) (model.fires i n v)) after.world
         → AreHeard (heard_at module_language n v (client_at w.clients i)) (Ok shown) → shown ≡ Some lines → all.items ≡ line.Event i n ∷ lines.items
         → IsStepped run (hears i) after (Ok all)
     hear_heard after all lines shown = λ waiting world answer some is.

@@ -1,8 +1,2 @@
-pub mod CoreEvents
-pub mod Courses
-pub mod Listening
 pub mod Logs
-pub mod Playing
-pub mod Runs
 pub mod Standing
-pub mod Steps

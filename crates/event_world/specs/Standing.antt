@@ -1,17 +1,16 @@
 -- What a world with events stands for: the definitions' course of the steps of a run.
-use Rattle.std.specs.Prelude.{◌≡◌, ℕ, None, Result, OnOk}
+use Rattle.std.specs.Prelude.{Result, OnOk}
 use Rattle.std.specs.Global.{Vec}
 use Rattle.output_lines.specs.declared.out_line.OutLine.{OutLine}
-use Rattle.core_model.specs.Core.{client_at}
 use Rattle.handler_table.specs.Held.{Answers}
-use Rattle.world_laws.specs.Runs.{Run, world_of}
+use Rattle.world_laws.specs.Runs.{Run}
 use Rattle.hmr_world.specs.Standing as worlds
-use Rattle.hmr_world.specs.Stops.{AreLines}
-use Rattle.hmr_world.specs.declared.stop.WorldStop.{WorldStop}
+use Rattle.world_parts.specs.Stops.{AreLines}
+use Rattle.world_parts.specs.declared.stop.WorldStop.{WorldStop}
 use Rattle.hmr_world.specs.declared.world.World.{World}
 use Rattle.hot_events.specs.Calls as lists
-use Rattle.event_world.specs.Courses.{EventStep}
-use Rattle.event_world.specs.Runs.{EventRun, KeepsEvents, course_of, run_of, run_on, step_in}
+use Rattle.event_runs.specs.Courses.{EventStep}
+use Rattle.event_runs.specs.Runs.{EventRun, HasNoClient, KeepsEvents, course_of, run_of, run_on, step_in}
 use Rattle.event_world.specs.declared.event_world.EventWorld.{EventWorld}
 
 -- Its world stands for the run of the world that the steps make, and its lists for the calls.
@@ -24,10 +23,6 @@ pub record StandsFor {F : Type 0} (run : EventRun) (world : EventWorld F) : Type
 pub record IsRunning {F : Type 0} (world : EventWorld F) : Type 0 where
   pub run : EventRun
   pub stands : StandsFor run world
-
--- no client is open after the run
-abbrev pub HasNoClient : Run → Type 0
-HasNoClient run = (i : ℕ) → client_at (world_of run).clients i ≡ None
 
 -- no client is open in the world
 pub record NoneIsOpen {F : Type 0} (world : World F) : Type 0 where

@@ -1,36 +1,34 @@
 // The world with events, and its step.
-ghost use Rattle.std.specs.Prelude.{◌≡◌, [], IfOk, IsErrOf, List, OnOk, true};
+ghost use Rattle.std.specs.Prelude.{◌≡◌, [], IfOk, IsErrOf, OnOk, true};
 ghost use Rattle.std.specs.Option.{option_map};
-ghost use Rattle.hmr_world.specs.Promises.{KeepsPromises};
+ghost use Rattle.run_promises.specs.Promises.{KeepsPromises};
 ghost use Rattle.hmr_world.specs.Standing as worlds;
-ghost use Rattle.hmr_world.specs.Steps as plain_steps;
-ghost use Rattle.hmr_world.specs.Steps.{step_of};
-ghost use Rattle.hmr_world.specs.Stops.{AreLines};
-ghost use Rattle.hmr_world.specs.declared.stop.WorldStop.TheVariants.{InstancesFull};
-ghost use Rattle.hot_events.specs.Calls as lists;
-ghost use Rattle.hot_events.specs.Calls.{Call};
+ghost use Rattle.world_parts.specs.Steps as plain_steps;
+ghost use Rattle.world_parts.specs.Steps.{step_of};
+ghost use Rattle.world_parts.specs.Stops.{AreLines};
+ghost use Rattle.world_parts.specs.declared.stop.WorldStop.TheVariants.{InstancesFull};
 ghost use Rattle.server_core.specs.Said.{event_of};
 ghost use Rattle.world_laws.specs.Runs.{Run};
-ghost use Rattle.event_world.specs.CoreEvents.{core_event_in};
-ghost use Rattle.event_world.specs.Courses.{calls_of, emits, hears, plain};
-ghost use Rattle.event_world.specs.Logs.{IsLogged, is_on};
-ghost use Rattle.event_world.specs.Runs.{EventRun, EventsAreHeard, IsThereWhereOpen, ListenersRanOnce};
-ghost use Rattle.event_world.specs.Runs.{beginning, run_of, run_on, step_in};
-ghost use Rattle.event_world.specs.Standing.{HasNoClient, IsRunning, IsStepped, KeepsWords, NoneIsOpen};
-ghost use Rattle.event_world.specs.Standing.{StandsFor};
-ghost use Rattle.event_world.specs.Steps.{HasFormat, event_step_of};
+ghost use Rattle.event_runs.specs.CoreEvents.{core_event_in};
+ghost use Rattle.event_runs.specs.Courses.{emits, hears, plain};
+ghost use Rattle.event_runs.specs.Logs.{is_on};
+ghost use Rattle.event_runs.specs.Runs.{EventRun, EventsAreHeard, IsThereWhereOpen, ListenersRanOnce};
+ghost use Rattle.event_runs.specs.Runs.{HasNoClient, beginning, run_of, run_on, step_in};
+ghost use Rattle.event_runs.specs.Steps.{HasFormat, event_step_of};
+ghost use Rattle.event_world.specs.Logs.{IsLogged};
+ghost use Rattle.event_world.specs.Standing.{IsRunning, IsStepped, KeepsWords, NoneIsOpen, StandsFor};
 
-use crate::event_log::EventLog;
-use crate::event_step::{EventStep, Passage, passage_of};
-use crate::lines::{behind, full_lines, one_line, opened_by};
 use const_eval::Ran;
+use event_runs::{EventLog, EventStep, behind, full_lines, pass, passage_of};
 use hmr_types::{ClientId, ModName, Value};
-use hmr_world::{Step, World, WorldStop, what_is_promised_of_runs};
+use hmr_world::World;
 use hot_events::Waiting;
 use output_lines::OutLine;
 use retained_data::Bag;
+use run_promises::what_is_promised_of_runs;
 use server_core::Event;
 use std::alloc::{AllocError, Global};
+use world_parts::{Step, WorldStop, one_line};
 
 /// The world with events. That it stands for a run, the list of its steps so far, is the relation
 /// `StandsFor`; that its log is that of the events which the core is told in the run, where they are logged,
@@ -254,24 +252,6 @@ impl<F: Drop> EventWorld<F> {
     {
         self.world.end();
         self.log
-    }
-}
-
-// A client that came gets events from now on, and one that went gets none.
-fn pass(waiting: &mut Waiting, passage: Passage, lines: &[OutLine]) -> Result<(), AllocError>
-    ensures { (past : List Call) → lists.StandsFor past waiting.old
-        → OnOk result (lists.StandsFor (calls_of passage lines.now past) waiting.new) }
-{
-    match passage {
-        Passage::Comes => match opened_by(lines) {
-            Some(client) => waiting.enter(client),
-            None => Ok(()),
-        },
-        Passage::Goes(client) => {
-            waiting.leave(client);
-            Ok(())
-        }
-        Passage::Stays => Ok(()),
     }
 }
 

@@ -9,10 +9,10 @@ use Rattle.server_core.specs.Kept as cores
 use Rattle.world_laws.specs.Runs.{Run}
 use Rattle.hmr_world.specs.Clients.{AreOpen}
 use Rattle.hmr_world.specs.Clients as clients
-use Rattle.hmr_world.specs.Shelves.{AreHosts, AreShelves, Shelves}
+use Rattle.world_parts.specs.Shelves.{AreHosts, AreShelves, Shelves}
 use Rattle.hmr_world.specs.Standing.{IsRunning, KeepsWords, StandsFor}
 use Rattle.hmr_world.specs.declared.world.World.{World}
-use Rattle.hmr_world.proofs.Shelving.{all_there}
+use Rattle.world_parts.proofs.Shelving.{all_there}
 
 none_open : (F : Type 0) → AreOpen {F = F} [] []
 none_open F i = tt

@@ -14,14 +14,14 @@ use Rattle.server_core.specs.Said.{said}
 use Rattle.world_model.specs.World.{edits}
 use Rattle.world_model.specs.Editing.{edit_line, remove_line, with_job}
 use Rattle.world_laws.specs.Runs.{Run, world_of}
-use Rattle.hmr_world.specs.Cores.{IsCore}
-use Rattle.hmr_world.specs.Jobs.{AreBelow}
-use Rattle.hmr_world.specs.Replies.{answer_in}
+use Rattle.world_parts.specs.Cores.{IsCore}
+use Rattle.world_parts.specs.Jobs.{AreBelow}
+use Rattle.world_parts.specs.Replies.{answer_in}
 use Rattle.hmr_world.specs.Standing.{IsStepped, StandsFor}
 use Rattle.hmr_world.specs.declared.world.World.{World}
-use Rattle.hmr_world.proofs.Cores.{answer_said}
-use Rattle.hmr_world.proofs.Given.{are_below, give_step, removal_step}
-use Rattle.hmr_world.proofs.Issued.{are_issued}
+use Rattle.world_parts.proofs.Cores.{answer_said}
+use Rattle.hmr_world.proofs.Given.{give_step, removal_step}
+use Rattle.world_parts.proofs.Issued.{are_below, are_issued}
 
 module _ {F : Type 0} (run : Run) (n : Name) (old new : World F) (stands : StandsFor run old) (roots : new.core.roots ≡ old.core.roots) (clients : new.clients.items ≡ old.clients.items) (shelves : new.shelves.items ≡ old.shelves.items)
     (reply : Reply) (line : OutLine) (lines : Vec OutLine) (shown : lines.items ≡ line ∷ []) where

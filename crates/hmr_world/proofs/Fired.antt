@@ -24,10 +24,11 @@ use Rattle.world_model.specs.World.{Stepped, World, fires, stepped}
 use Rattle.world_model.specs.Turning.{fire_of, heard_at, lines_heard, or_no_lines}
 use Rattle.world_laws.specs.Runs.{Run, world_of}
 use Rattle.hmr_world.specs.Clients.{IsRuntime, AreOpen}
-use Rattle.hmr_world.specs.Cores.{IsCore}
-use Rattle.hmr_world.specs.Shelves.{AreShelves}
-use Rattle.hmr_world.specs.Standing.{Has, StandsFor, run_on, step_in}
-use Rattle.hmr_world.specs.Stops.{AreHeard}
+use Rattle.world_parts.specs.Cores.{IsCore}
+use Rattle.world_parts.specs.Shelves.{AreShelves}
+use Rattle.hmr_world.specs.Standing.{Has, StandsFor}
+use Rattle.run_promises.specs.RunSteps.{run_on, step_in}
+use Rattle.world_parts.specs.Stops.{AreHeard}
 use Rattle.hmr_world.specs.declared.world.World as code
 use Rattle.hmr_world.proofs.Looking.{opened, tie}
 use Rattle.hmr_world.proofs.Opened.{Opened, closed_at, with_open}

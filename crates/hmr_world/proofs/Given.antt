@@ -1,14 +1,13 @@
 -- The answer to an edit or a result, and the lines of the world.
-use Rattle.std.proofs.Common.{◌≡◌, ◌<◌, ℕ, List, [], ◌∷◌, refl, sym, ap, ◌∙◌, arith}
+use Rattle.std.proofs.Common.{◌≡◌, ℕ, [], ◌∷◌, refl, sym, ap, ◌∙◌}
 use Rattle.std.specs.Prelude.{Ok, Some, None, find, filter, not}
-use Rattle.std.specs.List.{AllByRecursion}
 use Rattle.std.specs.Global.{Vec}
 use Rattle.std.proofs.Math.Path.{subst}
 use Rattle.output_lines.specs.declared.out_line.OutLine.{OutLine}
 use Rattle.output_lines.specs.declared.out_line.OutLine.TheVariants as line
 use Rattle.output_lines.specs.declared.words.SettleWord.TheVariants as words
 use Rattle.core_model.specs.Names.{Name}
-use Rattle.core_model.specs.Sources.{Text, Sources, edit, result, EditAnswer, job, same, removed, edit_refused, edit_answer, result_answer}
+use Rattle.core_model.specs.Sources.{Text, edit, result, edit_answer, result_answer}
 use Rattle.core_model.specs.Core.{change, step}
 use Rattle.module_language.specs.ModuleLanguage.{module_language}
 use Rattle.version_map.specs.Standing.{settled_as}
@@ -16,25 +15,14 @@ use Rattle.world_model.specs.World.{Job, edits, settles}
 use Rattle.world_model.specs.Editing.{edit_line, remove_line, with_job, is_job, settle_job}
 use Rattle.world_laws.specs.Runs.{Run, world_of}
 use Rattle.hmr_world.specs.Clients.{AreOpen}
-use Rattle.hmr_world.specs.Cores.{IsCore}
-use Rattle.hmr_world.specs.Jobs.{AreIssued, AreBelow}
-use Rattle.hmr_world.specs.Replies.{settled_word}
-use Rattle.hmr_world.specs.Shelves.{AreShelves}
-use Rattle.hmr_world.specs.Standing.{IsStepped, StandsFor, step_in}
+use Rattle.world_parts.specs.Cores.{IsCore}
+use Rattle.world_parts.specs.Replies.{settled_word}
+use Rattle.world_parts.specs.Shelves.{AreShelves}
+use Rattle.hmr_world.specs.Standing.{IsStepped, StandsFor}
+use Rattle.run_promises.specs.RunSteps.{step_in}
 use Rattle.hmr_world.specs.declared.world.World.{World}
-use Rattle.hmr_world.proofs.Cores.{settle_line_is}
-use Rattle.hmr_world.proofs.Issued.{edit_counts}
+use Rattle.world_parts.proofs.Cores.{settle_line_is}
 use Rattle.hmr_world.proofs.Stepped.{stepped_by}
-
-below_all : (counted v : ℕ) (jobs : List Job) → counted < v → AreIssued counted jobs → AllByRecursion (λ (j : Job). j.version < v) jobs
-below_all counted v [] l h = tt
-below_all counted v (j ∷ jobs) l h = (omega (arith, l, h.0.given), below_all counted v jobs l h.1)
-
-pub are_below : (answer : EditAnswer) (n : Name) (t : Text) (s : Sources) (jobs : List Job) → edit_answer s n (Some t) ≡ answer → AreIssued s.counted jobs → AreBelow answer jobs
-are_below (job v) n t s jobs e h = below_all s.counted v jobs (edit_counts n t s v e) h
-are_below same n t s jobs e h = tt
-are_below (removed v) n t s jobs e h = tt
-are_below (edit_refused word) n t s jobs e h = tt
 
 module _ {F : Type 0} (run : Run) (n : Name) (old new : World F) (stands : StandsFor run old) (roots : new.core.roots ≡ old.core.roots) (clients : new.clients.items ≡ old.clients.items) (shelves : new.shelves.items ≡ old.shelves.items) where
   -- an edit that gave a text

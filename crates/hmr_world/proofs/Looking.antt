@@ -1,6 +1,6 @@
 -- What the world shows.
 use Rattle.std.proofs.Common.{◌≡◌, ℕ, Bool, true, false, List, [], ◌∷◌, ◌++◌, refl, sym, ap, ◌∙◌}
-use Rattle.std.specs.Prelude.{◌&&◌, not, map, Ok, Option, Some, None, option_map, is_none, if◌then◌else◌}
+use Rattle.std.specs.Prelude.{◌&&◌, map, Ok, Option, Some, None, option_map, if◌then◌else◌}
 use Prim.{⊥}
 use Rattle.std.specs.Global.{Vec}
 use Rattle.std.proofs.Math.Path.{subst}
@@ -10,51 +10,38 @@ use Rattle.output_lines.specs.declared.out_line.OutLine.TheVariants as line
 use Rattle.output_lines.specs.declared.words.ClientState.{ClientState}
 use Rattle.output_lines.specs.declared.words.ClientState.TheVariants.{Up, Behind}
 use Rattle.core_model.specs.Names.{Name}
-use Rattle.core_model.specs.Sources.{Sources}
-use Rattle.core_model.specs.FreshLoad.{FreshLoad, Served, fresh_load}
-use Rattle.core_model.specs.Client.{Client, changed, dropped}
-use Rattle.core_model.specs.Page.{Page}
-use Rattle.core_model.specs.Core as model
-use Rattle.core_model.specs.Core.{client_at, core_after}
+use Rattle.core_model.specs.FreshLoad.{FreshLoad, fresh_load}
+use Rattle.core_model.specs.Client.{Client}
+use Rattle.core_model.specs.Core.{client_at}
 use Rattle.client_model.specs.Past.{Past, runtime_after}
 use Rattle.client_model.specs.Printing.{is_at_rest, show_lines, module_line, stale_line, table}
 use Rattle.client_model.specs.Runtime.{Runtime, Opening}
 use Rattle.client_model.specs.Stale.{stale_of}
 use Rattle.import_scan.specs.Links.{links}
 use Rattle.module_language.specs.ModuleLanguage.{module_language}
-use Rattle.client_model.specs.Language.{links_of}
 use Rattle.hot_runtime.specs.Standing as runtimes
 use Rattle.hot_runtime.specs.declared.runtime.HotRuntime.{HotRuntime}
-use Rattle.server_core.specs.Kept as cores
-use Rattle.server_core.specs.Fresh.{load_of}
-use Rattle.server_core.specs.Reading.{is_resting, load_at, rests}
-use Rattle.server_core.specs.declared.fresh.Fresh.{Fresh}
-use Rattle.world_model.specs.CaughtUp.{is_caught_up, is_empty, state_of}
+use Rattle.fresh_loads.specs.Fresh.{load_of}
+use Rattle.server_core.specs.Reading.{is_resting, rests}
+use Rattle.fresh_loads.specs.Loads.{load_at}
+use Rattle.fresh_loads.specs.declared.loading.Fresh.{Fresh}
+use Rattle.world_model.specs.CaughtUp.{is_caught_up, state_of}
 use Rattle.world_model.specs.Playing.{is_up, is_up_in}
 use Rattle.world_model.specs.Steps.{loaded_anew, load_lines, fresh_lines, fresh_of_lines}
-use Rattle.world_model.specs.Ties.{IsTied, TiedAt}
+use Rattle.world_model.specs.Ties.{TiedAt}
 use Rattle.world_model.specs.Turning.{shown, state_in}
 use Rattle.world_model.specs.World.{Step, stepped, show, fresh, fresh_of}
 use Rattle.world_model.proofs.Tying.{run_sound}
 use Rattle.world_laws.specs.Runs.{Run, world_of}
 use Rattle.hmr_world.specs.Clients.{IsRuntime}
-use Rattle.hmr_world.specs.Cores.{IsCore}
-use Rattle.hmr_world.specs.Standing.{IsStepped, StandsFor, stage_of, step_in}
+use Rattle.hmr_world.specs.Standing.{IsStepped, StandsFor}
+use Rattle.run_promises.specs.RunSteps.{stage_of, step_in}
 use Rattle.hmr_world.specs.declared.world.World.{World}
-use Rattle.hmr_world.proofs.Loading.{links_are, same_load}
 use Rattle.hmr_world.proofs.Opened.{Opened, opened_at, closed_at}
 use Rattle.hmr_world.proofs.Stepped.{stepped_by}
-
--- The record that is open under a number.
-
-pub record Recorded (i : ℕ) (o : Option Client) (r : Runtime) : Type 0 where
-  pub c : Client
-  pub there : o ≡ Some c
-  pub tied : IsTied i c r
-
-recorded_by : (i : ℕ) (o : Option Client) (r : Runtime) → TiedAt i o (Some r) → Recorded i o r
-recorded_by i None r h = absurd h
-recorded_by i (Some c) r h = record { c = c; there = refl; tied = h }
+use Rattle.world_parts.proofs.Resting.{Recorded, recorded_by, rest_is, shown_state, state_is}
+use Rattle.world_parts.proofs.Cores.{IsReadOfCore, core_of}
+use Rattle.world_parts.proofs.Loading.{load_is}
 
 module _ {F : Type 0} (run : Run) (i : ℕ) (world : World F) (stands : StandsFor run world) where
   -- the client isn't open
@@ -94,48 +81,6 @@ IsRead h x f = (opening : Opening) (past : Past) → runtimes.StandsFor opening 
 pub read_of : {F X : Type 0} (h : HotRuntime F) (x : X) (f : Runtime → X) → IsRead h x f
     → (r : Runtime) → IsRuntime r h → x ≡ f r
 read_of h x f g r k = g k.opening k.past k.stands ∙ ap f k.is
-
--- this is read of the core
-abbrev pub IsReadOfCore : {X : Type 0} → cores.Kept → X → (model.Core → X) → Type 0
-IsReadOfCore core x f =
-    (past : List model.Event) → cores.StandsFor past core → x ≡ f (core_after core.roots past)
-
--- and so of that of the definitions
-pub core_of : {X : Type 0} (core : cores.Kept) (x : X) (f : model.Core → X) → IsReadOfCore core x f
-    → (c : model.Core) → IsCore c core → x ≡ f c
-core_of core x f g c k = g k.past k.stands ∙ ap f k.is
-
--- Caught up.
-
-up_if : (loaded idle a b c d e stopped : Bool) → stopped ≡ false
-    → ((loaded && idle && a && b && c && d) && (loaded && idle && e && not stopped)) ≡
-    (loaded && idle && a && b && c && d && e)
-up_if false idle a b c d e stopped h = refl
-up_if true false a b c d e stopped h = refl
-up_if true true false b c d e stopped h = refl
-up_if true true true false c d e stopped h = refl
-up_if true true true true false d e stopped h = refl
-up_if true true true true true false e stopped h = refl
-up_if true true true true true true false stopped h = refl
-up_if true true true true true true true stopped h = ap not h
-
--- nothing is under way and nothing is to be told, on either side
-rest_is : (i : ℕ) (s : Sources) (c : Client) (r : Runtime) → IsTied i c r
-    → (rests s (Some c) && is_at_rest r) ≡ is_caught_up s c r
-rest_is i s c r tie =
-    ap
-    (λ (p : Page). rests s (Some c) && (p.loaded && is_none p.plan && is_empty r.unsent && not r.stopped))
-    tie.page
-    ∙ up_if c.page.loaded (is_none c.page.plan) (is_empty (changed s c)) (is_empty c.page.forced)
-    (is_empty (dropped c)) (is_empty c.notices) (is_empty r.unsent) r.stopped tie.running
-
-state_is : (b : Bool) → is_up (if b then Up else Behind) ≡ b
-state_is true = refl
-state_is false = refl
-
-pub shown_state : (state : ClientState) → (if is_up state then Up else Behind) ≡ state
-shown_state Up = refl
-shown_state Behind = refl
 
 module _ {F : Type 0} (run : Run) (i : ℕ) (world : World F) (stands : StandsFor run world) where
   -- a client that isn't open isn't caught up
@@ -177,12 +122,6 @@ module _ {F : Type 0} (run : Run) (i : ℕ) (world : World F) (stands : StandsFo
         let o = opened run i world stands h there in
         read_of h rests_there is_at_rest there_too o.r o.is ∙ ap (λ b. b && is_at_rest o.r) (sym e)
         ∙ up_both rests_here here
-
--- The lines.
-
-pub load_is : (served : Served) (roots : List Name)
-    → fresh_load links served roots ≡ fresh_load (links_of module_language) served roots
-load_is served roots = same_load links (links_of module_language) links_are served roots
 
 module _ {F : Type 0} (run : Run) (world : World F) (stands : StandsFor run world) where
   -- what the server's roots would load anew

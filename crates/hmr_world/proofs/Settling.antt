@@ -1,9 +1,8 @@
 -- The result of a job of the world.
-use Rattle.std.proofs.Common.{◌≡◌, ◌≤◌, ℕ, Bool, true, false, cond, List, [], ◌∷◌, length, refl, sym, ap, ◌∙◌}
-use Rattle.std.specs.Prelude.{Ok, Option, Some, None, filter, find, is_some, not, option_map, unwrap_or}
+use Rattle.std.proofs.Common.{◌≡◌, ◌≤◌, ℕ, [], ◌∷◌, length, sym, ap, ◌∙◌}
+use Rattle.std.specs.Prelude.{Ok, Some, None, filter, find, is_some, not, option_map}
 use Rattle.std.specs.Global.{Vec}
 use Rattle.std.proofs.Math.Path.{subst}
-use Rattle.std.proofs.lemmas.Bool.{false≢true}
 use Rattle.hmr_types.specs.declared.limits.TheConstants.{TEXT_BYTES}
 use Rattle.output_lines.specs.declared.out_line.OutLine.{OutLine}
 use Rattle.output_lines.specs.declared.out_line.OutLine.TheVariants as line
@@ -17,40 +16,14 @@ use Rattle.version_map.specs.Standing.{settled_as}
 use Rattle.world_model.specs.Editing.{is_job}
 use Rattle.world_model.specs.World.{Job, settles}
 use Rattle.world_laws.specs.Runs.{Run, world_of}
-use Rattle.hmr_world.specs.Cores.{IsCore}
-use Rattle.hmr_world.specs.Jobs.{IsIssued, AreIssued}
-use Rattle.hmr_world.specs.Replies.{settled_word}
+use Rattle.world_parts.specs.Cores.{IsCore}
+use Rattle.world_parts.specs.Replies.{settled_word}
 use Rattle.hmr_world.specs.Standing.{IsRunning, IsStepped, StandsFor}
 use Rattle.hmr_world.specs.declared.world.World.{World}
 use Rattle.hmr_world.proofs.Given.{settle_none, settle_one}
-use Rattle.hmr_world.proofs.Issued.{are_issued}
-use Rattle.hmr_world.proofs.JobRows.{all_stay}
-
--- the job that is found has this text
-record HasText (test : Job → Bool) (jobs : List Job) (t : Text) : Type 0 where
-  j : Job
-  found : find test jobs ≡ Some j
-  text : j.text ≡ t
-
-text_by : (test : Job → Bool) (jobs : List Job) (t : Text) (o : Option Job) → find test jobs ≡ o → Some t ≡ option_map (λ (j : Job). j.text) o → HasText test jobs t
-text_by test jobs t None e k = absurd (false≢true (sym (ap is_some k)))
-text_by test jobs t (Some j) e k = record { j = j; found = e; text = sym (ap (λ o. unwrap_or o t) k) }
-
-text_found : (test : Job → Bool) (jobs : List Job) (t : Text) → Some t ≡ option_map (λ (j : Job). j.text) (find test jobs) → HasText test jobs t
-text_found test jobs t k = text_by test jobs t (find test jobs) refl k
-
-none_by : (o : Option Job) → None ≡ option_map (λ (j : Job). j.text) o → o ≡ None
-none_by None k = refl
-none_by (Some j) k = absurd (false≢true (ap is_some k))
-
--- a job that is found is one that was issued
-found_step : (counted : ℕ) (b : Bool) (x j : Job) (o : Option Job) → IsIssued counted x → (o ≡ Some j → IsIssued counted j) → cond b (Some x) o ≡ Some j → IsIssued counted j
-found_step counted true x j o h f e = subst (IsIssued counted) (ap (λ p. unwrap_or p x) e) h
-found_step counted false x j o h f e = f e
-
-found_issued : (counted : ℕ) (test : Job → Bool) (jobs : List Job) (j : Job) → AreIssued counted jobs → find test jobs ≡ Some j → IsIssued counted j
-found_issued counted test [] j h e = absurd (false≢true (ap is_some e))
-found_issued counted test (x ∷ xs) j h e = found_step counted (test x) x j (find test xs) h.0 (found_issued counted test xs j h.1) e
+use Rattle.world_parts.proofs.Issued.{are_issued}
+use Rattle.world_parts.proofs.JobRows.{all_stay}
+use Rattle.world_parts.proofs.JobTexts.{found_issued, none_by, text_found}
 
 -- the text of a job that is under way is no longer than a source may be
 pub short_text : {F : Type 0} (world : World F) → IsRunning world → (n : Name) (v : ℕ) (t : Text) → Some t ≡ option_map (λ (j : Job). j.text) (find (is_job n v) world.jobs) → length t ≤ TEXT_BYTES

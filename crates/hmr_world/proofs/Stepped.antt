@@ -8,11 +8,12 @@ use Rattle.output_lines.specs.declared.out_line.OutLine.{OutLine}
 use Rattle.core_model.specs.Sources.{Text}
 use Rattle.world_model.specs.World.{Step, Stepped}
 use Rattle.world_laws.specs.Runs.{Run}
-use Rattle.hmr_world.specs.Shelves.{AreShelves, Shelves}
-use Rattle.hmr_world.specs.Standing.{Has, IsStepped, IsRunning, StandsFor, run_on, step_in}
-use Rattle.hmr_world.specs.Stops.{AreLines}
-use Rattle.hmr_world.specs.declared.stop.WorldStop.{WorldStop}
-use Rattle.hmr_world.specs.declared.stop.WorldStop.TheVariants.{NoMemory}
+use Rattle.world_parts.specs.Shelves.{AreShelves, Shelves}
+use Rattle.hmr_world.specs.Standing.{Has, IsStepped, IsRunning, StandsFor}
+use Rattle.run_promises.specs.RunSteps.{run_on, step_in}
+use Rattle.world_parts.specs.Stops.{AreLines}
+use Rattle.world_parts.specs.declared.stop.WorldStop.{WorldStop}
+use Rattle.world_parts.specs.declared.stop.WorldStop.TheVariants.{NoMemory}
 use Rattle.hmr_world.specs.declared.world.World.{World}
 
 -- a step by what the definitions make of the run

@@ -19,14 +19,14 @@ use Rattle.world_model.specs.Ties.{IsUnderstood, UnderstandsAt}
 use Rattle.world_model.proofs.Tying.{understands, run_sound}
 use Rattle.world_laws.specs.Runs.{Run, world_of}
 use Rattle.hmr_world.specs.Clients.{IsRuntime, AreOpen}
-use Rattle.hmr_world.specs.Cores.{IsCore}
-use Rattle.hmr_world.specs.Shelves.{AreShelves}
+use Rattle.world_parts.specs.Cores.{IsCore}
+use Rattle.world_parts.specs.Shelves.{AreShelves}
 use Rattle.hmr_world.specs.Standing.{Has, IsStepped, StandsFor}
-use Rattle.hmr_world.specs.Stops.{AreLines}
+use Rattle.world_parts.specs.Stops.{AreLines}
 use Rattle.hmr_world.specs.Turns.{CanTurn, answer_to, taking_of}
-use Rattle.hmr_world.specs.declared.stop.WorldStop.{WorldStop}
+use Rattle.world_parts.specs.declared.stop.WorldStop.{WorldStop}
 use Rattle.hmr_world.specs.declared.world.World as code
-use Rattle.hmr_world.proofs.Issued.{message_goes, bye_goes}
+use Rattle.world_parts.proofs.Issued.{message_goes, bye_goes}
 use Rattle.hmr_world.proofs.Opened.{Opened, opened_at, closed_at, with_open, without_open}
 use Rattle.hmr_world.proofs.Stepped.{stepped_by, later_shelves}
 

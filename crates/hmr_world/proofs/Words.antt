@@ -3,7 +3,7 @@ use Rattle.std.proofs.Common.{◌≡◌, sym}
 use Rattle.std.proofs.Math.Path.{subst}
 use Rattle.handler_table.specs.Held.{Answers}
 use Rattle.hmr_world.specs.Clients as clients
-use Rattle.hmr_world.specs.Shelves.{AreHosts}
+use Rattle.world_parts.specs.Shelves.{AreHosts}
 use Rattle.hmr_world.specs.Standing.{KeepsWords}
 use Rattle.hmr_world.specs.declared.world.World.{World}
 

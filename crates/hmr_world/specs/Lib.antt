@@ -1,12 +1,3 @@
 pub mod Clients
-pub mod Cores
-pub mod Events
-pub mod Greetings
-pub mod Jobs
-pub mod Promises
-pub mod Replies
-pub mod Shelves
 pub mod Standing
-pub mod Steps
-pub mod Stops
 pub mod Turns

@@ -1,5 +1,5 @@
 -- What a world stands for: the definitions' world after the steps of a run.
-use Rattle.std.specs.Prelude.{◌≡◌, ◌∷◌, ℕ, List, Result, OnOk}
+use Rattle.std.specs.Prelude.{◌≡◌, ℕ, List, Result, OnOk}
 use Rattle.output_lines.specs.declared.out_line.OutLine.{OutLine}
 use Rattle.std.specs.Global.{Vec}
 use Rattle.core_model.specs.Names.{Name}
@@ -7,17 +7,16 @@ use Rattle.core_model.specs.Sources.{Text}
 use Rattle.handler_table.specs.Held.{Answers}
 use Rattle.module_language.specs.ModuleLanguage.{module_language}
 use Rattle.world_model.specs.World as model
-use Rattle.world_model.specs.World.{Step, Stepped}
-use Rattle.world_model.specs.Steps.{world_step}
-use Rattle.world_model.specs.Playing.{Stage}
+use Rattle.world_model.specs.World.{Step}
 use Rattle.world_model.specs.Ties.{WentOn}
 use Rattle.world_laws.specs.Runs.{Run, world_of}
-use Rattle.hmr_world.specs.Cores.{IsCore}
+use Rattle.run_promises.specs.RunSteps.{step_in}
+use Rattle.world_parts.specs.Cores.{IsCore}
 use Rattle.hmr_world.specs.Clients as clients
 use Rattle.hmr_world.specs.Clients.{AreOpen}
-use Rattle.hmr_world.specs.Shelves.{AreShelves, AreHosts}
-use Rattle.hmr_world.specs.Stops.{AreLines}
-use Rattle.hmr_world.specs.declared.stop.WorldStop.{WorldStop}
+use Rattle.world_parts.specs.Shelves.{AreShelves, AreHosts}
+use Rattle.world_parts.specs.Stops.{AreLines}
+use Rattle.world_parts.specs.declared.stop.WorldStop.{WorldStop}
 use Rattle.hmr_world.specs.declared.world.World.{World}
 
 -- the world has what the definitions' world has: the server's roots, the core, the open clients by number,
@@ -40,14 +39,6 @@ pub record IsRunning {F : Type 0} (world : World F) : Type 0 where
   pub run : Run
   pub stands : StandsFor run world
 
--- the run with one step more
-abbrev pub run_on : Run → Step → Run
-run_on run s = record run { steps = s ∷ run.steps }
-
--- what the step makes of the run's world
-abbrev pub step_in : Run → Step → Stepped
-step_in run s = world_step module_language run.roots run.shelves (world_of run) s
-
 -- A step was made: it answers the lines of the definitions, and leaves the world that they leave.
 pub record IsStepped {F : Type 0} (run : Run) (s : Step) (after : World F)
     (result : Result (Vec OutLine) WorldStop) : Type 0 where
@@ -58,7 +49,3 @@ pub record IsStepped {F : Type 0} (run : Run) (s : Step) (after : World F)
 pub record KeepsWords {F : Type 0} (answers : Answers F) (world : World F) : Type 0 where
   pub clients : clients.KeepWords answers world.clients.items
   pub shelves : AreHosts answers world.shelves.items
-
--- the page of a run: what its modules' texts mean, its roots, and each client's closures
-abbrev pub stage_of : Run → Stage
-stage_of run = record { language = module_language; roots = run.roots; shelves = run.shelves }

@@ -14,7 +14,7 @@ use Rattle.hot_runtime.specs.declared.runtime.HotRuntime.{HotRuntime}
 use Rattle.world_model.specs.Ties.{IsUnderstood}
 use Rattle.world_model.specs.Turning.{take_some}
 use Rattle.hmr_world.specs.Clients.{IsRuntime}
-use Rattle.hmr_world.specs.Cores.{IsCore}
+use Rattle.world_parts.specs.Cores.{IsCore}
 
 -- the core after the request that stands, and its reply
 abbrev pub answer_to : List Name → Core → ℕ → Runtime → Core × Reply

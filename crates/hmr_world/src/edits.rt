@@ -1,25 +1,16 @@
 // An edit: a module gets a text, for which a job is issued, or its source is taken away.
-ghost use Rattle.std.specs.Prelude.{◌≡◌, None, OnOk, Some};
+ghost use Rattle.std.specs.Prelude.{◌≡◌, None, Some};
 ghost use Rattle.std.specs.Option.{option_map};
-ghost use Rattle.core_model.specs.Sources.{EditAnswer};
-ghost use Rattle.world_model.specs.Editing.{with_job};
 ghost use Rattle.world_model.specs.World.{edits};
 ghost use Rattle.world_laws.specs.Runs.{Run};
-ghost use Rattle.hmr_world.specs.Jobs.{AreBelow};
-ghost use Rattle.hmr_world.specs.Replies.{answer_in};
 ghost use Rattle.hmr_world.specs.Standing.{IsStepped, StandsFor};
 
-use crate::core_calls::tell;
-use crate::jobs::Jobs;
-use crate::lines::one_line;
-use crate::replies::{edit_line, job_version, remove_line};
-use crate::stop::WorldStop;
 use crate::world::World;
 use hmr_types::ModName;
 use module_graph::copy_name;
 use output_lines::OutLine;
-use server_core::{Event, Reply};
-use std::alloc::AllocError;
+use server_core::Event;
+use world_parts::{WorldStop, edit_line, issue, one_line, remove_line, tell};
 
 impl<F> World<F> {
     /// A module gets a text, or its source is taken away.
@@ -64,16 +55,5 @@ impl<F> World<F> {
         let event = Event::Edit(copy_name(&name)?, None);
         let reply = tell(&mut self.core, self.alloc, event)?;
         Ok(one_line(self.alloc, remove_line(name, &reply))?)
-    }
-}
-
-// The job of a text that got a version.
-fn issue(jobs: &mut Jobs, reply: &Reply, name: &ModName, text: Vec<u8>) -> Result<(), AllocError>
-    ensures { (answer : EditAnswer) → answer_in reply.now ≡ Some answer → AreBelow answer jobs.old
-        → OnOk result (jobs.new ≡ with_job name.now (Some text.items) answer jobs.old) }
-{
-    match job_version(reply) {
-        Some(version) => jobs.add(version, copy_name(name)?, text),
-        None => Ok(()),
     }
 }

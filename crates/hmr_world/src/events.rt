@@ -1,29 +1,20 @@
 // The event that the core is told in a step, where it is told one.
-ghost use Rattle.std.specs.Prelude.{◌≡◌, ◌≤◌, IfOk, Some, length};
+ghost use Rattle.std.specs.Prelude.{◌≡◌, IfOk};
 ghost use Rattle.std.specs.Option.{option_map};
-ghost use Rattle.hmr_types.specs.declared.limits.TheConstants.{TEXT_BYTES};
-ghost use Rattle.module_semantics.specs.Analysis.{transformed};
-ghost use Rattle.module_semantics.specs.ModuleText.{parsing};
-ghost use Rattle.core_model.specs.Core.{change, connect};
-ghost use Rattle.core_model.specs.Sources.{edit};
-ghost use Rattle.core_model.specs.Sources as changes;
 ghost use Rattle.server_core.specs.Said.{event_of};
-ghost use Rattle.world_model.specs.World as model;
 ghost use Rattle.world_model.specs.World.{closes, settles, turn};
 ghost use Rattle.world_laws.specs.Runs.{Run};
-ghost use Rattle.hmr_world.specs.Events.{TellsItsEvent, event_in};
+ghost use Rattle.run_promises.specs.Events.{event_in};
+ghost use Rattle.world_parts.specs.Steps.{step_of};
 ghost use Rattle.hmr_world.specs.Standing.{IsRunning, StandsFor};
-ghost use Rattle.hmr_world.specs.Steps.{step_of};
 
 use crate::clients::client_at;
-use crate::step::Step;
 use crate::world::World;
 use client_exchange::event_of;
 use hmr_types::{ClientId, ModName, Ver};
-use import_scan::transform;
-use module_graph::{copy_name, copy_of};
 use server_core::Event;
-use std::alloc::{AllocError, Global};
+use std::alloc::AllocError;
+use world_parts::{Step, edit_to, hello_of, result_for};
 
 impl<F> World<F> {
     /// The event that the core would be told in this step, if it were made now; nothing changes. It is None
@@ -87,40 +78,3 @@ impl<F> World<F> {
         }
     }
 }
-
-// A module gets a text, or its source is taken away.
-fn edit_to(alloc: Global, name: &ModName, text: &Option<Vec<u8>>) -> Result<Event, AllocError>
-    ensures { IfOk result
-        (λ event. event_of event ≡ change (edit name.now (option_map (λ t. t.items) text.now))) }
-{
-    let name = copy_name(name)?;
-    match text {
-        Some(text) => Ok(Event::Edit(name, Some(Vec::from_slice(alloc, text)?))),
-        None => Ok(Event::Edit(name, None)),
-    }
-}
-
-// The result of transforming a text.
-fn result_for(alloc: Global, name: &ModName, version: Ver, text: &[u8]) -> Result<Event, AllocError>
-    requires short { length text.now ≤ TEXT_BYTES }
-    ensures { IfOk result
-        (λ event. event_of event
-        ≡ change (changes.result name.now text.now (transformed parsing name.now text.now) version)) }
-{
-    let copy = Vec::from_slice(alloc, text)?;
-    let transformed = transform(alloc, copy_name(name)?, copy)?;
-    Ok(Event::Settle(transformed, version))
-}
-
-// A client comes, and names these roots or none.
-fn hello_of(alloc: Global, names: &[ModName]) -> Result<Event, AllocError>
-    ensures { IfOk result (λ event. event_of event ≡ connect names.now) }
-{
-    Ok(Event::Connect(copy_of(alloc, names)?))
-}
-
-/// In each step, of every run, the core is told the event that `event_in` says and nothing else: where it
-/// says one, the core is then what that event makes of it, and where it says none, the core is as it was.
-pub fn each_step_tells_its_event()
-    ensures { (run : Run) (s : model.Step) → TellsItsEvent run s }
-{}

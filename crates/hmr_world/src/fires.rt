@@ -5,11 +5,11 @@ ghost use Rattle.module_language.specs.ModuleLanguage.{module_language};
 ghost use Rattle.world_model.specs.World.{fires};
 ghost use Rattle.world_model.specs.Turning.{heard_at};
 ghost use Rattle.world_laws.specs.Runs.{Run, world_of};
-ghost use Rattle.hmr_world.specs.Standing.{IsRunning, KeepsWords, StandsFor, run_on};
-ghost use Rattle.hmr_world.specs.Stops.{AreHeard};
+ghost use Rattle.run_promises.specs.RunSteps.{run_on};
+ghost use Rattle.world_parts.specs.Stops.{AreHeard};
+ghost use Rattle.hmr_world.specs.Standing.{IsRunning, KeepsWords, StandsFor};
 
 use crate::clients::place_of;
-use crate::stop::WorldStop;
 use crate::world::World;
 use const_eval::Ran;
 use hmr_types::{ClientId, ModName, Value};
@@ -17,6 +17,7 @@ use hot_runtime::RuntimeFault;
 use output_lines::OutLine;
 use retained_data::Bag;
 use std::alloc::AllocError;
+use world_parts::WorldStop;
 
 impl<F: FnOnce(Bag) -> Result<Ran, AllocError> + Drop> World<F> {
     /// Fires an event with a value at a client's page, and gives the lines: None exactly where the client

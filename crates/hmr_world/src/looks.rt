@@ -1,22 +1,20 @@
 // What a world shows; nothing changes.
-ghost use Rattle.std.specs.Prelude.{◌≡◌, ◌++◌, IfOk, if◌then◌else◌, is_some, map, reverse};
+ghost use Rattle.std.specs.Prelude.{◌≡◌, IfOk, is_some, map, reverse};
 ghost use Rattle.core_model.specs.Core.{client_at};
-ghost use Rattle.output_lines.specs.declared.words.ClientState.TheVariants.{Behind, Up};
-ghost use Rattle.client_model.specs.Printing.{stale_line};
 ghost use Rattle.world_model.specs.Playing.{is_up_in};
 ghost use Rattle.world_model.specs.World as model;
 ghost use Rattle.world_laws.specs.Runs.{Run, world_of};
-ghost use Rattle.hmr_world.specs.Jobs.{key_of};
-ghost use Rattle.hmr_world.specs.Standing.{IsStepped, StandsFor, stage_of};
+ghost use Rattle.run_promises.specs.RunSteps.{stage_of};
+ghost use Rattle.world_parts.specs.Jobs.{key_of};
+ghost use Rattle.hmr_world.specs.Standing.{IsStepped, StandsFor};
 
 use crate::clients::client_at;
-use crate::lines::{one_line, unknown};
-use crate::stop::WorldStop;
 use crate::world::World;
-use client_exchange::{add_modules, load_lines};
+use fresh_loads::{add_modules, fresh, fresh_of, load_lines};
 use hmr_types::{ClientId, ModName, Ver};
-use output_lines::{ClientState, OutLine};
+use output_lines::OutLine;
 use std::alloc::AllocError;
+use world_parts::{WorldStop, add_stale, one_line, state_of, unknown};
 
 impl<F> World<F> {
     /// Whether the client is open and caught up: its page is loaded, no plan is under way, and nothing is
@@ -93,7 +91,7 @@ impl<F> World<F> {
         ensures { (run : Run) → StandsFor run self.now
             → IsStepped run model.fresh self.now result }
     {
-        let load = self.core.fresh(self.alloc)?;
+        let load = fresh(self.alloc, &self.core)?;
         Ok(load_lines(self.alloc, OutLine::Fresh, load)?)
     }
 
@@ -105,32 +103,9 @@ impl<F> World<F> {
         let Some(_) = client_at(&self.clients, client) else {
             return Ok(unknown(self.alloc, client)?);
         };
-        match self.core.fresh_of(self.alloc, client)? {
+        match fresh_of(self.alloc, &self.core, client)? {
             Some(load) => Ok(load_lines(self.alloc, OutLine::FreshOf { client }, load)?),
             None => Ok(unknown(self.alloc, client)?),
         }
     }
-}
-
-fn state_of(up: bool) -> ClientState
-    ensures { result ≡ (if up then Up else Behind) }
-{
-    if up {
-        ClientState::Up
-    } else {
-        ClientState::Behind
-    }
-}
-
-// The lines of stale edges, behind those before.
-fn add_stale(lines: &mut Vec<OutLine>, edges: Vec<(ModName, ModName)>) -> Result<(), AllocError>
-    ensures { IfOk result (λ _. lines.new.items ≡ lines.old.items ++ map stale_line edges.items) }
-{
-    for (importer, dependency) in edges {
-        lines.push(OutLine::Stale {
-            importer,
-            dependency,
-        })?;
-    }
-    Ok(())
 }

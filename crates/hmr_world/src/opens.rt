@@ -12,43 +12,25 @@ ghost use Rattle.hot_runtime.specs.Standing as runtimes;
 ghost use Rattle.world_model.specs.World.{opens};
 ghost use Rattle.world_laws.specs.Runs.{Run};
 ghost use Rattle.output_lines.specs.declared.out_line.OutLine.TheVariants.{Open};
-ghost use Rattle.hmr_world.specs.declared.stop.WorldStop.TheVariants.{NoMemory};
+ghost use Rattle.world_parts.specs.declared.stop.WorldStop.TheVariants.{NoMemory};
+ghost use Rattle.world_parts.specs.Greetings.{greeted, welcomed};
+ghost use Rattle.world_parts.specs.Shelves.{AreShelves};
 ghost use Rattle.hmr_world.specs.Clients.{AreOpen, IsRuntime};
-ghost use Rattle.hmr_world.specs.Greetings.{greeted, greeting_in, welcomed};
-ghost use Rattle.hmr_world.specs.Shelves.{AreShelves};
 ghost use Rattle.hmr_world.specs.Standing.{IsRunning, IsStepped, KeepsWords, StandsFor};
 
-use crate::core_calls::tell;
-use crate::lines::one_line;
-use crate::shelves::take_shelf;
-use crate::stop::WorldStop;
 use crate::turns::take_answer;
 use crate::world::World;
 use const_eval::Ran;
-use core_model::Refusal;
 use handler_table::Shelf;
 use hmr_types::{ClientId, ModName, Sequence};
 use hot_runtime::HotRuntime;
 use module_graph::copy_of;
 use output_lines::OutLine;
 use retained_data::Bag;
-use server_core::{Event, Reply};
+use server_core::Event;
 use std::alloc::{AllocError, Global};
 use update_msgs::ServerMsg;
-
-/// What the core says to a client that comes.
-#[derive(Drop)]
-pub(crate) enum Greeting {
-    /// The client gets this number, and its page these roots.
-    Taken {
-        client: ClientId,
-        roots: Sequence<ModName>,
-    },
-    /// The client isn't taken, since its roots are bad.
-    BadRoots,
-    /// The client isn't taken.
-    Full,
-}
+use world_parts::{Greeting, WorldStop, one_line, said_to_newcomer, take_shelf, tell};
 
 impl<F: FnOnce(Bag) -> Result<Ran, AllocError> + Drop> World<F> {
     /// A client comes, in this format and with these roots. It is open where the core takes it.
@@ -134,16 +116,5 @@ fn welcome<F: FnOnce(Bag) -> Result<Ran, AllocError> + Drop>(
         Ok(_) => Ok(runtime),
         Err(WorldStop::NoMemory) => Err(AllocError),
         Err(WorldStop::InstancesFull) => unreachable!(),
-    }
-}
-
-// What a reply says to a client that comes.
-fn said_to_newcomer(reply: Reply) -> Greeting
-    ensures { result ≡ greeting_in reply }
-{
-    match reply {
-        Reply::To(ServerMsg::Connected { client, roots }) => Greeting::Taken { client, roots },
-        Reply::Refused(Refusal::BadRoots) => Greeting::BadRoots,
-        _ => Greeting::Full,
     }
 }

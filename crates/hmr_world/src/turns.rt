@@ -11,16 +11,12 @@ ghost use Rattle.world_model.specs.Turning.{lines_taken};
 ghost use Rattle.world_model.specs.World.{closes, turn};
 ghost use Rattle.world_laws.specs.Runs.{Run};
 ghost use Rattle.hmr_world.specs.Clients.{IsRuntime};
-ghost use Rattle.hmr_world.specs.Cores.{IsCore};
+ghost use Rattle.world_parts.specs.Cores.{IsCore};
 ghost use Rattle.hmr_world.specs.Standing.{IsRunning, IsStepped, KeepsWords, StandsFor};
-ghost use Rattle.hmr_world.specs.Stops.{AreLines};
+ghost use Rattle.world_parts.specs.Stops.{AreLines};
 ghost use Rattle.hmr_world.specs.Turns.{CanTake, CanTurn, answer_to, taking_of};
 
 use crate::clients::{client_at, place_of, take_out};
-use crate::core_calls::tell;
-use crate::lines::{one_line, unknown};
-use crate::stop::WorldStop;
-use crate::wire::{sent_by_client, sent_by_server};
 use crate::world::World;
 use client_exchange::{event_of, message_in};
 use const_eval::Ran;
@@ -31,6 +27,7 @@ use retained_data::Bag;
 use server_core::{Core, Event};
 use std::alloc::{AllocError, Global};
 use update_msgs::ServerMsg;
+use world_parts::{WorldStop, one_line, sent_by_client, sent_by_server, tell, unknown};
 
 impl<F: FnOnce(Bag) -> Result<Ran, AllocError> + Drop> World<F> {
     /// One request of a client, and its answer.

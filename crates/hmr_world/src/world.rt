@@ -6,25 +6,23 @@ ghost use Rattle.hmr_types.specs.declared.limits.TheConstants.{ROOTS};
 ghost use Rattle.server_core.specs.declared.event.NewFault.TheVariants.{DuplicateRoot, NoRoots};
 ghost use Rattle.server_core.specs.declared.event.NewFault.TheVariants.{TooManyRoots};
 ghost use Rattle.world_laws.specs.Runs.{Run};
-ghost use Rattle.hmr_world.specs.Promises.{KeepsPromises, OthersAreLeftAlone};
-ghost use Rattle.hmr_world.specs.Shelves.{AreHosts};
-ghost use Rattle.hmr_world.specs.Standing.{IsRunning, IsStepped, KeepsWords, StandsFor, run_on, step_in};
-ghost use Rattle.hmr_world.specs.Steps.{HasFormat, step_of};
-ghost use Rattle.hmr_world.specs.Stops.{AreLines};
+ghost use Rattle.run_promises.specs.Promises.{KeepsPromises, OthersAreLeftAlone};
+ghost use Rattle.run_promises.specs.RunSteps.{run_on, step_in};
+ghost use Rattle.world_parts.specs.Shelves.{AreHosts};
+ghost use Rattle.world_parts.specs.Steps.{HasFormat, step_of};
+ghost use Rattle.world_parts.specs.Stops.{AreLines};
+ghost use Rattle.hmr_world.specs.Standing.{IsRunning, IsStepped, KeepsWords, StandsFor};
 
 use crate::clients::Row;
-use crate::jobs::Jobs;
-use crate::promises::what_is_promised_of_runs;
-use crate::shelves::discard;
-use crate::step::Step;
-use crate::stop::WorldStop;
 use const_eval::Ran;
 use handler_table::Shelf;
 use hmr_types::ModName;
 use output_lines::OutLine;
 use retained_data::Bag;
+use run_promises::what_is_promised_of_runs;
 use server_core::{Core, NewFault};
 use std::alloc::{AllocError, Global};
+use world_parts::{Jobs, Step, WorldStop, discard};
 
 /// The world. That it stands for a run, the list of its steps so far, is the relation `StandsFor`. It may
 /// be given up at any moment; then every handler and closure in it is discarded.

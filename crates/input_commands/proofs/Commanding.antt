@@ -9,14 +9,15 @@ use Rattle.client_model.specs.Runtime.{Runtime}
 use Rattle.world_model.specs.World.{Job, settles, turn}
 use Rattle.world_model.specs.Playing.{Stage, is_up_in, settle_of}
 use Rattle.world_laws.specs.Runs.{Run, world_of}
-use Rattle.hmr_world.specs.Jobs.{key_of}
+use Rattle.world_parts.specs.Jobs.{key_of}
+use Rattle.run_promises.specs.RunSteps as run_steps
 use Rattle.hmr_world.specs.Standing as worlds
 use Rattle.hmr_world.specs.declared.world.World.{World}
-use Rattle.event_world.specs.Courses.{Course, plain, world_in}
-use Rattle.event_world.specs.Runs.{run_of}
-use Rattle.event_world.specs.Playing.{Played, client_in, is_up_at, play_step, play_turns, play_turns_of, settle_all, turns}
+use Rattle.event_runs.specs.Courses.{Course, plain, world_in}
+use Rattle.event_runs.specs.Runs.{run_of}
+use Rattle.event_runs.specs.Playing.{Played, client_in, is_up_at, play_step, play_turns, play_turns_of, settle_all, turns}
 use Rattle.event_world.specs.declared.event_world.EventWorld.{EventWorld}
-use Rattle.input_commands.specs.Playing.{commanded, nothing, settled_by}
+use Rattle.script_runs.specs.Playing.{commanded, nothing, settled_by}
 use Rattle.input_commands.specs.Standing.{IsAt}
 
 steps_of : (jobs : List Job) →
@@ -57,7 +58,7 @@ module _ {F : Type 0} (stage : Stage) (w : Course) (world : EventWorld F) (h : I
 
   -- the run's world is the one of the course
   in_course : {X : Type 0} (read : Stage → Course → X) →
-      read (worlds.stage_of (run_of h.run)) (record { steps = (run_of h.run).steps; calls = w.calls })
+      read (run_steps.stage_of (run_of h.run)) (record { steps = (run_of h.run).steps; calls = w.calls })
       ≡ read stage (record { steps = w.steps; calls = w.calls })
   in_course read =
       ap (λ st. read st (record { steps = (run_of h.run).steps; calls = w.calls })) h.stage_is
@@ -66,7 +67,7 @@ module _ {F : Type 0} (stage : Stage) (w : Course) (world : EventWorld F) (h : I
   -- what is read of the world is read of the course's world
   pub caught_up_at : (i : ℕ) (up said : Bool) →
       ((run : Run) → worlds.StandsFor run seen →
-      up ≡ is_up_in (worlds.stage_of run) (world_of run) i (client_at (world_of run).clients i)) →
+      up ≡ is_up_in (run_steps.stage_of run) (world_of run) i (client_at (world_of run).clients i)) →
       up ≡ said → is_up_at stage w i ≡ said
   caught_up_at i up said f e = sym (f (run_of h.run) stands_seen ∙ in_course (λ st c. is_up_at st c i)) ∙ e
 

@@ -8,27 +8,28 @@ use Rattle.std.proofs.lemmas.Bool.{false≢true}
 use Rattle.hmr_base.proofs.Fronts.{front_none}
 use Rattle.output_lines.specs.declared.out_line.OutLine.{OutLine}
 use Rattle.world_model.specs.Playing.{Stage}
-use Rattle.event_world.specs.Courses.{Course, EventStep, event_step}
-use Rattle.event_world.specs.Logs.{IsLogOf, IsLogged, core_events}
-use Rattle.event_world.specs.Playing.{Played, joined, stepped_on, play_step}
-use Rattle.event_world.specs.Runs.{run_on, stage_of, step_in}
+use Rattle.event_runs.specs.Courses.{Course, EventStep, event_step}
+use Rattle.event_runs.specs.Logs.{IsLogOf, core_events}
+use Rattle.event_world.specs.Logs.{IsLogged}
+use Rattle.event_runs.specs.Playing.{Played, joined, stepped_on, play_step}
+use Rattle.event_runs.specs.Runs.{run_on, stage_of, step_in}
 use Rattle.event_world.specs.Standing.{StandsFor}
-use Rattle.hmr_world.specs.Stops.{AreLines}
-use Rattle.hmr_world.specs.declared.stop.WorldStop.{WorldStop}
-use Rattle.hmr_world.specs.declared.stop.WorldStop.TheVariants as worlds
+use Rattle.world_parts.specs.Stops.{AreLines}
+use Rattle.world_parts.specs.declared.stop.WorldStop.{WorldStop}
+use Rattle.world_parts.specs.declared.stop.WorldStop.TheVariants as worlds
 use Rattle.event_world.specs.declared.event_world.EventWorld.{EventWorld}
-use Rattle.input_commands.specs.declared.stop.Stop.{Stop}
-use Rattle.input_commands.specs.declared.stop.Stop.TheVariants.{InstancesFull}
-use Rattle.input_commands.specs.Ends.{stop_of_world}
-use Rattle.input_commands.specs.Outputs.{lines_text}
-use Rattle.input_commands.specs.Playing as plays
-use Rattle.input_commands.specs.Playing.{nothing, quieted}
-use Rattle.input_commands.specs.Standing.{IsAt}
-use Rattle.input_commands.specs.Writing.{HasCause, IsPlayStop, LogsAt, Plays, Taken, Takes, TakesFront}
-use Rattle.input_commands.proofs.Writing.{takes_none}
+use Rattle.text_commands.specs.declared.stop.Stop.{Stop}
+use Rattle.text_commands.specs.declared.stop.Stop.TheVariants.{InstancesFull}
+use Rattle.script_runs.specs.Stops.{stop_of_world}
+use Rattle.text_commands.specs.Outputs.{lines_text}
+use Rattle.text_commands.specs.Showing as showing
+use Rattle.script_runs.specs.Playing.{nothing, quieted}
+use Rattle.input_commands.specs.Standing.{IsAt, LogsAt, Plays}
+use Rattle.text_commands.specs.Writing.{HasCause, IsPlayStop, Taken, Takes, TakesFront}
+use Rattle.text_commands.proofs.Taking.{takes_none}
 
 -- of no lines none is shown
-pub none_shown : (quiet : Bool) → plays.shown quiet [] ≡ []
+pub none_shown : (quiet : Bool) → showing.shown quiet [] ≡ []
 none_shown true = refl
 none_shown false = refl
 
@@ -63,8 +64,8 @@ module _ {F : Type 0} (stage : Stage) (w : Course) (old : EventWorld F) (h : IsA
   pub step_plays : (s : EventStep) (quiet : Bool) (lines : Vec OutLine) (after : EventWorld F) (a b : Taken)
       (result : Result (Unit {0}) Stop) →
       AreLines (step_in h.run s).lines (Ok lines) → StandsFor (run_on h.run s) after →
-      IsLogged (run_on h.run s) after → TakesFront a b (plays.shown quiet lines.items) →
-      OnOk result (Takes a b (plays.shown quiet lines.items)) → (result ≡ Err InstancesFull → ⊥) →
+      IsLogged (run_on h.run s) after → TakesFront a b (showing.shown quiet lines.items) →
+      OnOk result (Takes a b (showing.shown quiet lines.items)) → (result ≡ Err InstancesFull → ⊥) →
       Plays stage a b (quieted quiet (play_step stage (nothing w) s)) after result
   step_plays s quiet lines after a b result are k logged front done other =
       subst (λ (p : Played). Plays stage a b (quieted quiet p) after result)
@@ -92,7 +93,7 @@ module _ {F : Type 0} (stage : Stage) (w : Course) (old : EventWorld F) (h : IsA
       subst (λ (p : Played). Plays stage a a (quieted quiet p) after (Err stop)) (sym (part_is s None are))
       (record {
         performs = record {
-          front = front_none a.bytes (lines_text (plays.shown quiet []));
+          front = front_none a.bytes (lines_text (showing.shown quiet []));
           done = tt;
           goes_on = tt;
           ended = λ full. refl;
@@ -104,7 +105,7 @@ module _ {F : Type 0} (stage : Stage) (w : Course) (old : EventWorld F) (h : IsA
   step_stops s quiet worlds.NoMemory after a stop are logged e =
       record {
         performs = record {
-          front = front_none a.bytes (lines_text (plays.shown quiet (play_step stage (nothing w) s).lines));
+          front = front_none a.bytes (lines_text (showing.shown quiet (play_step stage (nothing w) s).lines));
           done = tt;
           goes_on = tt;
           ended = λ full. absurd (cc);

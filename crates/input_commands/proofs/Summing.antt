@@ -7,18 +7,18 @@ use Rattle.std.proofs.Math.Path.{subst}
 use Rattle.core_model.specs.Names.{Name}
 use Rattle.core_model.specs.Sources.{Text}
 use Rattle.world_model.specs.Playing.{Stage}
-use Rattle.event_world.specs.Courses.{Course, new_course}
+use Rattle.event_runs.specs.Courses.{Course, new_course}
 use Rattle.event_world.specs.Logs.{IsLogged}
-use Rattle.event_world.specs.Playing.{Played}
-use Rattle.event_world.specs.Runs.{EventRun}
+use Rattle.event_runs.specs.Playing.{Played}
+use Rattle.event_runs.specs.Runs.{EventRun}
 use Rattle.event_world.specs.Standing.{StandsFor}
 use Rattle.event_world.specs.declared.event_world.EventWorld.{EventWorld}
 use Rattle.play_script.specs.declared.script_line.ScriptLine.{ScriptLine}
-use Rattle.input_commands.specs.Making.{generated}
-use Rattle.input_commands.specs.declared.stop.Stop.{Stop}
-use Rattle.input_commands.specs.Playing.{page_played, perform, script_played, stage_on}
+use Rattle.made_scripts.specs.Making.{generated}
+use Rattle.text_commands.specs.declared.stop.Stop.{Stop}
+use Rattle.script_runs.specs.Playing.{page_played, perform, script_played, stage_on}
 use Rattle.input_commands.specs.Standing.{IsAt}
-use Rattle.input_commands.specs.Summing.{SumsUp}
+use Rattle.script_runs.specs.Summing.{SumsUp}
 
 -- what was made is no fault
 pub made_no_fault : {X E : Type 0} (result : Result X E) (x : X) (e : E) → result ≡ Ok x → result ≡ Err e → ⊥

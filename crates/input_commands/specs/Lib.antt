@@ -1,16 +1,1 @@
-pub mod Checking
-pub mod Making
-pub mod Summary
-pub mod Playing
-pub mod Instances
-pub mod Auditing
-pub mod Recording
-pub mod Outputs
-pub mod Commands
 pub mod Standing
-pub mod Writing
-pub mod Summing
-pub mod Recorded
-pub mod Ends
-pub mod Headline
-pub mod Runs

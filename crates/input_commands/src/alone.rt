@@ -1,32 +1,30 @@
 // The commands that work on their input alone, from the words that were read to a status and an output.
 ghost use Rattle.std.specs.Prelude.{◌≡◌, ◌≤◌, Err, None, IfErr, IfOk, IfSome, IsErrOf, OnOk, false, map};
 ghost use Rattle.std.specs.Prelude.{string_bytes, true};
-ghost use Rattle.std.specs.Io.KnownBytes.{Appends, IsAtEnd, Keeps};
+ghost use Rattle.std.specs.Io.KnownBytes.{IsAtEnd, Keeps};
 ghost use Rattle.handler_table.specs.Shelf.{marks_of};
 ghost use Rattle.hmr_base.specs.Causes.{Rose};
 ghost use Rattle.hmr_base.specs.Fronts.{WritesFront};
-ghost use Rattle.hmr_world.specs.Shelves.{AreHosts};
-ghost use Rattle.command_ends.specs.Ends.{limit_line, number};
+ghost use Rattle.world_parts.specs.Shelves.{AreHosts};
 ghost use Rattle.command_words.specs.Words.{Gives, HasRanges, command_of};
-ghost use Rattle.input_commands.specs.declared.stop.Stop.TheVariants.{NotACommand, Unread, Unwritten};
-ghost use Rattle.input_commands.specs.Ends.{EndsAtWords, Finishes, IsSilent, StopsAt, last_of, status_of};
-ghost use Rattle.input_commands.specs.Outputs.{IsOwnStatus, WorksAlone, output_of, reads_input, whole};
-ghost use Rattle.input_commands.specs.Runs.{AnswersWords, IsComplete, ReadsInput, WritesOutput};
+ghost use Rattle.text_commands.specs.declared.stop.Stop.TheVariants.{NotACommand, Unread, Unwritten};
+ghost use Rattle.text_commands.specs.Ends.{EndsAtWords, Finishes, IsOwnStatus, StopsAt};
+ghost use Rattle.text_commands.specs.Inputs.{WorksAlone, reads_input};
+ghost use Rattle.text_commands.specs.Outputs.{whole};
+ghost use Rattle.text_commands.specs.Runs.{AnswersWords, IsComplete, ReadsInput, WritesOutput};
+ghost use Rattle.script_runs.specs.Outputs.{output_of};
 
-use crate::audit::audit;
-use crate::check::check;
 use crate::make::make;
 use crate::record::record;
 use crate::script::play;
-use crate::stop::Stop;
-use command_ends::{Limit, Status};
-use command_words::{Command, WordsFault, usage};
+use command_words::{Command, WordsFault};
 use const_eval::Ran;
 use handler_table::Shelf;
-use hmr_base::{Sink, Source, write_all};
-use hmr_world::discard;
+use hmr_base::{Sink, Source};
 use retained_data::Bag;
 use std::alloc::{AllocError, Global};
+use text_commands::{Stop, audit, check, tell_end};
+use world_parts::discard;
 
 /// Carries out `play`, `check`, `make`, `record` or `audit`, for words that were read so, and writes the line
 /// of what ended it before its end: of the words, of a fault, or of a limit. It answers the exit status; what
@@ -67,50 +65,6 @@ pub fn run_alone<F: FnOnce(Bag) -> Result<Ran, AllocError> + Drop, S: Source, K:
 {
     let ended = carry_out(alloc, words, read, input, out, shelves);
     tell_end(ended, out).number()
-}
-
-// Writes the line of an end, and answers its exit status.
-fn tell_end<K: Sink>(ended: Result<(), Stop>, out: &mut K) -> Status
-    ensures is { result ≡ status_of ended }
-    ensures known { IsOwnStatus (number result) }
-    ensures front { WritesFront (K.written out.old) (K.written out.new) (last_of ended) }
-    ensures whole { ¬ Rose (K.faults out.old) (K.faults out.new)
-        → Appends (K.written out.old) (K.written out.new) (last_of ended) }
-    ensures silent { IsSilent ended → out.new ≡ out.old }
-    ensures unwritten { number result ≡ 5 → ended ≡ Err Stop.Unwritten }
-    ensures later { K.faults out.old ≤ K.faults out.new }
-{
-    match ended {
-        Ok(()) => Status::Done,
-        Err(Stop::NotACommand) => {
-            let _ = write_all(out, usage().as_bytes());
-            Status::NotACommand
-        }
-        Err(Stop::Faulty(line)) => {
-            let _ = write_all(out, &line);
-            Status::NoScript
-        }
-        Err(Stop::TooLong) => tell_limit(Limit::Script, out),
-        Err(Stop::TextTooLong) => tell_limit(Limit::Text, out),
-        Err(Stop::RecordTooLong) => tell_limit(Limit::Record, out),
-        Err(Stop::TranscriptFull) => tell_limit(Limit::Transcript, out),
-        Err(Stop::InstancesFull) => tell_limit(Limit::Instances, out),
-        Err(Stop::Unread) => Status::Unread,
-        Err(Stop::Unwritten) => Status::Unwritten,
-        Err(Stop::NoMemory) => Status::NoMemory,
-    }
-}
-
-// Writes the line of a limit, and answers the exit status of limits.
-fn tell_limit<K: Sink>(limit: Limit, out: &mut K) -> Status
-    ensures is { result ≡ Status.Limit }
-    ensures front { WritesFront (K.written out.old) (K.written out.new) (limit_line limit) }
-    ensures whole { ¬ Rose (K.faults out.old) (K.faults out.new)
-        → Appends (K.written out.old) (K.written out.new) (limit_line limit) }
-    ensures later { K.faults out.old ≤ K.faults out.new }
-{
-    let _ = write_all(out, limit.line().as_bytes());
-    Status::Limit
 }
 
 /// Carries out the command that the words are.

@@ -1,40 +1,39 @@
 // The command `make`: a script is generated and played, its lines are kept, and their summary is written.
 ghost use Rattle.std.specs.List.{All};
-ghost use Rattle.std.specs.Prelude.{◌≡◌, ◌≢◌, ◌<◌, ◌≤◌};
-ghost use Rattle.std.specs.Prelude.{IfErr, IfOk, IsErrOf, OnOk, count_by, false, map, true};
+ghost use Rattle.std.specs.Prelude.{◌≡◌, ◌≢◌, ◌<◌, ◌≤◌, IfErr, IfOk, IsErrOf, OnOk, false, map};
 ghost use Rattle.handler_table.specs.Shelf.{marks_of};
 ghost use Rattle.hmr_base.specs.Causes.{Rose};
 ghost use Rattle.hmr_base.specs.Fronts.{WritesFront};
-ghost use Rattle.hmr_world.specs.Shelves.{AreHosts};
-ghost use Rattle.event_world.specs.Courses.{Course, world_in};
+ghost use Rattle.world_parts.specs.Shelves.{AreHosts};
+ghost use Rattle.event_runs.specs.Courses.{Course, world_in};
 ghost use Rattle.event_world.specs.Standing.{IsRunning, KeepsWords};
-ghost use Rattle.input_commands.specs.Making.{generated};
 ghost use Rattle.play_script.specs.Asked.{HasFormat};
 ghost use Rattle.world_model.specs.Playing.{Stage};
-ghost use Rattle.input_commands.specs.declared.stop.Stop.TheVariants.{Unread, Unwritten};
-ghost use Rattle.input_commands.specs.Ends.{Finishes, StopsAt};
-ghost use Rattle.input_commands.specs.Instances.{instances_made, is_instance};
-ghost use Rattle.input_commands.specs.Outputs.{output_of_make, whole};
-ghost use Rattle.input_commands.specs.Playing.{perform, script_played, stage_on};
+ghost use Rattle.text_commands.specs.declared.stop.Stop.TheVariants.{Unread, Unwritten};
+ghost use Rattle.text_commands.specs.Ends.{Finishes, StopsAt};
+ghost use Rattle.text_commands.specs.Outputs.{whole};
+ghost use Rattle.made_scripts.specs.Making.{generated};
+ghost use Rattle.script_runs.specs.Instances.{instances_made};
+ghost use Rattle.script_runs.specs.Outputs.{output_of_make};
+ghost use Rattle.script_runs.specs.Playing.{perform, script_played, stage_on};
+ghost use Rattle.script_runs.specs.Summing.{SumsUp};
 ghost use Rattle.input_commands.specs.Standing.{IsAt};
-ghost use Rattle.input_commands.specs.Summing.{SumsUp};
 
-use crate::line_sink::KeptLines;
-use crate::made_script::{Generated, generate};
 use crate::play::play_all;
-use crate::run_summary::summary;
-use crate::stop::Stop;
 use const_eval::Ran;
-use event_world::{EventStep, EventWorld};
+use event_runs::EventStep;
+use event_world::EventWorld;
 use handler_table::Shelf;
 use hmr_base::{Sink, write_all};
 use hmr_types::ClientId;
-use hmr_world::{Step, World, WorldStop, discard};
-use output_lines::OutLine;
+use hmr_world::World;
+use made_scripts::{Generated, count_instances, generate, summary};
 use play_script::ScriptLine;
 use retained_data::Bag;
 use server_core::NewFault;
 use std::alloc::{AllocError, Global};
+use text_commands::{KeptLines, Stop};
+use world_parts::{Step, WorldStop, discard};
 
 /// Makes the script of a page of `count` modules that the seed gives, plays it on a world whose clients get
 /// the closures of these shelves, and writes the summary of its run. What there is to write is the
@@ -158,33 +157,4 @@ fn instances_made<F: FnOnce(Bag) -> Result<Ran, AllocError> + Drop>(
         Err(WorldStop::InstancesFull) => unreachable!(),
         Err(WorldStop::NoMemory) => Err(Stop::NoMemory),
     }
-}
-
-fn count_instances(lines: &[OutLine]) -> u64
-    ensures { result ≡ count_by is_instance lines.now }
-{
-    let mut count = 0;
-    for line in lines {
-        if is_instance(line) {
-            count += 1;
-        }
-    }
-    count
-}
-
-/// Whether the line is that of an instance.
-#[tactic(auto, unfolding(crate::specs::Instances::is_instance))]
-fn is_instance(line: &OutLine) -> bool
-    ensures { result ≡ is_instance line.now }
-{
-    matches!(
-        line,
-        OutLine::Instance {
-            number: _,
-            name: _,
-            version: _,
-            status: _,
-            fate: _
-        }
-    )
 }

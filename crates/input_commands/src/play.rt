@@ -1,29 +1,29 @@
 // Plays the commands of a script on a world. The lines of each step are shown as it is made.
 ghost use Rattle.std.specs.List.{All};
 ghost use Rattle.std.specs.Prelude.{◌≡◌, IfErr, IfOk, OnOk, false};
-ghost use Rattle.event_world.specs.Courses.{Course};
-ghost use Rattle.event_world.specs.Logs.{is_on};
+ghost use Rattle.event_runs.specs.Courses.{Course};
+ghost use Rattle.event_runs.specs.Logs.{is_on};
 ghost use Rattle.event_world.specs.Standing.{IsRunning, KeepsWords};
-ghost use Rattle.event_world.specs.Steps.{HasFormat, event_step_of};
+ghost use Rattle.event_runs.specs.Steps.{HasFormat, event_step_of};
 ghost use Rattle.play_script.specs.Asked as asked;
 ghost use Rattle.world_model.specs.Playing.{Stage};
-ghost use Rattle.event_world.specs.Playing.{play_step, play_turns};
-ghost use Rattle.event_world.specs.Playing as model;
-ghost use Rattle.input_commands.specs.Commands.{FitsFormat, command_seen};
-ghost use Rattle.input_commands.specs.Playing.{commanded, nothing, perform, quieted, settled_by};
-ghost use Rattle.input_commands.specs.Standing.{IsAt};
-ghost use Rattle.input_commands.specs.Writing.{HasCause, IsPlayStop, Plays};
+ghost use Rattle.event_runs.specs.Playing.{play_step, play_turns};
+ghost use Rattle.event_runs.specs.Playing as model;
+ghost use Rattle.text_commands.specs.Writing.{HasCause, IsPlayStop};
+ghost use Rattle.script_runs.specs.Commands.{FitsFormat, command_seen};
+ghost use Rattle.script_runs.specs.Playing.{commanded, nothing, perform, quieted, settled_by};
+ghost use Rattle.input_commands.specs.Standing.{IsAt, Plays};
 
-use crate::command::{Command, command_of};
-use crate::line_sink::LineSink;
-use crate::stop::Stop;
 use const_eval::Ran;
-use event_world::{EventStep, EventWorld};
+use event_runs::EventStep;
+use event_world::EventWorld;
 use hmr_types::{ClientId, ModName, Ver};
-use hmr_world::Step;
 use play_script::{Commands, ScriptLine};
 use retained_data::Bag;
+use script_runs::{Command, command_of, stop_of_world};
 use std::alloc::{AllocError, Global};
+use text_commands::{LineSink, Stop};
+use world_parts::Step;
 
 /// Plays the commands of a script, which are asked for one by one, and shows the lines of each step as the
 /// step is made.
@@ -286,7 +286,7 @@ fn play_step<F: FnOnce(Bag) -> Result<Ran, AllocError> + Drop, K: LineSink>(
 {
     match world.step(step) {
         Ok(lines) => out.show(alloc, quiet, lines),
-        Err(ended) => Err(Stop::from(ended)),
+        Err(ended) => Err(stop_of_world(ended)),
     }
 }
 

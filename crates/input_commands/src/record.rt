@@ -1,47 +1,42 @@
 // The command `record`: a script is read from the input and played, and the record of what the core was told
 // in its run is written.
-ghost use Rattle.std.specs.Prelude.{◌≡◌, ◌≢◌, ◌≤◌, IfErr, IfOk, IfSome, IsErrOf, OnOk, false, length, map};
-ghost use Rattle.std.specs.Prelude.{true};
+ghost use Rattle.std.specs.Prelude.{◌≡◌, ◌≢◌, ◌≤◌, IfErr, IfSome, IsErrOf, OnOk, false, length, map, true};
 ghost use Rattle.std.specs.Io.KnownBytes.{IsAtEnd, Keeps};
 ghost use Rattle.core_model.specs.Roots.{AreRoots};
 ghost use Rattle.handler_table.specs.Shelf.{marks_of};
 ghost use Rattle.hmr_base.specs.Causes.{Rose};
 ghost use Rattle.hmr_base.specs.Fronts.{WritesFront};
 ghost use Rattle.hmr_types.specs.declared.limits.TheConstants.{SCRIPT_BYTES};
-ghost use Rattle.hmr_world.specs.Shelves.{AreHosts};
-ghost use Rattle.event_world.specs.Courses.{Course};
-ghost use Rattle.event_world.specs.Logs.{IsLogOf, is_on};
-ghost use Rattle.event_world.specs.Playing.{Played};
+ghost use Rattle.world_parts.specs.Shelves.{AreHosts};
+ghost use Rattle.event_runs.specs.Courses.{Course};
+ghost use Rattle.event_runs.specs.Logs.{is_on};
 ghost use Rattle.event_world.specs.Standing.{IsRunning, KeepsWords};
 ghost use Rattle.play_script.specs.Script.{script_of};
 ghost use Rattle.world_model.specs.Playing.{Stage};
-ghost use Rattle.input_commands.specs.declared.stop.Stop.TheVariants.{Unread, Unwritten};
-ghost use Rattle.input_commands.specs.Ends.{AreFew, Finishes, StopsAt};
-ghost use Rattle.input_commands.specs.Outputs.{Output, output_of_record, record_of_run, record_of_script};
-ghost use Rattle.input_commands.specs.Outputs.{whole};
-ghost use Rattle.input_commands.specs.Playing.{perform, script_played, stage_on};
-ghost use Rattle.input_commands.specs.Recorded.{IsLoggedEnd, IsRecordStop, IsSomeLog, IsSomeLoggedEnd};
-ghost use Rattle.input_commands.specs.Recorded.{IsSomewhere, Records};
-ghost use Rattle.input_commands.specs.Recording.{events_of};
-ghost use Rattle.input_commands.specs.Standing.{IsAt};
+ghost use Rattle.text_commands.specs.declared.stop.Stop.TheVariants.{Unread, Unwritten};
+ghost use Rattle.text_commands.specs.Ends.{AreFew, Finishes, StopsAt};
+ghost use Rattle.text_commands.specs.Outputs.{whole};
+ghost use Rattle.text_commands.specs.Recorded.{Records};
+ghost use Rattle.script_runs.specs.Outputs.{output_of_record, record_of_run, record_of_script};
+ghost use Rattle.script_runs.specs.Playing.{perform, script_played, stage_on};
+ghost use Rattle.input_commands.specs.Standing.{IsAt, IsSomewhere};
 
-use crate::line_sink::DroppedLines;
 use crate::play::play_lines;
-use crate::script::stop_of_fault;
-use crate::stop::Stop;
 use const_eval::Ran;
-use event_world::{EventLog, EventWorld};
+use event_world::EventWorld;
 use handler_table::Shelf;
-use hmr_base::{Sink, Source, read_all, write_all};
+use hmr_base::{Sink, Source, read_all};
 use hmr_types::ModName;
 use hmr_types::limits::SCRIPT_BYTES;
-use hmr_world::{World, discard};
+use hmr_world::World;
 use module_graph::copy_of;
 use play_script::{Commands, Script, read_script};
 use retained_data::Bag;
-use server_core::{Event, NewFault};
+use script_runs::record_log;
+use server_core::NewFault;
 use std::alloc::{AllocError, Global};
-use transcript_check::write_record;
+use text_commands::{DroppedLines, Stop, stop_of_fault, write_recorded};
+use world_parts::discard;
 
 /// Reads a script, plays it, and writes the record of the events that the core was told in its run, once it
 /// is over. What there is to write for an input is the definition `output_of_record`. The events are kept in
@@ -109,29 +104,6 @@ fn record_bytes<F: FnOnce(Bag) -> Result<Ran, AllocError> + Drop, K: Sink>(
 {
     let recorded = record_of(alloc, bytes, shelves);
     write_recorded(recorded, out)
-}
-
-/// Writes the text of a record, if there is one.
-fn write_recorded<K: Sink>(recorded: Result<Vec<u8>, Stop>, out: &mut K) -> Result<(), Stop>
-    ensures done { (o : Output) → Records o recorded
-        → OnOk result (Finishes o (K.written out.old) (K.written out.new)) }
-    ensures front { (o : Output) → Records o recorded
-        → WritesFront (K.written out.old) (K.written out.new) (whole o) }
-    ensures stops { (o : Output) → Records o recorded
-        → IfErr result (λ stop. StopsAt o (K.written out.old) (K.written out.new) stop) }
-    ensures words { (o : Output) → Records o recorded → IfErr result (λ stop. stop ≢ Stop.NotACommand) }
-    ensures read { (o : Output) → Records o recorded → IfErr result (λ stop. stop ≢ Unread) }
-    ensures unwritten { (o : Output) → Records o recorded
-        → IsErrOf result Unwritten → Rose (K.faults out.old) (K.faults out.new) }
-    ensures later { K.faults out.old ≤ K.faults out.new }
-{
-    match recorded {
-        Ok(text) => {
-            write_all(out, &text)?;
-            Ok(())
-        }
-        Err(stop) => Err(stop),
-    }
 }
 
 /// The text of the record of the script that the bytes are.
@@ -202,65 +174,4 @@ fn record_on<F: FnOnce(Bag) -> Result<Ran, AllocError> + Drop>(
     let played = play_lines(alloc, &mut world, commands, &mut DroppedLines {});
     let log = world.end_with_log();
     record_log(alloc, roots, played, log)
-}
-
-/// The text of the record of a run that ended so and left this log.
-fn record_log(
-    alloc: Global,
-    roots: &[ModName],
-    played: Result<(), Stop>,
-    log: EventLog,
-) -> Result<Vec<u8>, Stop>
-    requires roots { AreRoots roots.now }
-    requires on { is_on log ≡ true }
-    requires some { IsSomeLoggedEnd played log }
-    ensures { (stage : Stage) (p : Played) → IsLoggedEnd stage p played log → stage.roots ≡ roots.now
-        → Records (record_of_run stage p) result }
-{
-    match played {
-        Ok(()) => record_events(alloc, roots, log),
-        Err(stop) => Err(stop_at(&stop, &log)),
-    }
-}
-
-/// The text of the record of the events of a log.
-fn record_events(alloc: Global, roots: &[ModName], log: EventLog) -> Result<Vec<u8>, Stop>
-    requires roots { AreRoots roots.now }
-    requires on { is_on log ≡ true }
-    requires some { IsSomeLog log }
-    ensures { (stage : Stage) (p : Played) → IsLogOf (events_of stage p) log → p.over ≡ false
-        → stage.roots ≡ roots.now → Records (record_of_run stage p) result }
-{
-    match log {
-        EventLog::Kept(events, _) => Ok(write_record(alloc, roots, &events)?),
-        EventLog::Full => Err(Stop::TranscriptFull),
-        EventLog::Off => unreachable!(),
-    }
-}
-
-/// Why a run that stopped so isn't recorded.
-fn stop_at(stop: &Stop, log: &EventLog) -> Stop
-    requires on { is_on log.now ≡ true }
-    ensures { (stage : Stage) (p : Played) → (stop.now ≡ Stop.InstancesFull → p.over ≡ true)
-        → (stop.now ≡ Stop.InstancesFull → IsLogOf (events_of stage p) log.now)
-        → IsRecordStop (record_of_run stage p) result }
-{
-    match stop {
-        Stop::InstancesFull => stop_at_instances(log),
-        // Lines that are dropped meet no fault of an output, so memory ran out.
-        _ => Stop::NoMemory,
-    }
-}
-
-/// Which limit a run that ends by too many instances meets: that of a transcript, if its events passed it.
-fn stop_at_instances(log: &EventLog) -> Stop
-    requires on { is_on log.now ≡ true }
-    ensures { (stage : Stage) (p : Played) → IsLogOf (events_of stage p) log.now → p.over ≡ true
-        → IsRecordStop (record_of_run stage p) result }
-{
-    match log {
-        EventLog::Kept(_, _) => Stop::InstancesFull,
-        EventLog::Full => Stop::TranscriptFull,
-        EventLog::Off => unreachable!(),
-    }
 }

@@ -1,35 +1,38 @@
 // The command `play`: a script is read from the input, and played on a world of its own.
-ghost use Rattle.std.specs.Prelude.{◌≡◌, ◌≢◌, ◌≤◌, IfErr, IfOk, IfSome, IsErrOf, OnOk, false, length, map};
+ghost use Rattle.std.specs.Prelude.{◌≢◌, ◌≤◌, IfErr, IfSome, IsErrOf, OnOk, false, length, map};
 ghost use Rattle.std.specs.Io.KnownBytes.{IsAtEnd, Keeps};
 ghost use Rattle.handler_table.specs.Shelf.{marks_of};
 ghost use Rattle.hmr_base.specs.Causes.{Rose};
 ghost use Rattle.hmr_base.specs.Fronts.{WritesFront};
 ghost use Rattle.hmr_types.specs.declared.limits.TheConstants.{SCRIPT_BYTES};
-ghost use Rattle.hmr_world.specs.Shelves.{AreHosts};
-ghost use Rattle.event_world.specs.Courses.{Course};
+ghost use Rattle.world_parts.specs.Shelves.{AreHosts};
+ghost use Rattle.event_runs.specs.Courses.{Course};
 ghost use Rattle.event_world.specs.Standing.{IsRunning, KeepsWords};
 ghost use Rattle.play_script.specs.Script.{script_of};
 ghost use Rattle.world_model.specs.Playing.{Stage};
-ghost use Rattle.input_commands.specs.declared.stop.Stop.TheVariants.{Unread, Unwritten};
-ghost use Rattle.input_commands.specs.Ends.{AreFew, Finishes, IsFaultStop, StopsAt};
-ghost use Rattle.input_commands.specs.Outputs.{fault_line, output_of_play, output_of_script, whole};
-ghost use Rattle.input_commands.specs.Playing.{perform, script_played};
+ghost use Rattle.text_commands.specs.declared.stop.Stop.TheVariants.{Unread, Unwritten};
+ghost use Rattle.text_commands.specs.Ends.{AreFew, Finishes, StopsAt};
+ghost use Rattle.text_commands.specs.Outputs.{whole};
+ghost use Rattle.text_commands.specs.Writing.{HasCause, IsPlayStop, written_as};
+ghost use Rattle.script_runs.specs.Outputs.{output_of_play, output_of_script};
+ghost use Rattle.script_runs.specs.Playing.{perform, script_played};
+ghost use Rattle.script_runs.specs.Performing.{Performs};
 ghost use Rattle.input_commands.specs.Standing.{IsAt};
-ghost use Rattle.input_commands.specs.Writing.{HasCause, IsPlayStop, Performs, written_as};
 
 use crate::play::play_lines;
-use crate::stop::Stop;
 use const_eval::Ran;
 use event_world::EventWorld;
 use handler_table::Shelf;
 use hmr_base::{Sink, Source, read_all};
 use hmr_types::limits::SCRIPT_BYTES;
-use hmr_world::{World, discard};
+use hmr_world::World;
 use module_graph::copy_of;
-use play_script::{Commands, Script, ScriptFault, ScriptRefusal, read_script, script_word};
+use play_script::{Commands, Script, read_script};
 use retained_data::Bag;
 use server_core::NewFault;
 use std::alloc::{AllocError, Global};
+use text_commands::{Stop, stop_of_fault};
+use world_parts::discard;
 
 /// Reads a script, and plays it: the lines of each step are written as the step is made. What there is to
 /// write for an input is the definition `output_of_play`.
@@ -155,26 +158,4 @@ fn play_on<F: FnOnce(Bag) -> Result<Ran, AllocError> + Drop, K: Sink>(
     let played = play_lines(alloc, &mut world, commands, out);
     world.end();
     played
-}
-
-/// The stop where a script isn't read: the line of its fault, or that memory ran out.
-pub fn stop_of_fault(alloc: Global, refusal: ScriptRefusal) -> Stop
-    ensures { IsFaultStop refusal result }
-{
-    match refusal {
-        ScriptRefusal::Faulty(fault) => match fault_line(alloc, fault) {
-            Ok(line) => Stop::Faulty(line),
-            Err(_) => Stop::NoMemory,
-        },
-        ScriptRefusal::NoMemory => Stop::NoMemory,
-    }
-}
-
-fn fault_line(alloc: Global, fault: ScriptFault) -> Result<Vec<u8>, AllocError>
-    ensures { IfOk result (λ line. line.items ≡ fault_line fault) }
-{
-    let word = script_word(fault.kind);
-    let number = fault.line;
-    let line = format!(in alloc; "script fault at line {number}: {word}\n")?;
-    Ok(line.into_bytes())
 }

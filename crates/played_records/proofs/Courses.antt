@@ -12,11 +12,11 @@ use Rattle.world_model.specs.Turning as turning
 use Rattle.world_model.specs.Turning.{fired_by, heard_at}
 use Rattle.world_model.specs.World.{Job, World, turn}
 use Rattle.hot_events.specs.Calls.{Event, first}
-use Rattle.event_world.specs.Courses.{Course, EventStep, emits, event_step, fired_at, hear_step, hears, plain, world_in}
-use Rattle.event_world.specs.Playing.{Command, Played, client_in, is_up_at, play_step, play_turns, play_turns_of, settle_all, step, stepped_on, turns}
+use Rattle.event_runs.specs.Courses.{Course, EventStep, emits, event_step, fired_at, hear_step, hears, plain, world_in}
+use Rattle.event_runs.specs.Playing.{Command, Played, client_in, is_up_at, play_step, play_turns, play_turns_of, settle_all, step, stepped_on, turns}
 use Rattle.play_script.specs.declared.script_line.ScriptLine.{ScriptLine}
 use Rattle.play_script.specs.declared.script_line.ScriptLine.TheVariants as says
-use Rattle.input_commands.specs.Playing.{command_of, commanded, line_played, nothing, perform, quieted, unless}
+use Rattle.script_runs.specs.Playing.{command_of, commanded, line_played, nothing, perform, quieted, unless}
 use Rattle.record_agreement.proofs.Lists.{Each}
 use Rattle.played_records.proofs.Lines.{LineNamed}
 use Rattle.played_records.proofs.Worlds.{StepNamed}

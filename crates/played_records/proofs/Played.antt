@@ -13,18 +13,19 @@ use Rattle.core_model.specs.Sources.{Text}
 use Rattle.core_model.specs.Transcript.{most_bytes, most_entries}
 use Rattle.world_model.specs.World.{Step}
 use Rattle.world_laws.specs.Runs.{Run}
-use Rattle.hmr_world.specs.Events.{TellsItsEvent}
-use Rattle.event_world.specs.Courses.{new_course}
-use Rattle.event_world.specs.Logs.{core_events, fits}
-use Rattle.event_world.specs.Playing.{Played}
+use Rattle.run_promises.specs.Events.{TellsItsEvent}
+use Rattle.event_runs.specs.Courses.{new_course}
+use Rattle.event_runs.specs.Logs.{core_events, fits}
+use Rattle.event_runs.specs.Playing.{Played}
 use Rattle.play_script.specs.declared.fault.ScriptFault.{ScriptFault}
 use Rattle.play_script.specs.declared.script_line.ScriptLine.{ScriptLine}
 use Rattle.play_script.specs.Script.{Contents, script_of}
-use Rattle.input_commands.specs.Auditing.{record_bytes, verdict_line}
-use Rattle.input_commands.specs.Outputs.{Output, audit_within, output_of_audit, output_of_record, record_of_run, record_of_script, record_within, recorded, whole}
-use Rattle.input_commands.specs.Playing.{page_played, perform, script_played, stage_on}
-use Rattle.input_commands.specs.Recording.{events_of, events_text}
-use Rattle.input_commands.proofs.Roots.{few_of}
+use Rattle.text_commands.specs.Auditing.{record_bytes, verdict_line}
+use Rattle.text_commands.specs.Outputs.{Output, audit_within, output_of_audit, whole}
+use Rattle.script_runs.specs.Outputs.{output_of_record, record_of_run, record_of_script, record_within, recorded}
+use Rattle.script_runs.specs.Playing.{page_played, perform, script_played, stage_on}
+use Rattle.script_runs.specs.Recording.{events_of, events_text}
+use Rattle.text_commands.proofs.Roots.{few_of}
 use Rattle.record_laws.specs.Bounds.{past_bytes}
 use Rattle.record_laws.specs.Course.{verdict_of}
 use Rattle.record_laws.specs.Sound.{rests_behind}

@@ -36,8 +36,8 @@ use Rattle.world_model.proofs.Tying.{run_sound}
 use Rattle.world_laws.specs.Runs.{Run}
 use Rattle.world_laws.specs.Unsent.{AreUnsentVersions}
 use Rattle.world_laws.proofs.Unsent.{unsent_run}
-use Rattle.hmr_world.specs.Events.{TellsItsEvent, bye_of, event_at, request_of, result_of, told}
-use Rattle.event_world.specs.Logs.{core_events, listed}
+use Rattle.run_promises.specs.Events.{TellsItsEvent, bye_of, event_at, request_of, result_of, told}
+use Rattle.event_runs.specs.Logs.{core_events, listed}
 use Rattle.record_laws.specs.Bounds.{entry_bytes, past_bytes}
 use Rattle.record_laws.proofs.Ranges.{goes}
 use Rattle.record_laws.proofs.Recorded.{IsTrue}

@@ -6,13 +6,14 @@ ghost use Rattle.record_laws.specs.Course.{verdict_of};
 ghost use Rattle.record_laws.specs.Sound.{rests_behind};
 ghost use Rattle.record_laws.specs.Written.{lines_told};
 ghost use Rattle.record_laws.specs.declared.verdict.Verdict.TheVariants.{Yes};
-ghost use Rattle.input_commands.specs.Auditing.{record_bytes};
-ghost use Rattle.input_commands.specs.Outputs.{output_of_audit, output_of_record, whole};
-ghost use Rattle.input_commands.specs.Playing.{script_played, stage_on};
-ghost use Rattle.input_commands.specs.Recording.{events_of};
+ghost use Rattle.text_commands.specs.Auditing.{record_bytes};
+ghost use Rattle.text_commands.specs.Outputs.{output_of_audit, whole};
+ghost use Rattle.script_runs.specs.Outputs.{output_of_record};
+ghost use Rattle.script_runs.specs.Playing.{script_played, stage_on};
+ghost use Rattle.script_runs.specs.Recording.{events_of};
 ghost use Rattle.played_records.specs.Confirmed.{SaysYes};
 
-use hmr_world::each_step_tells_its_event;
+use run_promises::each_step_tells_its_event;
 
 /// Of what `record` writes of a script with a root, where its status is 0, the check says yes, with as many
 /// steps as the core was told events in the run of the script (`yes`). So `audit` writes the line of a yes of

@@ -10,9 +10,10 @@ use Rattle.core_model.specs.Sources.{Text}
 use Rattle.command_words.specs.declared.command.Command.{Command}
 use Rattle.command_words.specs.declared.command.Command.TheVariants as commands
 use Rattle.command_words.specs.declared.command.ServePlan.{ServePlan}
-use Rattle.input_commands.specs.Outputs.{Output, output_meant}
+use Rattle.text_commands.specs.Outputs.{Output}
+use Rattle.script_runs.specs.Outputs.{output_meant}
 use Rattle.top_call.specs.Outside.{IsJoinStatus, IsServeStatus}
-use Rattle.input_commands.specs.Runs.{AnswersWords, IsComplete, ReadsInput, WritesOutput}
+use Rattle.text_commands.specs.Runs.{AnswersWords, IsComplete, ReadsInput, WritesOutput}
 
 -- nothing is said of an output that isn't given
 pub nothing_written : (output : Option Output) (old new : Option (List ℕ)) (before now status : ℕ)

@@ -7,9 +7,9 @@ use Rattle.hmr_base.specs.Causes.{Rose}
 use Rattle.core_model.specs.Sources.{Text}
 use Rattle.command_words.specs.declared.command.Command.{Command}
 use Rattle.command_words.specs.declared.command.Command.TheVariants as commands
-use Rattle.input_commands.specs.Outputs.{output_meant}
+use Rattle.script_runs.specs.Outputs.{output_meant}
 use Rattle.top_call.specs.Paged.{IsPageStatus}
-use Rattle.input_commands.specs.Runs.{ReadsInput}
+use Rattle.text_commands.specs.Runs.{ReadsInput}
 
 pub page_gives_none : (shelves : List (List (Text × ℕ))) (command : Option Command) (folder : List ℕ)
     (left : Option (List ℕ)) → command ≡ Some (commands.Page folder) → output_meant shelves command left ≡ None

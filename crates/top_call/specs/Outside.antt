@@ -23,15 +23,15 @@ use Rattle.hmr_hub.specs.declared.pass.Pass.{Pass}
 use Rattle.join_command.specs.declared.stop.JoinStop.{JoinStop}
 use Rattle.join_command.specs.declared.stop.JoinStop.TheVariants as joins
 use Rattle.join_command.specs.Joining.{JoinsAt}
-use Rattle.folder_server.specs.declared.stop.ServeStop.{ServeStop}
-use Rattle.folder_server.specs.declared.stop.ServeStop.TheVariants as stops
-use Rattle.folder_server.specs.Rounds.{Files}
-use Rattle.folder_server.specs.Serving.{Served, StopsEarly, Wrote, WroteEarly}
-use Rattle.input_commands.specs.declared.stop.Stop.{Stop}
-use Rattle.input_commands.specs.declared.stop.Stop.TheVariants.{NotACommand, TooLong, TextTooLong, Faulty}
-use Rattle.input_commands.specs.declared.stop.Stop.TheVariants.{RecordTooLong, Unread, Unwritten}
-use Rattle.input_commands.specs.declared.stop.Stop.TheVariants.{TranscriptFull, InstancesFull, NoMemory}
-use Rattle.input_commands.specs.Outputs.{fault_line}
+use Rattle.folder_edits.specs.declared.stop.ServeStop.{ServeStop}
+use Rattle.folder_edits.specs.declared.stop.ServeStop.TheVariants as stops
+use Rattle.folder_edits.specs.Rounds.{Files}
+use Rattle.folder_edits.specs.Serving.{Served, StopsEarly, Wrote, WroteEarly}
+use Rattle.text_commands.specs.declared.stop.Stop.{Stop}
+use Rattle.text_commands.specs.declared.stop.Stop.TheVariants.{NotACommand, TooLong, TextTooLong, Faulty}
+use Rattle.text_commands.specs.declared.stop.Stop.TheVariants.{RecordTooLong, Unread, Unwritten}
+use Rattle.text_commands.specs.declared.stop.Stop.TheVariants.{TranscriptFull, InstancesFull, NoMemory}
+use Rattle.text_commands.specs.Outputs.{fault_line}
 
 -- no other status is answered
 abbrev pub IsStatus : ℕ → Type 0

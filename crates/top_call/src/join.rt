@@ -5,7 +5,7 @@ ghost use Rattle.handler_table.specs.Held.{IsHost};
 ghost use Rattle.handler_table.specs.Shelf.{marks_of};
 ghost use Rattle.hmr_base.specs.Causes.{Rose};
 ghost use Rattle.hmr_base.specs.Fronts.{WritesFront};
-ghost use Rattle.hmr_world.specs.Shelves.{AreHosts};
+ghost use Rattle.world_parts.specs.Shelves.{AreHosts};
 ghost use Rattle.transport.specs.declared.net.Asked.{Asked};
 ghost use Rattle.top_call.specs.Outside.{IsJoinStatus, IsJoined, first_shelf, last_of_join};
 ghost use Rattle.top_call.specs.Outside.{opening_of, status_of_join};
@@ -14,11 +14,11 @@ use command_ends::{Limit, Status};
 use const_eval::Ran;
 use handler_table::Shelf;
 use hmr_base::{Sink, write_all};
-use hmr_world::discard;
 use join_command::{JoinPlan, JoinStop, join};
 use retained_data::Bag;
 use std::alloc::{AllocError, Global};
 use transport::Net;
+use world_parts::discard;
 
 /// One client to the server of a plan, by [`join`], with the closures of the first shelf. It
 /// answers the exit status: 0, 5, 7, 8, 9 or 10; at 8 the line of the limit stands behind the client's

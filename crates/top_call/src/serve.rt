@@ -6,7 +6,7 @@ ghost use Rattle.hmr_base.specs.Causes.{Rose};
 ghost use Rattle.hmr_types.specs.declared.limits.TheConstants.{MESSAGE_BYTES, SCRIPT_BYTES};
 ghost use Rattle.command_words.specs.Words.{IsServable};
 ghost use Rattle.folders.specs.Files.{MayOpen};
-ghost use Rattle.hmr_world.specs.Shelves.{AreHosts};
+ghost use Rattle.world_parts.specs.Shelves.{AreHosts};
 ghost use Rattle.hub_editor.specs.Edits.{edits_in, length_of, text_in};
 ghost use Rattle.jobs.specs.Begun.{none_begun};
 ghost use Rattle.transport.specs.declared.net.Asked.{Asked};
@@ -18,20 +18,21 @@ use crate::embedding::Embedding;
 use command_ends::{Limit, Status};
 use command_words::ServePlan;
 use const_eval::Ran;
-use folder_server::{Outside, Plan, ServeStop, ServeTask, serve};
+use folder_edits::ServeStop;
+use folder_server::{Outside, Plan, ServeTask, serve};
 use folders::Tree;
 use hmr_base::{Sink, Source, read_all, write_all};
 use hmr_types::ModName;
 use hmr_types::limits::SCRIPT_BYTES;
-use hmr_world::discard;
-use input_commands::{Stop, stop_of_fault};
 use jobs::{Gate, Spawner};
 use play_script::{Edit, Edits, read_edits};
 use retained_data::Bag;
 use std::alloc::{AllocError, Global};
 use std::sync::Wait;
 use std::thread::Threads;
+use text_commands::{Stop, stop_of_fault};
 use transport::Net;
+use world_parts::discard;
 
 /// Serves the folder of a plan, with the edits of the input where the plan asks for them. It answers the
 /// exit status: 3, 4, 8 and 9 where the input has no edits, with the line of the fault or of the limit for 3

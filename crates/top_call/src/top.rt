@@ -3,13 +3,14 @@ ghost use Rattle.std.specs.Prelude.{◌≡◌, ◌⊎◌, ◌+◌, ◌∷◌, []
 ghost use Rattle.std.specs.Io.KnownBytes.{Keeps};
 ghost use Rattle.handler_table.specs.Shelf.{marks_of};
 ghost use Rattle.hmr_base.specs.Causes.{Rose};
-ghost use Rattle.hmr_world.specs.Shelves.{AreHosts};
+ghost use Rattle.world_parts.specs.Shelves.{AreHosts};
 ghost use Rattle.play_script.specs.Script.{script_of};
 ghost use Rattle.command_words.specs.Words.{command_of};
 ghost use Rattle.jobs.specs.Begun.{none_begun};
-ghost use Rattle.input_commands.specs.Headline.{ShowsAreFresh};
-ghost use Rattle.input_commands.specs.Outputs.{is_page, output_of, reads_input};
-ghost use Rattle.input_commands.specs.Runs.{AnswersWords, IsComplete, ReadsInput, WritesOutput};
+ghost use Rattle.script_runs.specs.Headline.{ShowsAreFresh};
+ghost use Rattle.text_commands.specs.Inputs.{is_page, reads_input};
+ghost use Rattle.script_runs.specs.Outputs.{output_of};
+ghost use Rattle.text_commands.specs.Runs.{AnswersWords, IsComplete, ReadsInput, WritesOutput};
 ghost use Rattle.top_call.specs.Outside.{HasServed, IfJoin, IfServe, IsJoined, IsStatus, MayAsk};
 ghost use Rattle.top_call.specs.Outside.{MayHaveOpened, is_join, opening_of};
 ghost use Rattle.top_call.specs.Paged.{IfPage, IsPaged};
@@ -23,7 +24,6 @@ use const_eval::Ran;
 use folder_server::Outside;
 use folders::Tree;
 use hmr_base::{Sink, Source};
-use hmr_world::discard;
 use input_commands::run_alone;
 use jobs::{Gate, Spawner};
 use join_command::JoinPlan;
@@ -32,6 +32,7 @@ use std::alloc::{AllocError, Global};
 use std::sync::Wait;
 use std::thread::Threads;
 use transport::Net;
+use world_parts::discard;
 
 /// What the program does, but for making the real input and output: it answers the exit status.
 ///

@@ -1,8 +1,9 @@
 use Rattle.std.proofs.Common.{map}
 use Rattle.std.specs.Prelude.{string_bytes}
 use Rattle.handler_table.specs.Shelf.{marks_of}
-use Rattle.input_commands.specs.Outputs.{output_of, whole}
-use Rattle.input_commands.proofs.Answering.{nothing_yet}
+use Rattle.script_runs.specs.Outputs.{output_of}
+use Rattle.text_commands.specs.Outputs.{whole}
+use Rattle.text_commands.proofs.Answering.{nothing_yet}
 use Rattle.input_commands.proofs.alone.carry_out.Goals as goal
 
 pub returns-in-Err-clause-front : goal.returns-in-Err-clause-front

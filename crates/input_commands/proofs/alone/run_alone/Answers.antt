@@ -4,9 +4,9 @@ use Rattle.std.proofs.Math.Path.{subst}
 use Rattle.handler_table.specs.Shelf.{marks_of}
 use Rattle.command_ends.specs.Ends.{number}
 use Rattle.command_words.specs.Words.{command_of}
-use Rattle.input_commands.specs.Outputs.{output_of}
-use Rattle.input_commands.specs.Runs.{AnswersWords, IsComplete, ReadsInput, WritesOutput}
-use Rattle.input_commands.proofs.Telling.{answers_words, is_complete, reads_input_so, writes_output}
+use Rattle.script_runs.specs.Outputs.{output_of}
+use Rattle.text_commands.specs.Runs.{AnswersWords, IsComplete, ReadsInput, WritesOutput}
+use Rattle.text_commands.proofs.Telling.{answers_words, is_complete, reads_input_so, writes_output}
 use Rattle.input_commands.proofs.alone.run_alone.Goals as goal
 
 pub returns-clause-words : goal.returns-clause-words

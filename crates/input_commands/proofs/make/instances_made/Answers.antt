@@ -1,10 +1,10 @@
 use Rattle.std.proofs.Common.{ap, ◌∙◌}
 use Rattle.std.specs.Prelude.{count_by}
 use Rattle.world_model.specs.World.{fates}
-use Rattle.event_world.specs.Courses.{Moved, plain, world_in}
-use Rattle.event_world.specs.Runs.{course_of, stage_of}
-use Rattle.input_commands.specs.Instances.{is_instance}
-use Rattle.input_commands.proofs.Instances.{fates_count, fates_go_on}
+use Rattle.event_runs.specs.Courses.{Moved, plain, world_in}
+use Rattle.event_runs.specs.Runs.{course_of, stage_of}
+use Rattle.made_scripts.specs.Summary.{is_instance}
+use Rattle.script_runs.proofs.Instances.{fates_count, fates_go_on}
 use Rattle.input_commands.proofs.Stepping.{same_step}
 use Rattle.input_commands.proofs.make.instances_made.Goals as goal
 

@@ -4,9 +4,9 @@ use Rattle.std.specs.Vec.Iter.{into_iter_items}
 use Rattle.std.proofs.lemmas.List.{nil_from_length}
 use Rattle.std.proofs.lemmas.List.Elements.{All-rest, All-same}
 use Rattle.play_script.specs.Asked.{HasFormat}
-use Rattle.input_commands.specs.Commands.{command_seen}
-use Rattle.input_commands.specs.Playing.{commanded, perform, quieted}
-use Rattle.input_commands.proofs.Playing.{next_command, next_quiet}
+use Rattle.script_runs.specs.Commands.{command_seen}
+use Rattle.script_runs.specs.Playing.{commanded, perform, quieted}
+use Rattle.script_runs.proofs.Playing.{next_command, next_quiet}
 use Rattle.input_commands.proofs.Stepping.{from_ok}
 use Rattle.input_commands.proofs.Writing.{begins, finishes, likewise, more, stops}
 use Rattle.input_commands.proofs.play.play_all.Goals as goal

@@ -2,11 +2,11 @@ use Rattle.std.proofs.Common.{◌≡◌, ◌≤◌, false, length}
 use Rattle.std.specs.List.{All}
 use Rattle.std.specs.Vec.Iter.{into_iter_items, into_iter_len}
 use Rattle.world_model.specs.Playing.{Stage}
-use Rattle.event_world.specs.Courses.{Course}
-use Rattle.event_world.specs.Logs.{is_on}
+use Rattle.event_runs.specs.Courses.{Course}
+use Rattle.event_runs.specs.Logs.{is_on}
 use Rattle.event_world.specs.Standing.{IsRunning, KeepsWords}
 use Rattle.play_script.specs.Asked.{HasFormat}
-use Rattle.input_commands.specs.Playing.{perform}
+use Rattle.script_runs.specs.Playing.{perform}
 use Rattle.input_commands.specs.Standing.{IsAt}
 use Rattle.input_commands.proofs.Writing.{IsUpTo}
 use Rattle.input_commands.proofs.play.play_all.Given as goal

@@ -2,9 +2,9 @@ use Rattle.std.proofs.Common.{◌∙◌, ◌≡◌, ◌∷◌, true, false, arit
 use Rattle.std.specs.Prelude.{is_err}
 use Rattle.std.proofs.Math.Path.{subst}
 use Rattle.play_script.specs.Asked.{IsNext}
-use Rattle.input_commands.specs.Commands.{command_seen}
-use Rattle.input_commands.specs.Playing.{commanded, perform, quieted}
-use Rattle.input_commands.proofs.Playing.{next_command}
+use Rattle.script_runs.specs.Commands.{command_seen}
+use Rattle.script_runs.specs.Playing.{commanded, perform, quieted}
+use Rattle.script_runs.proofs.Playing.{next_command}
 use Rattle.input_commands.proofs.Stepping.{from_ok}
 use Rattle.input_commands.proofs.Writing.{more, stops}
 use Rattle.input_commands.proofs.play.play_lines.Goals as goal

@@ -1,9 +1,9 @@
 use Rattle.std.proofs.Common.{◌≡◌, ◌≤◌, length, false}
 use Rattle.world_model.specs.Playing.{Stage}
-use Rattle.event_world.specs.Courses.{Course}
-use Rattle.event_world.specs.Logs.{is_on}
+use Rattle.event_runs.specs.Courses.{Course}
+use Rattle.event_runs.specs.Logs.{is_on}
 use Rattle.event_world.specs.Standing.{IsRunning, KeepsWords}
-use Rattle.input_commands.specs.Playing.{perform}
+use Rattle.script_runs.specs.Playing.{perform}
 use Rattle.input_commands.specs.Standing.{IsAt}
 use Rattle.input_commands.proofs.Writing.{IsUpTo}
 use Rattle.input_commands.proofs.play.play_lines.Given as goal

@@ -1,10 +1,10 @@
 use Rattle.std.proofs.Common.{◌∙◌, ◌≡◌, ◌+◌, true, false, drop, arith, rules}
 use Rattle.std.specs.Prelude.{is_err}
 use Rattle.world_model.specs.World.{settles}
-use Rattle.event_world.specs.Courses.{plain}
-use Rattle.event_world.specs.Playing.{play_step}
-use Rattle.input_commands.specs.Playing.{nothing, quieted, settled_by}
-use Rattle.input_commands.proofs.Playing.{next_job}
+use Rattle.event_runs.specs.Courses.{plain}
+use Rattle.event_runs.specs.Playing.{play_step}
+use Rattle.script_runs.specs.Playing.{nothing, quieted, settled_by}
+use Rattle.script_runs.proofs.Playing.{next_job}
 use Rattle.input_commands.proofs.Stepping.{from_ok}
 use Rattle.input_commands.proofs.Writing.{more, stops}
 use Rattle.input_commands.proofs.play.settle_jobs.Goals as goal

@@ -1,9 +1,9 @@
 use Rattle.std.proofs.Common.{◌≡◌, ◌≤◌, drop}
 use Rattle.world_model.specs.Playing.{Stage}
-use Rattle.event_world.specs.Courses.{Course}
-use Rattle.event_world.specs.Logs.{is_on}
+use Rattle.event_runs.specs.Courses.{Course}
+use Rattle.event_runs.specs.Logs.{is_on}
 use Rattle.event_world.specs.Standing.{IsRunning, KeepsWords}
-use Rattle.input_commands.specs.Playing.{quieted, settled_by}
+use Rattle.script_runs.specs.Playing.{quieted, settled_by}
 use Rattle.input_commands.specs.Standing.{IsAt}
 use Rattle.input_commands.proofs.Writing.{IsUpTo}
 use Rattle.input_commands.proofs.play.settle_jobs.Given as goal

@@ -1,11 +1,11 @@
 use Rattle.std.proofs.Common.{◌≡◌, ◌+◌, ◌-◌, suc, true, false, ap, ◌∙◌, arith, rules}
 use Rattle.std.specs.Prelude.{is_err}
 use Rattle.world_model.specs.World.{turn}
-use Rattle.event_world.specs.Courses.{plain}
-use Rattle.event_world.specs.Playing.{play_step, play_turns}
-use Rattle.input_commands.specs.Playing.{nothing, quieted}
+use Rattle.event_runs.specs.Courses.{plain}
+use Rattle.event_runs.specs.Playing.{play_step, play_turns}
+use Rattle.script_runs.specs.Playing.{nothing, quieted}
 use Rattle.input_commands.proofs.Commanding.{caught_up_at}
-use Rattle.input_commands.proofs.Playing.{next_turn, turns_none}
+use Rattle.script_runs.proofs.Playing.{next_turn, turns_none}
 use Rattle.input_commands.proofs.Stepping.{from_ok, quiet_nothing}
 use Rattle.input_commands.proofs.Writing.{finishes, more, stops}
 use Rattle.input_commands.proofs.play.take_turns.Goals as goal

@@ -1,10 +1,10 @@
 use Rattle.std.proofs.Common.{◌≡◌, ◌≤◌, ◌-◌}
 use Rattle.world_model.specs.Playing.{Stage}
-use Rattle.event_world.specs.Playing.{play_turns}
-use Rattle.event_world.specs.Courses.{Course}
-use Rattle.event_world.specs.Logs.{is_on}
+use Rattle.event_runs.specs.Playing.{play_turns}
+use Rattle.event_runs.specs.Courses.{Course}
+use Rattle.event_runs.specs.Logs.{is_on}
 use Rattle.event_world.specs.Standing.{IsRunning, KeepsWords}
-use Rattle.input_commands.specs.Playing.{nothing, quieted}
+use Rattle.script_runs.specs.Playing.{nothing, quieted}
 use Rattle.input_commands.specs.Standing.{IsAt}
 use Rattle.input_commands.proofs.Writing.{IsUpTo}
 use Rattle.input_commands.proofs.play.take_turns.Given as goal

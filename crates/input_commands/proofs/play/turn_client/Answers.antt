@@ -1,7 +1,7 @@
 use Rattle.std.proofs.Common.{◌∙◌}
 use Rattle.std.proofs.Math.Path.{subst}
-use Rattle.input_commands.specs.Playing.{quieted}
-use Rattle.input_commands.specs.Writing.{Plays}
+use Rattle.script_runs.specs.Playing.{quieted}
+use Rattle.input_commands.specs.Standing.{Plays}
 use Rattle.input_commands.proofs.Commanding.{open_at, turns_closed, turns_open}
 use Rattle.input_commands.proofs.play.turn_client.Goals as goal
 

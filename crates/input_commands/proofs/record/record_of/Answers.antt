@@ -1,8 +1,8 @@
 use Rattle.std.proofs.Common.{map}
 use Rattle.handler_table.specs.Shelf.{marks_of}
 use Rattle.play_script.specs.Script.{script_of}
-use Rattle.input_commands.proofs.Recording.{fault_recorded, script_recorded}
-use Rattle.input_commands.proofs.Roots.{few_of}
+use Rattle.script_runs.proofs.Logged.{fault_recorded, script_recorded}
+use Rattle.text_commands.proofs.Roots.{few_of}
 use Rattle.input_commands.proofs.record.record_of.Goals as goal
 
 pub record_script-requires-clause-roots : goal.record_script-requires-clause-roots

@@ -1,5 +1,5 @@
 use Rattle.std.proofs.Common.{false}
-use Rattle.input_commands.specs.Playing.{perform}
+use Rattle.script_runs.specs.Playing.{perform}
 use Rattle.input_commands.proofs.Recording.{logged_end}
 use Rattle.input_commands.proofs.record.record_on.Goals as goal
 

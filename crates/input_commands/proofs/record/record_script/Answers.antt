@@ -1,9 +1,9 @@
 use Rattle.std.proofs.Common.{[], map, refl, ◌∙◌}
 use Rattle.std.proofs.Math.Path.{subst}
 use Rattle.handler_table.specs.Shelf.{marks_of}
-use Rattle.input_commands.specs.Outputs.{record_of_run}
-use Rattle.input_commands.specs.Playing.{page_played, stage_on}
-use Rattle.input_commands.specs.Recorded.{Records}
+use Rattle.script_runs.specs.Outputs.{record_of_run}
+use Rattle.script_runs.specs.Playing.{page_played, stage_on}
+use Rattle.text_commands.specs.Recorded.{Records}
 use Rattle.input_commands.proofs.Recording.{page_recorded, somewhere}
 use Rattle.input_commands.proofs.Summing.{made_no_fault}
 use Rattle.input_commands.proofs.record.record_script.Goals as goal

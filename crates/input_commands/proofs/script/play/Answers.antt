@@ -1,7 +1,8 @@
 use Rattle.std.proofs.Common.{map}
 use Rattle.handler_table.specs.Shelf.{marks_of}
-use Rattle.input_commands.specs.Outputs.{output_of_play, whole}
-use Rattle.input_commands.proofs.Answering.{nothing_yet}
+use Rattle.script_runs.specs.Outputs.{output_of_play}
+use Rattle.text_commands.specs.Outputs.{whole}
+use Rattle.text_commands.proofs.Answering.{nothing_yet}
 use Rattle.input_commands.proofs.script.play.Goals as goal
 
 pub returns-in-Err-clause-front : goal.returns-in-Err-clause-front

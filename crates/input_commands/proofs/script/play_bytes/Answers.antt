@@ -1,8 +1,8 @@
 use Rattle.std.proofs.Common.{map}
 use Rattle.handler_table.specs.Shelf.{marks_of}
 use Rattle.play_script.specs.Script.{script_of}
-use Rattle.input_commands.proofs.Answering.{script_front}
-use Rattle.input_commands.proofs.Roots.{few_of}
+use Rattle.script_runs.proofs.Fronts.{script_front}
+use Rattle.text_commands.proofs.Roots.{few_of}
 use Rattle.input_commands.proofs.script.play_bytes.Goals as goal
 
 pub play_script-requires-clause-roots : goal.play_script-requires-clause-roots

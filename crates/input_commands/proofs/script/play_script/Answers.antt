@@ -1,9 +1,10 @@
 use Rattle.std.proofs.Common.{map, refl, ◌∙◌}
 use Rattle.std.proofs.Math.Path.{subst}
 use Rattle.handler_table.specs.Shelf.{marks_of}
-use Rattle.event_world.specs.Playing.{Played}
-use Rattle.input_commands.specs.Playing.{page_played}
-use Rattle.input_commands.specs.Writing.{Performs, written_as}
+use Rattle.event_runs.specs.Playing.{Played}
+use Rattle.script_runs.specs.Playing.{page_played}
+use Rattle.script_runs.specs.Performing.{Performs}
+use Rattle.text_commands.specs.Writing.{written_as}
 use Rattle.input_commands.proofs.Summing.{at_start, begun, made_no_fault}
 use Rattle.input_commands.proofs.script.play_script.Goals as goal
 

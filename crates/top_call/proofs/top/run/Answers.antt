@@ -2,8 +2,8 @@ use Rattle.std.proofs.Common.{Some, ap, map, ◌∙◌}
 use Rattle.std.specs.Prelude.{string_bytes}
 use Rattle.handler_table.specs.Shelf.{marks_of}
 use Rattle.command_words.specs.Words.{command_of}
-use Rattle.input_commands.proofs.Headline.{shows_at}
-use Rattle.input_commands.specs.Outputs.{output_of}
+use Rattle.script_runs.proofs.Headline.{shows_at}
+use Rattle.script_runs.specs.Outputs.{output_of}
 use Rattle.top_call.proofs.Apart.{join_gives_none, join_not_two, join_reads, nothing_complete, nothing_written, serve_gives_none, serve_not_two, serve_reads, words_answered}
 use Rattle.top_call.proofs.Paged.{page_gives_none, page_not_two, page_reads}
 use Rattle.top_call.proofs.top.run.Goals as goal

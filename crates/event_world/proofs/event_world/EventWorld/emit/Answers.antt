@@ -1,6 +1,6 @@
 use Rattle.std.proofs.Common.{ap, map, refl, ◌∙◌}
 use Rattle.output_lines.specs.declared.out_line.OutLine.TheVariants.{Full}
-use Rattle.event_world.specs.Runs.{course_of}
+use Rattle.event_runs.specs.Runs.{course_of}
 use Rattle.event_world.proofs.Standing.{emit_stepped}
 use Rattle.event_world.proofs.event_world.EventWorld.emit.Goals as goal
 

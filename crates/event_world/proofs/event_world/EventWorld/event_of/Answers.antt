@@ -2,9 +2,9 @@ use Rattle.std.proofs.Common.{◌≡◌, IfOk, sym}
 use Rattle.std.specs.Option.{option_map}
 use Rattle.std.proofs.Math.Path.{subst}
 use Rattle.server_core.specs.Said.{event_of}
-use Rattle.event_world.specs.CoreEvents.{core_event_in}
-use Rattle.event_world.specs.Runs.{run_of}
-use Rattle.event_world.specs.Steps.{event_step_of}
+use Rattle.event_runs.specs.CoreEvents.{core_event_in}
+use Rattle.event_runs.specs.Runs.{run_of}
+use Rattle.event_runs.specs.Steps.{event_step_of}
 use Rattle.event_world.proofs.event_world.EventWorld.event_of.Goals as goal
 
 pub event_of-requires : goal.event_of-requires

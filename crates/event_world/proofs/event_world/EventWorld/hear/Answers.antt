@@ -5,8 +5,8 @@ use Rattle.core_model.specs.Core.{client_at}
 use Rattle.module_language.specs.ModuleLanguage.{module_language}
 use Rattle.world_model.specs.Turning.{heard_at}
 use Rattle.world_laws.specs.Runs.{world_of}
-use Rattle.event_world.specs.Courses.{hears}
-use Rattle.event_world.specs.Runs.{course_of, run_of}
+use Rattle.event_runs.specs.Courses.{hears}
+use Rattle.event_runs.specs.Runs.{course_of, run_of}
 use Rattle.event_world.proofs.Standing.{fire_stops, hear_busy, hear_heard, hear_quiet, hear_unknown}
 use Rattle.event_world.proofs.event_world.EventWorld.hear.Goals as goal
 

@@ -1,5 +1,5 @@
-use Rattle.event_world.specs.Runs.{beginning}
-use Rattle.event_world.proofs.Keeping.{begins}
+use Rattle.event_runs.specs.Runs.{beginning}
+use Rattle.event_runs.proofs.Keeping.{begins}
 use Rattle.event_world.proofs.event_world.EventWorld.new.Goals as goal
 
 pub returns-clause-stands : goal.returns-clause-stands

@@ -1,8 +1,8 @@
 use Rattle.std.proofs.Math.Path.{subst}
 use Rattle.std.proofs.lemmas.Result.{err_from_is_err_and}
 use Rattle.hot_events.specs.Calls as lists
-use Rattle.event_world.specs.Courses.{calls_of}
-use Rattle.event_world.specs.Runs.{course_of, run_of}
+use Rattle.event_runs.specs.Courses.{calls_of}
+use Rattle.event_runs.specs.Runs.{course_of, run_of}
 use Rattle.event_world.proofs.Standing.{plain_stepped, plain_stops}
 use Rattle.event_world.proofs.event_world.EventWorld.plain.Goals as goal
 

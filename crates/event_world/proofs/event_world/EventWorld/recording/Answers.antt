@@ -1,6 +1,6 @@
-use Rattle.event_world.specs.Runs.{beginning, course_of, stage_of}
-use Rattle.event_world.proofs.Keeping.{begins}
-use Rattle.event_world.proofs.Logging.{none_logged}
+use Rattle.event_runs.specs.Runs.{beginning, stage_of}
+use Rattle.event_runs.proofs.Keeping.{begins}
+use Rattle.event_runs.proofs.Logging.{none_logged}
 use Rattle.event_world.proofs.event_world.EventWorld.recording.Goals as goal
 
 pub returns-clause-stands : goal.returns-clause-stands

@@ -1,5 +1,5 @@
-use Rattle.event_world.specs.Runs.{run_of, run_on}
-use Rattle.event_world.specs.Steps.{event_step_of}
+use Rattle.event_runs.specs.Runs.{run_of, run_on}
+use Rattle.event_runs.specs.Steps.{event_step_of}
 use Rattle.event_world.proofs.Logging.{logged_after, runs_noted, stands_noted}
 use Rattle.event_world.proofs.Standing.{of_ok, on_ok, runs_on}
 use Rattle.event_world.proofs.event_world.EventWorld.step.Goals as goal

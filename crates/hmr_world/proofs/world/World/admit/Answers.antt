@@ -1,9 +1,9 @@
 use Rattle.std.proofs.Common.{◌≡◌, arith, length, sym}
 use Rattle.std.proofs.Math.Path.{subst}
 use Rattle.handler_table.specs.Shelf.{marks_of}
-use Rattle.hmr_world.specs.Shelves.{AreHosts, AreShelves}
+use Rattle.world_parts.specs.Shelves.{AreHosts, AreShelves}
 use Rattle.hmr_world.proofs.Opening.{admitted_open, more_words, same_words}
-use Rattle.hmr_world.proofs.Shelving.{kept_over}
+use Rattle.world_parts.proofs.Shelving.{kept_over}
 use Rattle.hmr_world.proofs.world.World.admit.Goals as goal
 
 pub take_shelf-shelf-requires : goal.take_shelf-shelf-requires

@@ -1,7 +1,7 @@
 use Rattle.std.proofs.Common.{ap, sym, refl, ◌∙◌}
 use Rattle.core_model.specs.Core.{client_at}
 use Rattle.world_model.specs.World.{fires}
-use Rattle.hmr_world.specs.Standing.{run_on}
+use Rattle.run_promises.specs.RunSteps.{run_on}
 use Rattle.hmr_world.proofs.Fired.{fire_heard, fire_never, fire_stands}
 use Rattle.hmr_world.proofs.Fired.{lacks_memory, unknown_heard, unknown_stands}
 use Rattle.hmr_world.proofs.Found.{stands_at}

@@ -1,7 +1,7 @@
 use Rattle.std.proofs.Common.{◌≡◌, ap, sym, refl, ◌∙◌}
 use Rattle.std.specs.Prelude.{None, Some, option_map}
 use Rattle.core_model.specs.Core.{client_at}
-use Rattle.server_core.specs.Fresh.{load_of}
+use Rattle.fresh_loads.specs.Fresh.{load_of}
 use Rattle.world_model.specs.Steps.{fresh_of_lines, loaded_anew}
 use Rattle.world_laws.specs.Runs.{world_of}
 use Rattle.world_model.specs.World.{fresh_of}

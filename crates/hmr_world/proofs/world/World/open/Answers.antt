@@ -1,7 +1,8 @@
 use Rattle.std.proofs.Common.{ap, refl, sym, ◌∙◌}
 use Rattle.std.proofs.Math.Path.{subst}
 use Rattle.world_laws.specs.Runs.{world_of}
-use Rattle.hmr_world.proofs.Opening.{IsTold, newcomer_told, open_bad, open_full, open_taken, taken_number}
+use Rattle.world_parts.proofs.Greeted.{IsTold, newcomer_told, taken_number}
+use Rattle.hmr_world.proofs.Opening.{open_bad, open_full, open_taken}
 use Rattle.hmr_world.proofs.world.World.open.Goals as goal
 
 -- the number that the newcomer is told is a client's

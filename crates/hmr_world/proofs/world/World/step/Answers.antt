@@ -1,5 +1,5 @@
-use Rattle.hmr_world.specs.Standing.{run_on}
-use Rattle.hmr_world.specs.Steps.{step_of}
+use Rattle.run_promises.specs.RunSteps.{run_on}
+use Rattle.world_parts.specs.Steps.{step_of}
 use Rattle.hmr_world.proofs.Stepped.{stands_on, ends_running, on_ok}
 use Rattle.hmr_world.proofs.world.World.step.Goals as goal
 

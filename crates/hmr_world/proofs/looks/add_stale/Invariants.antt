@@ -1,7 +1,0 @@
-use Rattle.std.proofs.Common.{◌≡◌, ◌++◌, map}
-use Rattle.client_model.specs.Printing.{stale_line}
-use Rattle.hmr_world.proofs.looks.add_stale.Given as goal
-
--- the lines so far are those of the edges so far
-abbrev pub invariant-loop-importer : goal.invariant-loop-importer
-invariant-loop-importer l = l.lines.items ≡ l.fn.lines.items ++ map stale_line l.yielded

@@ -1,7 +1,0 @@
-use Rattle.std.proofs.Common.{append_assoc, rules}
-use Rattle.input_commands.specs.Summary.{reloads_text}
-use Rattle.input_commands.proofs.run_summary.reloads_text.Goals as goal
-
-pub returns : goal.returns
-unfolding reloads_text
-returns c = search (rules, append_assoc)

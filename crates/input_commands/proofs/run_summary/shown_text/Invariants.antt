@@ -1,7 +1,0 @@
-use Rattle.std.proofs.Common.{◌≡◌, ◌++◌, drop}
-use Rattle.input_commands.specs.Summary.{shown_text}
-use Rattle.input_commands.proofs.run_summary.shown_text.Given as goal
-
--- what is written, and what is shown of the lines that are left, are the whole
-abbrev pub invariant-loop-line : goal.invariant-loop-line
-invariant-loop-line l = l.text.items ++ shown_text (drop l.line-index l.lines) ≡ shown_text l.lines

@@ -1,0 +1,4 @@
+pub mod MadeSteps
+pub mod MadeNames
+pub mod MadeFormats
+mod MadeExamples

@@ -1,0 +1,10 @@
+pub mod Playing
+pub mod Instances
+pub mod Recording
+pub mod Outputs
+pub mod Commands
+pub mod Stops
+pub mod Performing
+pub mod Summing
+pub mod Logged
+pub mod Headline

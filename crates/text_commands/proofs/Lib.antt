@@ -1,0 +1,6 @@
+pub mod Shown
+pub mod Taking
+pub mod Answering
+pub mod Roots
+pub mod Ended
+pub mod Telling

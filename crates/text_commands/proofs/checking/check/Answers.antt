@@ -1,0 +1,13 @@
+use Rattle.text_commands.specs.Outputs.{output_of_check, whole}
+use Rattle.text_commands.proofs.Answering.{nothing_yet}
+use Rattle.text_commands.proofs.checking.check.Goals as goal
+
+pub returns-in-Err-clause-front : goal.returns-in-Err-clause-front
+returns-in-Err-clause-front g c =
+    nothing_yet (g.S.Source.left c.args.input.now) (λ bytes. whole (output_of_check c.args.name.now bytes))
+    (g.K.Sink.written c.args.out.now)
+
+pub returns-in_err-report-in-Ok-clause-front : goal.returns-in_err-report-in-Ok-clause-front
+returns-in_err-report-in-Ok-clause-front g c =
+    nothing_yet (g.S.Source.left c.args.input.now) (λ bytes. whole (output_of_check c.args.name.now bytes))
+    (g.K.Sink.written c.args.out.now)

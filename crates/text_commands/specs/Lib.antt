@@ -1,0 +1,9 @@
+pub mod Checking
+pub mod Auditing
+pub mod Outputs
+pub mod Showing
+pub mod Inputs
+pub mod Writing
+pub mod Ends
+pub mod Recorded
+pub mod Runs
