@@ -2,30 +2,18 @@
 ghost use Rattle.std.specs.Prelude.{◌≡◌, ◌++◌, IfOk, OnOk};
 ghost use Rattle.module_tree.specs.Tree.{handler_of};
 ghost use Rattle.module_semantics.specs.Bodies.{body_run};
-ghost use Rattle.const_eval.specs.Answers.{ran_seen};
+ghost use Rattle.retained_data.specs.Runs.{ran_seen};
 
 use crate::mentions::mentions;
 use crate::slots::Slots;
 use crate::state::{Context, opening};
 use crate::statements::run_stmts;
 use crate::stop::fault_of;
-use hmr_types::{EvalFault, Name, Sequence, Slot, Text, Value};
+use hmr_types::{Name, Sequence, Slot};
 use module_semantics::{Env, ModParam};
 use module_tree::{HandlerCode, Stmt};
-use retained_data::Bag;
+use retained_data::{Bag, Ran};
 use std::alloc::{AllocError, Global};
-
-/// What a handler leaves, whole: at a fault, all that was made before it.
-#[derive(Drop)]
-pub struct Ran {
-    pub fault: Option<EvalFault>,
-    pub lines: Sequence<Text>,
-    /// The assignments to variables of the module, in order.
-    pub changes: Sequence<(Name, Value)>,
-    /// The messages of the invalidations, in order.
-    pub invalidations: Sequence<Text>,
-    pub bag: Bag,
-}
 
 /// Runs the body of a callback, where the variables of its own module hold what `own` says and the locals of
 /// its imports what `imports` says, with these modules as its parameters and this bag. A name of `own`

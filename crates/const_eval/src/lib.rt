@@ -17,9 +17,9 @@ mod statements;
 mod stop;
 mod values;
 
-pub use body::{Ran, run_body};
+pub use body::run_body;
 pub use hmr_types::{EvalFault, Name, Sequence, Slot, Text, Value};
 pub use module::{Evaluated, eval_module};
 pub use module_semantics::{Env, ModParam, Registered};
 pub use module_tree::{HandlerCode, Module};
-pub use retained_data::Bag;
+pub use retained_data::{Bag, Ran};

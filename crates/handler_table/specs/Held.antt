@@ -3,8 +3,8 @@ use Rattle.std.specs.Prelude.{◌≡◌, ℕ, List, Result, Ok}
 use Rattle.std.specs.declared.alloc.AllocError.{AllocError}
 use Rattle.module_semantics.specs.Bodies.{host_ran}
 use Rattle.module_semantics.specs.Entries.{Kept}
-use Rattle.const_eval.specs.Answers.{ran_seen}
-use Rattle.const_eval.specs.declared.body.Ran as body
+use Rattle.retained_data.specs.Runs.{ran_seen}
+use Rattle.retained_data.specs.declared.ran.Ran as body
 
 -- a closure with its label and its number
 pub record Closure (F : Type 0) : Type 0 where

@@ -2,13 +2,12 @@
 // where the closure comes in, and again where it is called.
 ghost use Rattle.std.specs.Prelude.{◌≡◌, IfOk};
 ghost use Rattle.module_semantics.specs.Bodies.{host_ran};
-ghost use Rattle.const_eval.specs.Answers.{ran_seen};
+ghost use Rattle.retained_data.specs.Runs.{ran_seen};
 ghost use Rattle.handler_table.specs.Held.{IsHost};
 ghost use Rattle.handler_table.specs.Shelf.{has_label};
 
-use const_eval::Ran;
 use hmr_types::Text;
-use retained_data::Bag;
+use retained_data::{Bag, Ran};
 use std::alloc::AllocError;
 use std::marker::Model;
 

@@ -1,11 +1,10 @@
 // The run that is stated for a closure, as code that a closure may call.
 ghost use Rattle.std.specs.Prelude.{◌≡◌, IfOk};
 ghost use Rattle.module_semantics.specs.Bodies.{host_line, host_ran};
-ghost use Rattle.const_eval.specs.Answers.{ran_seen};
+ghost use Rattle.retained_data.specs.Runs.{ran_seen};
 
-use const_eval::Ran;
 use hmr_types::{EvalFault, Name, Sequence, Text, Value};
-use retained_data::{Bag, BagFault};
+use retained_data::{Bag, BagFault, Ran};
 use std::alloc::{AllocError, Global};
 
 /// The stated run of a closure of this label and number on a bag: the one line `host LABEL NUMBER`, and

@@ -9,8 +9,7 @@ ghost use Rattle.handler_table.specs.Shelf.{first_of, without_first};
 ghost use Rattle.handler_table.specs.declared.dep.Dep.{Dep};
 ghost use Rattle.handler_table.specs.declared.handler.Handler.{Handler};
 
-use const_eval::Ran;
-use retained_data::Bag;
+use retained_data::{Bag, Ran};
 use std::alloc::AllocError;
 
 /// What is known of each closure of a shelf is known of the first of a label and of those that are left.

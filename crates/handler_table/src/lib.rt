@@ -1,9 +1,9 @@
 //! Once-only handlers.
 //!
-//! It stands on the vocabulary, on the meaning of module texts, on bags and on their evaluator. Keeps: a
-//! handler is a value that must be used up, and each way out of a table is named by its call: it is
-//! handed out, displaced, spent or discarded. A call takes memory only where its result can say that
-//! memory ran out. Knows nothing of instances, of clients or of when a handler is run.
+//! It stands on the vocabulary, on the meaning of module texts and on bags. Keeps: a handler is a value
+//! that must be used up, and each way out of a table is named by its call: it is handed out, displaced or
+//! discarded; and a closure is called at most once. A call takes memory only where its result can say that
+//! memory ran out. Knows nothing of the evaluator, of instances, of clients or of when a handler is run.
 #![tactic(auto)]
 
 mod dep;

@@ -5,9 +5,8 @@ ghost use Rattle.handler_table.specs.Held.{IsHost};
 ghost use Rattle.handler_table.specs.Shelf.{Extends, first_of, marks_of, numbered, without_first};
 
 use crate::held::Held;
-use const_eval::Ran;
 use hmr_types::Text;
-use retained_data::Bag;
+use retained_data::{Bag, Ran};
 use std::alloc::AllocError;
 use std::marker::Model;
 

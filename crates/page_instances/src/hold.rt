@@ -15,12 +15,11 @@ ghost use Rattle.page_instances.specs.Holding.{with_held};
 use crate::instance::Instance;
 use crate::leave::discard_one;
 use crate::marks::{Mark, Those, add_mark, drop_marks};
-use const_eval::Ran;
 use handler_table::{Handler, tables_keep_their_word};
 use hmr_types::{HandlerKind, ModName};
 use module_tree::HandlerCode;
 use output_lines::Handled;
-use retained_data::Bag;
+use retained_data::{Bag, Ran};
 use std::alloc::AllocError;
 
 impl<F: FnOnce(Bag) -> Result<Ran, AllocError> + Drop> Instance<F> {

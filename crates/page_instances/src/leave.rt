@@ -8,9 +8,8 @@ ghost use Rattle.page_instances.specs.Seeing.{Sees};
 
 use crate::instance::Instance;
 use crate::marks::{Those, drop_marks};
-use const_eval::Ran;
 use handler_table::{Handler, Handlers, tables_keep_their_word};
-use retained_data::Bag;
+use retained_data::{Bag, Ran};
 use std::alloc::AllocError;
 
 /// Lets a handler go unrun, where there is one.

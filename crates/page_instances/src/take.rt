@@ -9,10 +9,9 @@ ghost use Rattle.page_instances.specs.Taking.{TakenOff, Lacks};
 
 use crate::instance::Instance;
 use crate::marks::spend_mark;
-use const_eval::Ran;
 use handler_table::{Handler, tables_keep_their_word};
 use hmr_types::HandlerKind;
-use retained_data::Bag;
+use retained_data::{Bag, Ran};
 use std::alloc::AllocError;
 
 impl<F: FnOnce(Bag) -> Result<Ran, AllocError> + Drop> Instance<F> {
