@@ -5,9 +5,9 @@ use Rattle.module_semantics.specs.Raw.{RawItem}
 use Rattle.module_semantics.specs.Readers.{end}
 use Rattle.module_semantics.specs.Reading.{Inner, hot_top}
 use Rattle.hot_grammar.specs.declared.grammar_fault.GrammarFault.{GrammarFault}
-use Rattle.hot_grammar.specs.declared.raw_item.RawItem as code
+use Rattle.raw_trees.specs.declared.raw_item.RawItem as code
 use Rattle.hot_grammar.specs.Parts.{hot_front, told_hot}
-use Rattle.hot_grammar.specs.Raw.{raw_item_of}
+use Rattle.raw_trees.specs.Raw.{raw_item_of}
 use Rattle.hot_grammar.specs.Reads.{Gives, Stops, past}
 use Rattle.hot_grammar.proofs.Chains.{bind_stops, later_stops, hot_goes, hot_stops}
 

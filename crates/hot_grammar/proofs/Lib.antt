@@ -2,9 +2,7 @@ pub mod Chains
 pub mod Flattened
 pub mod Hots
 pub mod Inners
-pub mod KindCodes
 pub mod Levels
-pub mod LineTurns
 pub mod Listed
 pub mod Places
 pub mod Repeats

@@ -2,7 +2,7 @@
 use Rattle.std.specs.Prelude.{Bool}
 use Rattle.module_semantics.specs.Raw as plain
 use Rattle.hot_grammar.specs.declared.item.Declaration.{Declaration}
-use Rattle.hot_grammar.specs.Raw.{name_at_of, raw_expr_of}
+use Rattle.raw_trees.specs.Raw.{name_at_of, raw_expr_of}
 
 -- the item that a declaration is, by whether it is exported
 abbrev pub declared : Declaration → Bool → plain.RawItem

@@ -7,16 +7,18 @@ ghost use Rattle.module_semantics.specs.Readers.{mark, separated, ◌▷◌};
 ghost use Rattle.module_semantics.specs.Reading.{bag_act, console_act, expr_firsts, import_stmt};
 ghost use Rattle.module_semantics.specs.Reading.{inner, name_act, other_act, thrown, told};
 ghost use Rattle.hot_grammar.specs.Parts.{keyed, logged};
-ghost use Rattle.hot_grammar.specs.Raw.{raw_expr_of, raw_stmt_of};
+ghost use Rattle.raw_trees.specs.Raw.{raw_expr_of, raw_stmt_of};
 ghost use Rattle.hot_grammar.specs.Reads.{Gives};
 
+use crate::GrammarFault;
 use crate::expression::read_expr;
 use crate::hot::pass_hot;
-use crate::kind::{ALL_NAMES, BUT_CONSOLE, EXPR_FIRSTS};
+use crate::kinds::{ALL_NAMES, BUT_CONSOLE, EXPR_FIRSTS};
 use crate::tokens::Tokens;
-use crate::{GrammarFault, Kind, RawExpr, RawStmt};
 use hmr_types::Name;
+use raw_trees::{RawExpr, RawStmt};
 use std::alloc::Global;
+use token_kinds::Kind;
 
 /// An expression that stands in a statement.
 pub(crate) fn read_value(

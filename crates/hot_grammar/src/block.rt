@@ -5,14 +5,16 @@ ghost use Rattle.module_semantics.specs.Readers.{end, many, ◌◁◌};
 ghost use Rattle.module_semantics.specs.Reading.{body, braces, else_part, if_stmt, import_stmt};
 ghost use Rattle.module_semantics.specs.Reading.{inner, name_act, stmt, stmt_firsts};
 ghost use Rattle.hot_grammar.specs.Parts.{branches, ended_act};
-ghost use Rattle.hot_grammar.specs.Raw.{raw_stmt_of, raw_stmts_of};
+ghost use Rattle.raw_trees.specs.Raw.{raw_stmt_of, raw_stmts_of};
 ghost use Rattle.hot_grammar.specs.Reads.{Gives};
 
+use crate::GrammarFault;
 use crate::act::{read_import_act, read_name_act, read_thrown, read_value};
-use crate::kind::STMT_FIRSTS;
+use crate::kinds::STMT_FIRSTS;
 use crate::tokens::Tokens;
-use crate::{GrammarFault, Kind, RawStmt};
+use raw_trees::RawStmt;
 use std::alloc::Global;
+use token_kinds::Kind;
 
 /// A block, in which at most `depth` constructs stand in one another.
 #[cycle(blocks)]

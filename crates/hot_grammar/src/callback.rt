@@ -4,16 +4,18 @@ ghost use Rattle.module_semantics.specs.Kinds.{ARROW, COMMA, free_names};
 ghost use Rattle.module_semantics.specs.Readers.{mark, separated, ◌▷◌};
 ghost use Rattle.module_semantics.specs.Reading.{body, callback, callback_by, free_name, host_own};
 ghost use Rattle.module_semantics.specs.Reading.{in_parens, inner, list_callback, once};
-ghost use Rattle.hot_grammar.specs.Kinds.{code_of};
+ghost use Rattle.token_kinds.specs.Kinds.{code_of};
 ghost use Rattle.hot_grammar.specs.Parts.{list_params, own_code};
-ghost use Rattle.hot_grammar.specs.Raw.{name_at_of, raw_handler_of, raw_once_of, raw_stmts_of};
+ghost use Rattle.raw_trees.specs.Raw.{name_at_of, raw_handler_of, raw_once_of, raw_stmts_of};
 ghost use Rattle.hot_grammar.specs.Reads.{Gives};
 
+use crate::GrammarFault;
 use crate::block::read_body;
-use crate::kind::{BUT_HOST, FREE_NAMES};
+use crate::kinds::{BUT_HOST, FREE_NAMES};
 use crate::tokens::Tokens;
-use crate::{GrammarFault, Kind, NameAt, RawHandler, RawOnce, RawStmt};
+use raw_trees::{NameAt, RawHandler, RawOnce, RawStmt};
 use std::alloc::Global;
+use token_kinds::Kind;
 
 /// Perhaps a parameter, in parentheses.
 #[tactic(auto, unfolding(module_semantics::specs::Reading::in_parens))]

@@ -7,17 +7,19 @@ ghost use Rattle.module_semantics.specs.Readers.{many, mapped, mark, ◌&◌, �
 ghost use Rattle.module_semantics.specs.Reading.{access, accessed, expr, free_name};
 ghost use Rattle.module_semantics.specs.Reading.{grouped, hot, key, prim, unary};
 ghost use Rattle.hot_grammar.specs.Levels.{operand_at, operation_at, operators_at, row_at};
-ghost use Rattle.hot_grammar.specs.Raw.{operation_of, raw_expr_of};
+ghost use Rattle.raw_trees.specs.Raw.{operation_of, raw_expr_of};
 ghost use Rattle.hot_grammar.specs.Reads.{Gives};
 
+use crate::GrammarFault;
 use crate::hot::pass_hot;
-use crate::kind::{ALL_NAMES, EXPR_FIRSTS, FREE_NAMES};
+use crate::kinds::{ALL_NAMES, EXPR_FIRSTS, FREE_NAMES};
 use crate::level::Level;
 use crate::tokens::Tokens;
-use crate::{GrammarFault, Kind, RawExpr};
 use hmr_types::Name;
 use module_tree::Op;
+use raw_trees::RawExpr;
 use std::alloc::{AllocError, Global};
+use token_kinds::Kind;
 
 /// An expression in which at most `depth` others stand in one another.
 #[cycle(expressions)]

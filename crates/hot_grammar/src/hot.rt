@@ -3,8 +3,9 @@ ghost use Rattle.std.specs.Prelude.{◌≡◌};
 ghost use Rattle.hot_grammar.specs.Parts.{hot_front};
 ghost use Rattle.hot_grammar.specs.Reads.{Gives, past};
 
+use crate::GrammarFault;
 use crate::tokens::Tokens;
-use crate::{GrammarFault, Kind};
+use token_kinds::Kind;
 
 /// Takes what follows `import` in `import.meta.hot.`
 pub(crate) fn pass_hot(tokens: &mut Tokens<'_>) -> Result<(), GrammarFault>

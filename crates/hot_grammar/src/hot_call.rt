@@ -4,19 +4,21 @@ ghost use Rattle.module_semantics.specs.Kinds.{CLOSE, OPEN, TEXT};
 ghost use Rattle.module_semantics.specs.Readers.{listed, mark, ◌▷◌, ◌◁◌};
 ghost use Rattle.module_semantics.specs.Reading.{accepted, body, hot_call, hot_top, inner};
 ghost use Rattle.module_semantics.specs.Reading.{listened, once, text_token};
-ghost use Rattle.hot_grammar.specs.Kinds.{code_of};
+ghost use Rattle.token_kinds.specs.Kinds.{code_of};
 ghost use Rattle.hot_grammar.specs.Parts.{list_deps, one_dep, told_hot};
-ghost use Rattle.hot_grammar.specs.Raw.{raw_item_of, raw_once_of};
+ghost use Rattle.raw_trees.specs.Raw.{raw_item_of, raw_once_of};
 ghost use Rattle.hot_grammar.specs.Reads.{Gives};
 
+use crate::GrammarFault;
 use crate::act::read_bag_set;
 use crate::callback::{read_callback, read_list_callback, read_once};
 use crate::hot::pass_hot;
-use crate::kind::OWN_FIRSTS;
+use crate::kinds::OWN_FIRSTS;
 use crate::tokens::Tokens;
-use crate::{GrammarFault, Kind, RawItem, RawOnce};
 use hmr_types::Text;
+use raw_trees::{RawItem, RawOnce};
 use std::alloc::Global;
+use token_kinds::Kind;
 
 /// What `accept` takes of one dependency, and perhaps its callback.
 fn read_one_dep(alloc: Global, tokens: &mut Tokens<'_>, depth: u32) -> Result<RawItem, GrammarFault>

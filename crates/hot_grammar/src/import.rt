@@ -3,15 +3,17 @@ ghost use Rattle.std.specs.Prelude.{◌≡◌, map};
 ghost use Rattle.module_semantics.specs.Kinds.{AS, FROM, all_names};
 ghost use Rattle.module_semantics.specs.Readers.{end, listed, mark, ◌▷◌, ◌◁◌};
 ghost use Rattle.module_semantics.specs.Reading.{free_name, import_item, import_name, inner, text_token};
-ghost use Rattle.hot_grammar.specs.Raw.{name_at_of, raw_import_of, raw_item_of};
+ghost use Rattle.raw_trees.specs.Raw.{name_at_of, raw_import_of, raw_item_of};
 ghost use Rattle.hot_grammar.specs.Reads.{Gives};
 
+use crate::GrammarFault;
 use crate::hot_call::read_hot_top;
-use crate::kind::{ALL_NAMES, FREE_NAMES, RESERVED};
+use crate::kinds::{ALL_NAMES, FREE_NAMES, RESERVED};
 use crate::tokens::Tokens;
-use crate::{GrammarFault, Kind, NameAt, RawImport, RawItem};
 use hmr_types::Text;
+use raw_trees::{NameAt, RawImport, RawItem};
 use std::alloc::Global;
+use token_kinds::Kind;
 
 /// `as` and a local name.
 fn read_local_name(alloc: Global, tokens: &mut Tokens<'_>) -> Result<NameAt, GrammarFault>

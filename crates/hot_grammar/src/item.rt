@@ -5,16 +5,18 @@ ghost use Rattle.module_semantics.specs.Reading.{declaration, guard, inner, item
 ghost use Rattle.module_semantics.specs.Reading.{plain_top, top, top_firsts};
 ghost use Rattle.hot_grammar.specs.Items.{declared};
 ghost use Rattle.hot_grammar.specs.Parts.{named_value};
-ghost use Rattle.hot_grammar.specs.Raw.{name_at_of, raw_expr_of, raw_item_of, raw_items_of};
+ghost use Rattle.raw_trees.specs.Raw.{name_at_of, raw_expr_of, raw_item_of, raw_items_of};
 ghost use Rattle.hot_grammar.specs.Reads.{Gives};
 
+use crate::GrammarFault;
 use crate::act::{read_name_act, read_thrown, read_value};
 use crate::hot_call::read_hot_top;
 use crate::import::read_import;
-use crate::kind::{FREE_NAMES, TOP_FIRSTS};
+use crate::kinds::{FREE_NAMES, TOP_FIRSTS};
 use crate::tokens::Tokens;
-use crate::{GrammarFault, Kind, NameAt, RawExpr, RawItem, RawStmt};
+use raw_trees::{NameAt, RawExpr, RawItem, RawStmt};
 use std::alloc::{AllocError, Global};
+use token_kinds::Kind;
 
 /// A declaration, of which isn't told yet whether it is exported.
 #[derive(Drop)]

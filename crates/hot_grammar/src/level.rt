@@ -3,8 +3,8 @@ ghost use Rattle.std.specs.Prelude.{◌≡◌};
 ghost use Rattle.module_semantics.specs.Readers.{next_in};
 ghost use Rattle.hot_grammar.specs.Levels.{operators_at};
 
-use crate::Kind;
 use crate::tokens::Tokens;
+use token_kinds::Kind;
 
 /// The strength of the operators of a row.
 #[derive(Clone, Copy)]

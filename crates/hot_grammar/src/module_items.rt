@@ -3,15 +3,17 @@ ghost use Rattle.std.specs.Prelude.{◌≡◌, ◌≤◌, IfErr, length};
 ghost use Rattle.hmr_types.specs.declared.limits.TheConstants.{DEPTH};
 ghost use Rattle.module_semantics.specs.Readers.{many, mapped};
 ghost use Rattle.module_semantics.specs.Reading.{flat, inner, item, item_firsts, module_reader, reading};
-ghost use Rattle.hot_grammar.specs.Raw.{raw_items_of};
+ghost use Rattle.raw_trees.specs.Raw.{raw_items_of};
 ghost use Rattle.hot_grammar.specs.Reads.{Gives, left_of};
 
+use crate::GrammarFault;
 use crate::item::read_item;
-use crate::kind::ITEM_FIRSTS;
+use crate::kinds::ITEM_FIRSTS;
 use crate::tokens::Tokens;
-use crate::{GrammarFault, LineToken, RawItem};
 use hmr_types::limits::DEPTH;
+use raw_trees::RawItem;
 use std::alloc::Global;
+use token_kinds::LineToken;
 
 /// The items that stand from here.
 fn read_all(

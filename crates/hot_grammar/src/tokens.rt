@@ -6,14 +6,16 @@ ghost use Rattle.module_semantics.specs.Raw as plain;
 ghost use Rattle.module_semantics.specs.Readers.{deep, end, mark, next_in, next_two, taken};
 ghost use Rattle.module_semantics.specs.Reading.{finished, number_token, text_token};
 ghost use Rattle.module_semantics.specs.Token.{LineToken};
-ghost use Rattle.hot_grammar.specs.Raw.{name_at_of};
+ghost use Rattle.raw_trees.specs.Raw.{name_at_of};
 ghost use Rattle.hot_grammar.specs.Reads.{Gives, Stops, passed, past};
-ghost use Rattle.hot_grammar.specs.Kinds.{code_of};
+ghost use Rattle.token_kinds.specs.Kinds.{code_of};
 
-use crate::{GrammarFault, Kind, LineToken, NameAt};
+use crate::GrammarFault;
 use hmr_types::{Name, Text};
+use raw_trees::NameAt;
 use std::alloc::Global;
 use std::marker::Model;
+use token_kinds::{Kind, LineToken};
 
 /// The tokens that are left.
 #[derive(Drop)]

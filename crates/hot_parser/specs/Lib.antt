@@ -1,7 +1,0 @@
-pub mod Alone
-pub mod Firsts
-pub mod Places
-pub mod Rows
-pub mod Syntax
-pub mod Told
-pub mod Within

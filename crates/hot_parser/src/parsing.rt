@@ -4,7 +4,7 @@ ghost use Rattle.std.specs.Option.{option_map};
 ghost use Rattle.std.specs.Prelude.{◌≡◌, ◌≤◌, ◌⊎◌, IfErr, IfOk, IfSome, List, None, Result, Err, Ok, length};
 ghost use Rattle.module_tree.specs.Tree.{module_of};
 ghost use Rattle.hmr_types.specs.declared.limits.TheConstants.{DEPTH};
-ghost use Rattle.hot_grammar.specs.Raw.{raw_items_of};
+ghost use Rattle.raw_trees.specs.Raw.{raw_items_of};
 ghost use Rattle.module_semantics.specs.Lexing as lexing;
 ghost use Rattle.module_semantics.specs.ModuleText.{ReadsAs, fault_at, named, parsing, place_left};
 ghost use Rattle.module_semantics.specs.ModuleText.{read_items, read_tokens};
@@ -14,17 +14,19 @@ ghost use Rattle.module_semantics.specs.Resolving.{module_tree};
 ghost use Rattle.module_semantics.specs.TextFaults.{BreaksNames, IsFault, LeavesGrammar};
 ghost use Rattle.module_semantics.specs.Token.{Lexeme};
 ghost use Rattle.module_semantics.specs.declared.tokens.LexFault as plain;
-ghost use Rattle.hot_parser.specs.Syntax.{FaultIs, Parses, no_memory, text_fault_of, word_of};
-ghost use Rattle.hot_parser.specs.Told.{rule_word};
-ghost use Rattle.hot_parser.specs.declared.syntax_fault.SyntaxKind.TheVariants.{Unexpected};
+ghost use Rattle.syntax_faults.specs.Syntax.{FaultIs, Parses, no_memory, text_fault_of, word_of};
+ghost use Rattle.name_rules.specs.Told.{rule_word};
+ghost use Rattle.syntax_faults.specs.declared.syntax_fault.SyntaxKind.TheVariants.{Unexpected};
 
-use crate::names::{Broken, NameRule, first_broken};
-use crate::resolving::module_tree;
-use crate::syntax_fault::{SyntaxFault, SyntaxKind, fault_at};
-use hot_grammar::{GrammarFault, LineToken, RawItem, line_tokens, read_items};
+use hot_grammar::{GrammarFault, read_items};
 use hot_lexer::{LexFault, LexKind, lex};
 use module_tree::Module;
+use name_rules::{Broken, NameRule, first_broken, module_tree};
+use raw_trees::RawItem;
 use std::alloc::Global;
+use syntax_faults::{SyntaxFault, SyntaxKind, fault_at};
+use token_kinds::LineToken;
+use token_lines::line_tokens;
 
 /// The module that a text is, or its first fault. The text has at most 4,294,967,294 bytes.
 ///

@@ -1,5 +1,5 @@
 use Rattle.std.proofs.Common.{sym, subst}
-use Rattle.hot_grammar.specs.Raw.{raw_expr_of}
+use Rattle.raw_trees.specs.Raw.{raw_expr_of}
 use Rattle.hot_grammar.specs.Reads.{Gives}
 use Rattle.hot_grammar.proofs.Inners.{inner_expr}
 use Rattle.hot_grammar.proofs.act.read_value.Goals as goal

@@ -4,7 +4,7 @@ use Rattle.std.proofs.lemmas.Result.{err_from_is_err_and}
 use Rattle.module_semantics.specs.Kinds.{COMMA}
 use Rattle.module_semantics.specs.Readers.{next_in, mark, ◌▷◌}
 use Rattle.module_semantics.specs.Reading.{expr_firsts, inner}
-use Rattle.hot_grammar.specs.Raw.{raw_expr_of}
+use Rattle.raw_trees.specs.Raw.{raw_expr_of}
 use Rattle.hot_grammar.proofs.Repeats.{turned, failed, stopped, spent, separated_begins}
 use Rattle.hot_grammar.proofs.act.read_values.Goals as goal
 

@@ -2,7 +2,7 @@ use Rattle.std.proofs.Common.{◌≡◌, ◌∷◌, [], ◌-◌, map}
 use Rattle.module_semantics.specs.Kinds.{COMMA}
 use Rattle.module_semantics.specs.Readers.{many_from, mark, separated, ◌▷◌}
 use Rattle.module_semantics.specs.Reading.{expr_firsts, inner}
-use Rattle.hot_grammar.specs.Raw.{raw_expr_of}
+use Rattle.raw_trees.specs.Raw.{raw_expr_of}
 use Rattle.hot_grammar.proofs.Repeats.{after}
 use Rattle.hot_grammar.proofs.act.read_values.Given as goal
 

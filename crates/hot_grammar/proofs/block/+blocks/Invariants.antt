@@ -1,7 +1,7 @@
 use Rattle.std.proofs.Common.{◌≡◌, ◌+◌, ◌-◌, ◌*◌, map}
 use Rattle.module_semantics.specs.Readers.{many, many_from}
 use Rattle.module_semantics.specs.Reading.{inner, stmt, stmt_firsts}
-use Rattle.hot_grammar.specs.Raw.{raw_stmt_of}
+use Rattle.raw_trees.specs.Raw.{raw_stmt_of}
 use Rattle.hot_grammar.proofs.Repeats.{after}
 use Rattle.hot_grammar.proofs.block.+blocks.Given as goal
 

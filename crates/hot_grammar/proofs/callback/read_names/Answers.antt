@@ -4,7 +4,7 @@ use Rattle.std.proofs.lemmas.Result.{err_from_is_err_and}
 use Rattle.module_semantics.specs.Kinds.{COMMA, free_names}
 use Rattle.module_semantics.specs.Readers.{next_in, mark, ◌▷◌}
 use Rattle.module_semantics.specs.Reading.{free_name}
-use Rattle.hot_grammar.specs.Raw.{name_at_of}
+use Rattle.raw_trees.specs.Raw.{name_at_of}
 use Rattle.hot_grammar.proofs.Repeats.{turned, failed, stopped, spent, separated_begins}
 use Rattle.hot_grammar.proofs.callback.read_names.Goals as goal
 

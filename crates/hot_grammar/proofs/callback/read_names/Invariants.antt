@@ -2,7 +2,7 @@ use Rattle.std.proofs.Common.{◌≡◌, ◌∷◌, [], ◌-◌, map}
 use Rattle.module_semantics.specs.Kinds.{COMMA, free_names}
 use Rattle.module_semantics.specs.Readers.{many_from, mark, separated, ◌▷◌}
 use Rattle.module_semantics.specs.Reading.{free_name}
-use Rattle.hot_grammar.specs.Raw.{name_at_of}
+use Rattle.raw_trees.specs.Raw.{name_at_of}
 use Rattle.hot_grammar.proofs.Repeats.{after}
 use Rattle.hot_grammar.proofs.callback.read_names.Given as goal
 

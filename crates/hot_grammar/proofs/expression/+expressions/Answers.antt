@@ -4,7 +4,7 @@ use Rattle.std.proofs.lemmas.Result.{err_from_is_err_and}
 use Rattle.module_semantics.specs.Readers.{next_in}
 use Rattle.module_semantics.specs.Reading.{expr}
 use Rattle.hot_grammar.specs.Levels.{operators_at, operation_at}
-use Rattle.hot_grammar.specs.Raw.{operation_of, raw_expr_of}
+use Rattle.raw_trees.specs.Raw.{operation_of, raw_expr_of}
 use Rattle.hot_grammar.proofs.Levels.{row_read, first_stops, rest_stops}
 use Rattle.hot_grammar.proofs.Repeats.{turned, failed, stopped, spent}
 use Rattle.hot_grammar.proofs.expression.+expressions.Goals as goal

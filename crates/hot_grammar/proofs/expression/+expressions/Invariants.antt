@@ -2,7 +2,7 @@ use Rattle.std.proofs.Common.{◌≡◌, ◌+◌, ◌-◌, ◌*◌, map}
 use Rattle.module_semantics.specs.Readers.{many, many_from}
 use Rattle.module_semantics.specs.Reading.{expr}
 use Rattle.hot_grammar.specs.Levels.{operators_at, operation_at}
-use Rattle.hot_grammar.specs.Raw.{operation_of}
+use Rattle.raw_trees.specs.Raw.{operation_of}
 use Rattle.hot_grammar.proofs.Levels.{rank}
 use Rattle.hot_grammar.proofs.Repeats.{after}
 use Rattle.hot_grammar.proofs.expression.+expressions.Given as goal

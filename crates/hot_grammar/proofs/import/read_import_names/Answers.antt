@@ -4,7 +4,7 @@ use Rattle.std.proofs.lemmas.Result.{err_from_is_err_and}
 use Rattle.module_semantics.specs.Kinds.{COMMA, all_names}
 use Rattle.module_semantics.specs.Readers.{next_in}
 use Rattle.module_semantics.specs.Reading.{import_name}
-use Rattle.hot_grammar.specs.Raw.{raw_import_of}
+use Rattle.raw_trees.specs.Raw.{raw_import_of}
 use Rattle.hot_grammar.proofs.Listed.{listed_turned, listed_last, listed_failed, listed_comma_failed, listed_stopped, listed_spent}
 use Rattle.hot_grammar.proofs.import.read_import_names.Goals as goal
 

@@ -2,7 +2,7 @@ use Rattle.std.proofs.Common.{◌≡◌, ◌-◌, map}
 use Rattle.module_semantics.specs.Kinds.{all_names}
 use Rattle.module_semantics.specs.Readers.{listed, listed_from}
 use Rattle.module_semantics.specs.Reading.{import_name}
-use Rattle.hot_grammar.specs.Raw.{raw_import_of}
+use Rattle.raw_trees.specs.Raw.{raw_import_of}
 use Rattle.hot_grammar.proofs.Repeats.{after}
 use Rattle.hot_grammar.proofs.import.read_import_names.Given as goal
 

@@ -3,7 +3,7 @@ use Rattle.std.proofs.lemmas.List.{map-append}
 use Rattle.std.proofs.lemmas.Result.{err_from_is_err_and}
 use Rattle.module_semantics.specs.Readers.{next_in}
 use Rattle.module_semantics.specs.Reading.{inner, top, top_firsts}
-use Rattle.hot_grammar.specs.Raw.{raw_item_of}
+use Rattle.raw_trees.specs.Raw.{raw_item_of}
 use Rattle.hot_grammar.proofs.Repeats.{turned, failed, stopped, spent}
 use Rattle.hot_grammar.proofs.item.read_tops.Goals as goal
 

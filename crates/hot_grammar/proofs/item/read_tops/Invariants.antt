@@ -1,7 +1,7 @@
 use Rattle.std.proofs.Common.{◌≡◌, ◌-◌}
 use Rattle.module_semantics.specs.Readers.{many, many_from}
 use Rattle.module_semantics.specs.Reading.{inner, top, top_firsts}
-use Rattle.hot_grammar.specs.Raw.{raw_items_of}
+use Rattle.raw_trees.specs.Raw.{raw_items_of}
 use Rattle.hot_grammar.proofs.Repeats.{after}
 use Rattle.hot_grammar.proofs.item.read_tops.Given as goal
 

@@ -3,7 +3,7 @@ use Rattle.std.proofs.lemmas.List.{map-append}
 use Rattle.std.proofs.lemmas.Result.{err_from_is_err_and}
 use Rattle.module_semantics.specs.Readers.{next_in}
 use Rattle.module_semantics.specs.Reading.{inner, item, item_firsts}
-use Rattle.hot_grammar.specs.Raw.{raw_item_of, raw_items_of}
+use Rattle.raw_trees.specs.Raw.{raw_item_of, raw_items_of}
 use Rattle.hot_grammar.proofs.Flattened.{flat_turned, flat_failed, flat_stopped, flat_spent}
 use Rattle.hot_grammar.proofs.module_items.read_all.Goals as goal
 

@@ -1,7 +1,7 @@
 use Rattle.std.proofs.Common.{◌≡◌, ◌-◌}
 use Rattle.module_semantics.specs.Readers.{many, many_from, mapped}
 use Rattle.module_semantics.specs.Reading.{flat, inner, item, item_firsts}
-use Rattle.hot_grammar.specs.Raw.{raw_items_of}
+use Rattle.raw_trees.specs.Raw.{raw_items_of}
 use Rattle.hot_grammar.proofs.Flattened.{after_flat}
 use Rattle.hot_grammar.proofs.module_items.read_all.Given as goal
 

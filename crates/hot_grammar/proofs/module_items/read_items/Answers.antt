@@ -1,4 +1,4 @@
-use Rattle.hot_grammar.specs.Raw.{raw_items_of}
+use Rattle.raw_trees.specs.Raw.{raw_items_of}
 use Rattle.hot_grammar.proofs.Places.{stands_within}
 use Rattle.hot_grammar.proofs.module_items.read_items.Goals as goal
 

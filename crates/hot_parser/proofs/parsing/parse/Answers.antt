@@ -1,4 +1,4 @@
-use Rattle.hot_parser.proofs.Meant.{fault_is, first_is, memory_is, reads_as}
+use Rattle.syntax_faults.proofs.Meant.{fault_is, first_is, memory_is, reads_as}
 use Rattle.hot_parser.proofs.parsing.parse.Goals as goal
 
 pub returns-clause-reads : goal.returns-clause-reads

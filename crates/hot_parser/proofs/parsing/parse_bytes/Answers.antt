@@ -1,5 +1,5 @@
 use Rattle.std.proofs.Common.{◌∙◌}
-use Rattle.hot_parser.proofs.Bytes.{no_text, parsed}
+use Rattle.syntax_faults.proofs.Bytes.{no_text, parsed}
 use Rattle.hot_parser.proofs.parsing.parse_bytes.Goals as goal
 
 pub returns-in-Ok : goal.returns-in-Ok

@@ -1,5 +1,0 @@
-use Rattle.hot_grammar.proofs.KindCodes.{same_codes}
-use Rattle.hot_grammar.proofs.kind.Kind.is.Goals as goal
-
-pub returns : goal.returns
-returns c = same_codes c.args.self c.args.other c.eq.result c.eq.ensures

@@ -1,5 +1,0 @@
-use Rattle.hot_parser.proofs.Places.{has_before}
-use Rattle.hot_parser.proofs.name_table.NameTable.has_before.Goals as goal
-
-pub returns : goal.returns
-returns c = has_before c.args.name.now c.args.self.now c.args.place c.place_of.result c.place_of.ensures c.requires

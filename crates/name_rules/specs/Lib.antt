@@ -1,0 +1,6 @@
+pub mod Alone
+pub mod Firsts
+pub mod Places
+pub mod Rows
+pub mod Told
+pub mod Within
