@@ -1,5 +1,4 @@
 mod Linking
-mod Looking
 mod Reaching
 mod Rows
-mod Same
+pub mod Same

@@ -18,7 +18,7 @@ use Rattle.core_model.proofs.Reaching.{reaches_on}
 use Rattle.import_scan.specs.Links.{links}
 use Rattle.fresh_loads.specs.Searching.{AreMarks, AreExports, AreClosed, HaveExports, IsExports, IsLookedAt, kept_or_none, unlinked_in, unlinked_by}
 use Rattle.module_graph.proofs.Sets.{has_take_more}
-use Rattle.server_core.proofs.Alike.{same_filtered}
+use Rattle.version_map.proofs.Alike.{same_filtered}
 
 -- maps by name
 

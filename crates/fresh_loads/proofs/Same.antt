@@ -10,7 +10,7 @@ use Rattle.core_model.proofs.Loading.{reached_is}
 use Rattle.core_model.proofs.Naming.{same_test}
 use Rattle.core_model.proofs.Reaching.{reaches_on, reaches_start, reaches_within}
 use Rattle.module_graph.proofs.Sorting.{same_rising, sorted_rising}
-use Rattle.server_core.proofs.Alike.{same_filtered}
+use Rattle.version_map.proofs.Alike.{same_filtered}
 
 same_collected : {X : Type 0} (f g : Name → Option X) (names : List Name) → ((n : Name) → f n ≡ g n) → collect f names ≡ collect g names
 same_collected f g [] e = refl

@@ -23,8 +23,10 @@ pub struct Fresh {
     pub unlinked: Sequence<(ModName, ModName, Name)>,
 }
 
-/// The fresh load of what is served, from these roots.
-pub(crate) fn fresh_load(
+/// The fresh load of what is served, from these roots, which may come in any order. It looks at each reached
+/// module once, and reads the text of each that is served; its lists rise by bytes. It fails only where memory
+/// runs out.
+pub fn fresh_load(
     alloc: Global,
     versions: &VersionMap,
     roots: &[ModName],

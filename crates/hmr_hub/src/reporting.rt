@@ -12,7 +12,8 @@ ghost use Rattle.hmr_hub.specs.declared.report_line.ReportLine.TheVariants.{Line
 
 use crate::recorded_core::RecordedCore;
 use crate::report_line::ReportLine;
-use fresh_loads::{Fresh, fresh, load_lines};
+use core_loads::fresh;
+use fresh_loads::{Fresh, load_lines};
 use hmr_types::{ClientId, ModName, Table, Ver};
 use output_lines::OutLine;
 use server_core::Core;

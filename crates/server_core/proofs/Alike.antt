@@ -13,12 +13,9 @@ use Rattle.core_model.specs.Asking.{AskRow, out_of_turn, tell, load, idle, prune
 use Rattle.core_model.specs.Requests.{Request, ask, fetch, applied_as, aborted, invalidate, to_client, answer_ask, ask_reply, heard, fetched_in, fetched, fetch_row, fetch_reply, row_served}
 use Rattle.update_msgs.specs.declared.message.ServerMsg.TheVariants as msg
 use Rattle.version_map.specs.Standing.{Matches}
+use Rattle.version_map.proofs.Alike.{same_filtered}
 use Rattle.client_records.specs.Record as client
 use Rattle.client_records.specs.Record.{IsRecord}
-
-pub same_filtered : (p q : Name → Bool) (names : List Name) → ((n : Name) → p n ≡ q n) → filter p names ≡ filter q names
-same_filtered p q [] e = refl
-same_filtered p q (n ∷ names) e = ap (λ b. cond b (n ∷ filter p names) (filter p names)) (e n) ∙ ap (λ l. cond (q n) (n ∷ l) l) (same_filtered p q names e)
 
 same_changed : (s t : Served) (view : View) → ((n : Name) → at s n ≡ at t n) → changed_of s view ≡ changed_of t view
 same_changed s t view e = same_filtered (λ n. differs (at view n) (at s n)) (λ n. differs (at view n) (at t n)) (names_of view) (λ n. ap (differs (at view n)) (e n))

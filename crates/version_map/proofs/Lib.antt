@@ -1,3 +1,4 @@
+pub mod Alike
 mod Counting
 mod Onces
 mod Rows

@@ -7,7 +7,7 @@ use Rattle.server_core.proofs.Looking.{served_alike}
 use Rattle.fresh_loads.specs.Fresh.{load_of}
 use Rattle.fresh_loads.specs.declared.loading.Fresh.{Fresh}
 use Rattle.fresh_loads.proofs.Same.{same_load}
-use Rattle.fresh_loads.proofs.core_loads.fresh.Goals as goal
+use Rattle.core_loads.proofs.from_core.fresh.Goals as goal
 
 pub returns-clause-stands : goal.returns-clause-stands
 returns-clause-stands c = λ past h.

@@ -10,7 +10,7 @@ use Rattle.import_scan.specs.Links.{links}
 use Rattle.server_core.specs.Kept.{Kept, StandsFor}
 use Rattle.server_core.specs.Reading.{roots_of}
 use Rattle.server_core.proofs.Looking.{served_alike}
-use Rattle.fresh_loads.specs.Loads.{load_at}
+use Rattle.core_loads.specs.Loads.{load_at}
 use Rattle.fresh_loads.proofs.Same.{same_load}
 
 module _ (past : List Event) (core : Kept) (h : StandsFor past core) (i : ℕ) where

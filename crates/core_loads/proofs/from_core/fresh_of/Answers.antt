@@ -4,8 +4,8 @@ use Rattle.std.specs.Option.{option_map}
 use Rattle.core_model.specs.FreshLoad.{fresh_load}
 use Rattle.import_scan.specs.Links.{links}
 use Rattle.client_records.specs.Record as client
-use Rattle.fresh_loads.proofs.Looking.{load_is}
-use Rattle.fresh_loads.proofs.core_loads.fresh_of.Goals as goal
+use Rattle.core_loads.proofs.Looking.{load_is}
+use Rattle.core_loads.proofs.from_core.fresh_of.Goals as goal
 
 pub returns-clause-stands : goal.returns-clause-stands
 returns-clause-stands c = λ past h. ap Some (c.in_ok-fresh.ensures ∙ ap (λ v. fresh_load links v.served c.in-Some.roots.now) c.sources.ensures) ∙ load_is past c.args.core.now h c.args.client (Some c.in-Some.roots.now) (c.in-Some.ensures.stands past h)

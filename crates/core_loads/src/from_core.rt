@@ -7,9 +7,9 @@ ghost use Rattle.core_model.specs.FreshLoad.{fresh_load};
 ghost use Rattle.import_scan.specs.Links.{links};
 ghost use Rattle.server_core.specs.Kept.{StandsFor};
 ghost use Rattle.fresh_loads.specs.Fresh.{load_of};
-ghost use Rattle.fresh_loads.specs.Loads.{load_at};
+ghost use Rattle.core_loads.specs.Loads.{load_at};
 
-use crate::loading::{Fresh, fresh_load};
+use fresh_loads::{Fresh, fresh_load};
 use hmr_types::ClientId;
 use server_core::Core;
 use std::alloc::{AllocError, Global};
