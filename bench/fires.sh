@@ -19,7 +19,7 @@ source "$(dirname "${BASH_SOURCE[0]}")/small_program.sh"
 program=${1-}
 hmr=${2:-$top/crates/dev_program/out/dev_program}
 if [ -z "$program" ]; then
-  begin fire_bench hmr_types update_msgs retained_data const_eval handler_table hot_runtime message_json
+  begin fire_bench hmr_types update_msgs retained_data handler_table runtime_state runtime_events hot_runtime message_json
   mkdir -p "$own/proofs/fires/fire_all"
   cat > "$own/src/main.rt" << 'END'
 //! Loads a page of one module with so many variables, and fires so many events at it, each of which one callback
@@ -29,11 +29,10 @@ if [ -z "$program" ]; then
 mod fires;
 mod page;
 
-use const_eval::Ran;
 use fires::fired;
 use handler_table::host_run;
 use page::text_message;
-use retained_data::Bag;
+use retained_data::{Bag, Ran};
 use std::alloc::AllocError;
 use std::env;
 use std::process::ExitCode;
@@ -88,14 +87,13 @@ END
 ghost use Rattle.std.specs.Prelude.{◌≡◌, ℕ, IfOk, codes};
 ghost use Rattle.handler_table.specs.Held.{IsHost};
 ghost use Rattle.update_msgs.specs.Writable.{IsFormat, IsWritable};
-ghost use Rattle.hot_runtime.specs.Standing.{KeepsWords};
+ghost use Rattle.runtime_state.specs.Standing.{KeepsWords};
 
-use const_eval::Ran;
 use handler_table::Shelf;
 use hmr_types::{ModName, Text, Value};
-use hot_runtime::HotRuntime;
+use runtime_state::HotRuntime;
 use message_json::decode;
-use retained_data::Bag;
+use retained_data::{Bag, Ran};
 use std::alloc::{AllocError, Global};
 use update_msgs::ServerMsg;
 
@@ -131,7 +129,7 @@ fn take<F: FnOnce(Bag) -> Result<Ran, AllocError> + Drop>(
     ensures format { runtime.new.format ≡ runtime.old.format }
 {
     let msg = message(alloc, json, runtime.format())?;
-    match runtime.take(msg) {
+    match hot_runtime::take(runtime, msg) {
         Ok(_) => Ok(()),
         Err(_) => Err(AllocError),
     }
@@ -146,7 +144,7 @@ fn fire<F: FnOnce(Bag) -> Result<Ran, AllocError> + Drop>(
     requires words { KeepsWords F.post runtime.old }
     ensures words { KeepsWords F.post runtime.new }
 {
-    match runtime.fire(name, value) {
+    match runtime_events::fire(runtime, name, value) {
         Ok(Some(lines)) => Ok(lines.len()),
         _ => Err(AllocError),
     }
@@ -212,7 +210,7 @@ pub fn fired<F: FnOnce(Bag) -> Result<Ran, AllocError> + Drop, M: Fn(u32) -> F +
 }
 END
   cat > "$own/proofs/fires/fire_all/Invariants.antt" << 'END'
-use Rattle.hot_runtime.specs.Standing.{KeepsWords}
+use Rattle.runtime_state.specs.Standing.{KeepsWords}
 use Rattle.fire_bench.proofs.fires.fire_all.Given as goal
 
 -- what is held keeps its word

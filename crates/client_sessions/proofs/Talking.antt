@@ -13,8 +13,8 @@ use Rattle.update_msgs.specs.declared.message.ServerMsg.{ServerMsg}
 use Rattle.message_text.specs.ClientText.{client_text}
 use Rattle.client_model.specs.Past.{Past, message}
 use Rattle.client_model.specs.Runtime.{Opening}
-use Rattle.hot_runtime.specs.Standing.{StandsFor}
-use Rattle.hot_runtime.specs.declared.runtime.HotRuntime.{HotRuntime}
+use Rattle.runtime_state.specs.Standing.{StandsFor}
+use Rattle.runtime_state.specs.declared.runtime.HotRuntime.{HotRuntime}
 use Rattle.sessions.specs.Course.{IsAllButLast}
 use Rattle.sessions.specs.declared.ended.Ended.{Ended}
 use Rattle.sessions.specs.declared.ended.Ended.TheVariants.{Closed, LinkFault, BadMessage, Stopped, NoMemory, Unexpected, InstancesFull}

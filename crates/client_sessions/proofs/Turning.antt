@@ -8,11 +8,11 @@ use Rattle.client_model.specs.Past.{Past, message, runtime_after}
 use Rattle.client_model.specs.Runtime.{Opening}
 use Rattle.client_model.specs.Taking.{took}
 use Rattle.module_language.specs.ModuleLanguage.{module_language}
-use Rattle.hot_runtime.specs.Answers.{IsTaken}
-use Rattle.hot_runtime.specs.Standing.{StandsFor}
-use Rattle.hot_runtime.specs.declared.fault.RuntimeFault.{RuntimeFault}
-use Rattle.hot_runtime.specs.declared.fault.RuntimeFault.TheVariants as faults
-use Rattle.hot_runtime.specs.declared.runtime.HotRuntime.{HotRuntime}
+use Rattle.runtime_state.specs.Answers.{IsTaken}
+use Rattle.runtime_state.specs.Standing.{StandsFor}
+use Rattle.runtime_state.specs.declared.fault.RuntimeFault.{RuntimeFault}
+use Rattle.runtime_state.specs.declared.fault.RuntimeFault.TheVariants as faults
+use Rattle.runtime_state.specs.declared.runtime.HotRuntime.{HotRuntime}
 use Rattle.sessions.specs.declared.ended.Ended.{Ended}
 use Rattle.sessions.specs.declared.ended.Ended.TheVariants.{NoMemory}
 use Rattle.client_sessions.specs.Asking.{asked_after, taken_after, ended_by}

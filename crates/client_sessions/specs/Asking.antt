@@ -10,10 +10,10 @@ use Rattle.client_model.specs.Requesting.{request}
 use Rattle.client_model.specs.Runtime.{Opening}
 use Rattle.client_model.specs.Taking.{Taken, took, unexpected, instances_full, is_stopped, take}
 use Rattle.module_language.specs.ModuleLanguage.{module_language}
-use Rattle.hot_runtime.specs.Standing.{StandsFor}
-use Rattle.hot_runtime.specs.declared.fault.RuntimeFault.{RuntimeFault}
-use Rattle.hot_runtime.specs.declared.fault.RuntimeFault.TheVariants as faults
-use Rattle.hot_runtime.specs.declared.runtime.HotRuntime.{HotRuntime}
+use Rattle.runtime_state.specs.Standing.{StandsFor}
+use Rattle.runtime_state.specs.declared.fault.RuntimeFault.{RuntimeFault}
+use Rattle.runtime_state.specs.declared.fault.RuntimeFault.TheVariants as faults
+use Rattle.runtime_state.specs.declared.runtime.HotRuntime.{HotRuntime}
 use Rattle.sessions.specs.declared.ended.Ended.{Ended}
 use Rattle.sessions.specs.declared.ended.Ended.TheVariants.{Stopped, NoMemory, Unexpected, InstancesFull}
 

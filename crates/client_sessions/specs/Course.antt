@@ -10,8 +10,8 @@ use Rattle.transport.specs.Told.{told_and, told_front, IsNoneLeft}
 use Rattle.client_model.specs.Past.{Past, message}
 use Rattle.client_model.specs.Runtime.{Opening}
 use Rattle.client_model.specs.Taking.{took}
-use Rattle.hot_runtime.specs.Standing.{StandsFor}
-use Rattle.hot_runtime.specs.declared.runtime.HotRuntime.{HotRuntime}
+use Rattle.runtime_state.specs.Standing.{StandsFor}
+use Rattle.runtime_state.specs.declared.runtime.HotRuntime.{HotRuntime}
 use Rattle.sessions.specs.Course.{IsAllButLast}
 use Rattle.sessions.specs.declared.ended.Ended.{Ended}
 use Rattle.sessions.specs.declared.ended.Ended.TheVariants.{Closed, LinkFault, BadMessage, Stopped}

@@ -7,17 +7,17 @@ ghost use Rattle.update_msgs.specs.Writable.{IsFormat};
 ghost use Rattle.update_msgs.specs.declared.message.ClientMsg.TheVariants.{Bye};
 ghost use Rattle.client_model.specs.Past.{Past};
 ghost use Rattle.client_model.specs.Runtime.{Opening};
-ghost use Rattle.hot_runtime.specs.Standing.{KeepsWords, StandsFor};
+ghost use Rattle.runtime_state.specs.Standing.{KeepsWords, StandsFor};
 ghost use Rattle.sessions.specs.declared.ended.Ended.{Ended};
 ghost use Rattle.client_sessions.specs.Asking.{IsNew, ended_by};
 ghost use Rattle.client_sessions.specs.Course.{ClientCourse, Turns};
 ghost use Rattle.client_sessions.specs.Exchange.{Ends, takes_bye};
 
 use crate::exchange::exchange;
-use const_eval::Ran;
-use hot_runtime::{HotRuntime, RuntimeFault};
+use hot_runtime::take;
 use output_lines::OutLine;
-use retained_data::Bag;
+use retained_data::{Bag, Ran};
+use runtime_state::{HotRuntime, RuntimeFault};
 use sessions::Ended;
 use std::alloc::{AllocError, Global};
 use transport::Link;
@@ -119,7 +119,7 @@ pub fn turn<L: Link, F: FnOnce(Bag) -> Result<Ran, AllocError> + Drop>(
     let asked = runtime.request()?;
     let answer = exchange(alloc, link, &asked, runtime.format())?;
     let is_idle = matches!(answer, ServerMsg::Idle);
-    let mut more = match runtime.take(answer) {
+    let mut more = match take(runtime, answer) {
         Ok(more) => more,
         Err(fault) => return Err(ended_by(fault)),
     };

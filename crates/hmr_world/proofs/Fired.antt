@@ -14,11 +14,11 @@ use Rattle.client_model.specs.Firing as firing
 use Rattle.client_model.specs.Past.{Past, event, runtime_after}
 use Rattle.client_model.specs.Runtime.{Runtime, Opening}
 use Rattle.module_language.specs.ModuleLanguage.{module_language}
-use Rattle.hot_runtime.specs.Answers.{IsFired}
-use Rattle.hot_runtime.specs.Standing as runtimes
-use Rattle.hot_runtime.specs.declared.fault.RuntimeFault.{RuntimeFault}
-use Rattle.hot_runtime.specs.declared.fault.RuntimeFault.TheVariants.{Unexpected, InstancesFull, Stopped, NoMemory}
-use Rattle.hot_runtime.specs.declared.runtime.HotRuntime.{HotRuntime}
+use Rattle.runtime_state.specs.Answers.{IsFired}
+use Rattle.runtime_state.specs.Standing as runtimes
+use Rattle.runtime_state.specs.declared.fault.RuntimeFault.{RuntimeFault}
+use Rattle.runtime_state.specs.declared.fault.RuntimeFault.TheVariants.{Unexpected, InstancesFull, Stopped, NoMemory}
+use Rattle.runtime_state.specs.declared.runtime.HotRuntime.{HotRuntime}
 use Rattle.server_core.specs.Kept.{Kept}
 use Rattle.world_model.specs.World.{Stepped, World, fires, stepped}
 use Rattle.world_model.specs.Turning.{fire_of, heard_at, lines_heard, or_no_lines}

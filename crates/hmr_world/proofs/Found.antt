@@ -3,7 +3,7 @@ use Rattle.std.proofs.Common.{◌≡◌, ◌<◌, ℕ, ap, get_or, length, sym, 
 use Rattle.std.specs.Prelude.{Some, slice_set}
 use Rattle.std.proofs.Math.Path.{subst}
 use Rattle.core_model.specs.Core.{client_at, with_client}
-use Rattle.hot_runtime.specs.declared.runtime.HotRuntime.{HotRuntime}
+use Rattle.runtime_state.specs.declared.runtime.HotRuntime.{HotRuntime}
 use Rattle.hmr_world.specs.Clients.{Clients}
 
 -- it is this row, at this place

@@ -19,11 +19,11 @@ use Rattle.client_model.specs.Runtime.{Runtime, Opening}
 use Rattle.client_model.specs.Stale.{stale_of}
 use Rattle.import_scan.specs.Links.{links}
 use Rattle.module_language.specs.ModuleLanguage.{module_language}
-use Rattle.hot_runtime.specs.Standing as runtimes
-use Rattle.hot_runtime.specs.declared.runtime.HotRuntime.{HotRuntime}
+use Rattle.runtime_state.specs.Standing as runtimes
+use Rattle.runtime_state.specs.declared.runtime.HotRuntime.{HotRuntime}
 use Rattle.fresh_loads.specs.Fresh.{load_of}
 use Rattle.server_core.specs.Reading.{is_resting, rests}
-use Rattle.fresh_loads.specs.Loads.{load_at}
+use Rattle.core_loads.specs.Loads.{load_at}
 use Rattle.fresh_loads.specs.declared.loading.Fresh.{Fresh}
 use Rattle.world_model.specs.CaughtUp.{is_caught_up, state_of}
 use Rattle.world_model.specs.Playing.{is_up, is_up_in}

@@ -6,7 +6,7 @@ use Rattle.std.proofs.lemmas.Bool.{false≢true}
 use Rattle.core_model.specs.Core.{client_at, with_client, without_client}
 use Rattle.core_model.proofs.Clients.{at_with, at_without}
 use Rattle.client_model.specs.Runtime.{Runtime}
-use Rattle.hot_runtime.specs.declared.runtime.HotRuntime.{HotRuntime}
+use Rattle.runtime_state.specs.declared.runtime.HotRuntime.{HotRuntime}
 use Rattle.hmr_world.specs.Clients.{IsRuntime, IsOpen, AreOpen, Clients}
 
 -- the definitions' client of this number is the runtime

@@ -21,8 +21,8 @@ use Rattle.client_model.specs.Runtime.{Opening, Runtime, new_runtime}
 use Rattle.client_model.specs.Taking.{take}
 use Rattle.module_language.specs.ModuleLanguage.{module_language}
 use Rattle.handler_table.specs.Held.{Answers}
-use Rattle.hot_runtime.specs.Standing as runtimes
-use Rattle.hot_runtime.specs.declared.runtime.HotRuntime.{HotRuntime}
+use Rattle.runtime_state.specs.Standing as runtimes
+use Rattle.runtime_state.specs.declared.runtime.HotRuntime.{HotRuntime}
 use Rattle.server_core.specs.declared.event.Reply.{Reply}
 use Rattle.world_model.specs.World.{Stepped, opens, stepped}
 use Rattle.world_model.specs.Turning.{lines_taken, open_by, shelf_of}

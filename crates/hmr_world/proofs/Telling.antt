@@ -8,7 +8,7 @@ use Rattle.core_model.specs.Core.{Event, change, disconnect, client_at}
 use Rattle.core_model.specs.Exchange.{event_of}
 use Rattle.client_model.specs.Requesting.{request}
 use Rattle.module_language.specs.ModuleLanguage.{module_language}
-use Rattle.hot_runtime.specs.declared.runtime.HotRuntime.{HotRuntime}
+use Rattle.runtime_state.specs.declared.runtime.HotRuntime.{HotRuntime}
 use Rattle.world_model.specs.Editing.{is_job}
 use Rattle.world_model.specs.World.{Job, World, settles, turn, closes}
 use Rattle.world_laws.specs.Runs.{Run, world_of}

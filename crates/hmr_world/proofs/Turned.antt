@@ -12,7 +12,7 @@ use Rattle.client_model.specs.Runtime.{Runtime}
 use Rattle.client_model.specs.Requesting.{request}
 use Rattle.client_model.specs.Taking.{Taking}
 use Rattle.module_language.specs.ModuleLanguage.{module_language}
-use Rattle.hot_runtime.specs.declared.runtime.HotRuntime.{HotRuntime}
+use Rattle.runtime_state.specs.declared.runtime.HotRuntime.{HotRuntime}
 use Rattle.world_model.specs.World.{World, Stepped, turn, closes, stepped}
 use Rattle.world_model.specs.Turning.{turn_of, close_of, lines_taken}
 use Rattle.world_model.specs.Ties.{IsUnderstood, UnderstandsAt}

@@ -16,11 +16,11 @@ use Rattle.client_model.specs.Requesting.{request}
 use Rattle.client_model.specs.Runtime.{Runtime, Opening}
 use Rattle.client_model.specs.Taking.{take}
 use Rattle.module_language.specs.ModuleLanguage.{module_language}
-use Rattle.hot_runtime.specs.Answers.{IsTaken}
-use Rattle.hot_runtime.specs.Standing.{StandsFor}
-use Rattle.hot_runtime.specs.declared.fault.RuntimeFault.{RuntimeFault}
-use Rattle.hot_runtime.specs.declared.fault.RuntimeFault.TheVariants.{Unexpected, Stopped}
-use Rattle.hot_runtime.specs.declared.runtime.HotRuntime.{HotRuntime}
+use Rattle.runtime_state.specs.Answers.{IsTaken}
+use Rattle.runtime_state.specs.Standing.{StandsFor}
+use Rattle.runtime_state.specs.declared.fault.RuntimeFault.{RuntimeFault}
+use Rattle.runtime_state.specs.declared.fault.RuntimeFault.TheVariants.{Unexpected, Stopped}
+use Rattle.runtime_state.specs.declared.runtime.HotRuntime.{HotRuntime}
 use Rattle.server_core.specs.declared.event.Reply.{Reply}
 use Rattle.server_core.specs.Kept.{Kept}
 use Rattle.server_core.specs.Said.{said, IsWritten}

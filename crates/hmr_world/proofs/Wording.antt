@@ -6,8 +6,8 @@ use Rattle.std.proofs.lemmas.List.Elements.{All-filter, All-push, All-set}
 use Rattle.std.specs.Prelude.{◌==◌, not}
 use Rattle.core_model.specs.Core.{without_client}
 use Rattle.handler_table.specs.Held.{Answers}
-use Rattle.hot_runtime.specs.Standing as runtimes
-use Rattle.hot_runtime.specs.declared.runtime.HotRuntime.{HotRuntime}
+use Rattle.runtime_state.specs.Standing as runtimes
+use Rattle.runtime_state.specs.declared.runtime.HotRuntime.{HotRuntime}
 use Rattle.hmr_world.specs.Clients.{Clients, KeepWords}
 use Rattle.hmr_world.proofs.Found.{StandsAt}
 

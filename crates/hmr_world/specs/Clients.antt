@@ -7,8 +7,8 @@ use Rattle.client_model.specs.Past.{Past, runtime_after}
 use Rattle.client_model.specs.Runtime.{Runtime, Opening}
 use Rattle.module_language.specs.ModuleLanguage.{module_language}
 use Rattle.handler_table.specs.Held.{Answers}
-use Rattle.hot_runtime.specs.Standing.{StandsFor, KeepsWords}
-use Rattle.hot_runtime.specs.declared.runtime.HotRuntime.{HotRuntime}
+use Rattle.runtime_state.specs.Standing.{StandsFor, KeepsWords}
+use Rattle.runtime_state.specs.declared.runtime.HotRuntime.{HotRuntime}
 
 -- the runtime is that of the definitions: both are of the same opening, and of all that came since
 pub record IsRuntime {F : Type 0} (r : Runtime) (h : HotRuntime F) : Type 0 where

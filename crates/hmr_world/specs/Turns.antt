@@ -10,7 +10,7 @@ use Rattle.client_model.specs.Runtime.{Runtime}
 use Rattle.client_model.specs.Taking.{Taking, take}
 use Rattle.module_language.specs.ModuleLanguage.{module_language}
 use Rattle.server_core.specs.Kept.{Kept}
-use Rattle.hot_runtime.specs.declared.runtime.HotRuntime.{HotRuntime}
+use Rattle.runtime_state.specs.declared.runtime.HotRuntime.{HotRuntime}
 use Rattle.world_model.specs.Ties.{IsUnderstood}
 use Rattle.world_model.specs.Turning.{take_some}
 use Rattle.hmr_world.specs.Clients.{IsRuntime}

@@ -2,10 +2,10 @@
 ghost use Rattle.std.specs.Prelude.{◌≡◌, ◌<◌};
 ghost use Rattle.std.specs.Prelude.{ℕ, IfNone, IfSome, None, Some, get_or, length, option_map, slice_set};
 ghost use Rattle.core_model.specs.Core.{client_at, with_client, without_client};
-ghost use Rattle.hot_runtime.specs.declared.runtime.HotRuntime.{HotRuntime};
+ghost use Rattle.runtime_state.specs.declared.runtime.HotRuntime.{HotRuntime};
 
 use hmr_types::ClientId;
-use hot_runtime::HotRuntime;
+use runtime_state::HotRuntime;
 
 /// An open client under its number.
 pub(crate) type Row<F> = (ClientId, HotRuntime<F>);

@@ -11,11 +11,11 @@ ghost use Rattle.hmr_world.specs.Standing.{IsRunning, KeepsWords, StandsFor};
 
 use crate::clients::place_of;
 use crate::world::World;
-use const_eval::Ran;
 use hmr_types::{ClientId, ModName, Value};
-use hot_runtime::RuntimeFault;
 use output_lines::OutLine;
-use retained_data::Bag;
+use retained_data::{Bag, Ran};
+use runtime_events::fire;
+use runtime_state::RuntimeFault;
 use std::alloc::AllocError;
 use world_parts::WorldStop;
 
@@ -44,7 +44,7 @@ impl<F: FnOnce(Bag) -> Result<Ran, AllocError> + Drop> World<F> {
         let Some(place) = place_of(&self.clients, client) else {
             return Ok(None);
         };
-        match self.clients[place].1.fire(event, value) {
+        match fire(&mut self.clients[place].1, event, value) {
             Ok(lines) => Ok(lines),
             Err(RuntimeFault::NoMemory) => Err(WorldStop::NoMemory),
             Err(RuntimeFault::Unexpected { wanted: _, got: _ }) => unreachable!(),

@@ -10,9 +10,11 @@ ghost use Rattle.hmr_world.specs.Standing.{IsStepped, StandsFor};
 
 use crate::clients::client_at;
 use crate::world::World;
-use fresh_loads::{add_modules, fresh, fresh_of, load_lines};
+use core_loads::{fresh, fresh_of};
+use fresh_loads::{add_modules, load_lines};
 use hmr_types::{ClientId, ModName, Ver};
 use output_lines::OutLine;
+use runtime_showing::{fates, stale, values};
 use std::alloc::AllocError;
 use world_parts::{WorldStop, add_stale, one_line, state_of, unknown};
 
@@ -60,7 +62,7 @@ impl<F> World<F> {
         let state = state_of(self.caught_up(client));
         let mut lines = one_line(self.alloc, OutLine::Client { client, state })?;
         add_modules(&mut lines, runtime.table()?)?;
-        add_stale(&mut lines, runtime.stale()?)?;
+        add_stale(&mut lines, stale(runtime)?)?;
         Ok(lines)
     }
 
@@ -70,7 +72,7 @@ impl<F> World<F> {
             → IsStepped run (model.values client) self.now result }
     {
         match client_at(&self.clients, client) {
-            Some(runtime) => Ok(runtime.values()?),
+            Some(runtime) => Ok(values(runtime)?),
             None => Ok(unknown(self.alloc, client)?),
         }
     }
@@ -81,7 +83,7 @@ impl<F> World<F> {
             → IsStepped run (model.fates client) self.now result }
     {
         match client_at(&self.clients, client) {
-            Some(runtime) => Ok(runtime.fates()?),
+            Some(runtime) => Ok(fates(runtime)?),
             None => Ok(unknown(self.alloc, client)?),
         }
     }

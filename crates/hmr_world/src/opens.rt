@@ -8,7 +8,7 @@ ghost use Rattle.core_model.specs.Sources.{Text};
 ghost use Rattle.client_model.specs.Runtime.{Runtime};
 ghost use Rattle.handler_table.specs.Held.{IsHost};
 ghost use Rattle.handler_table.specs.Shelf.{marks_of};
-ghost use Rattle.hot_runtime.specs.Standing as runtimes;
+ghost use Rattle.runtime_state.specs.Standing as runtimes;
 ghost use Rattle.world_model.specs.World.{opens};
 ghost use Rattle.world_laws.specs.Runs.{Run};
 ghost use Rattle.output_lines.specs.declared.out_line.OutLine.TheVariants.{Open};
@@ -20,13 +20,12 @@ ghost use Rattle.hmr_world.specs.Standing.{IsRunning, IsStepped, KeepsWords, Sta
 
 use crate::turns::take_answer;
 use crate::world::World;
-use const_eval::Ran;
 use handler_table::Shelf;
 use hmr_types::{ClientId, ModName, Sequence};
-use hot_runtime::HotRuntime;
 use module_graph::copy_of;
 use output_lines::OutLine;
-use retained_data::Bag;
+use retained_data::{Bag, Ran};
+use runtime_state::HotRuntime;
 use server_core::Event;
 use std::alloc::{AllocError, Global};
 use update_msgs::ServerMsg;

@@ -6,7 +6,7 @@ ghost use Rattle.core_model.specs.Core as model;
 ghost use Rattle.client_model.specs.Runtime.{Runtime};
 ghost use Rattle.client_model.specs.Taking.{take};
 ghost use Rattle.module_language.specs.ModuleLanguage.{module_language};
-ghost use Rattle.hot_runtime.specs.Standing as runtimes;
+ghost use Rattle.runtime_state.specs.Standing as runtimes;
 ghost use Rattle.world_model.specs.Turning.{lines_taken};
 ghost use Rattle.world_model.specs.World.{closes, turn};
 ghost use Rattle.world_laws.specs.Runs.{Run};
@@ -19,11 +19,11 @@ ghost use Rattle.hmr_world.specs.Turns.{CanTake, CanTurn, answer_to, taking_of};
 use crate::clients::{client_at, place_of, take_out};
 use crate::world::World;
 use client_exchange::{event_of, message_in};
-use const_eval::Ran;
 use hmr_types::ClientId;
-use hot_runtime::{HotRuntime, RuntimeFault};
+use hot_runtime::take;
 use output_lines::OutLine;
-use retained_data::Bag;
+use retained_data::{Bag, Ran};
+use runtime_state::{HotRuntime, RuntimeFault};
 use server_core::{Core, Event};
 use std::alloc::{AllocError, Global};
 use update_msgs::ServerMsg;
@@ -110,7 +110,7 @@ pub(crate) fn take_answer<F: FnOnce(Bag) -> Result<Ran, AllocError> + Drop>(
         → AreLines (lines_taken (take module_language r msg).answer) result }
     ensures words { runtimes.KeepsWords F.post runtime.new }
 {
-    match runtime.take(msg) {
+    match take(runtime, msg) {
         Ok(lines) => Ok(lines),
         Err(RuntimeFault::InstancesFull) => Err(WorldStop::InstancesFull),
         Err(RuntimeFault::NoMemory) => Err(WorldStop::NoMemory),

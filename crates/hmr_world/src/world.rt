@@ -14,11 +14,10 @@ ghost use Rattle.world_parts.specs.Stops.{AreLines};
 ghost use Rattle.hmr_world.specs.Standing.{IsRunning, IsStepped, KeepsWords, StandsFor};
 
 use crate::clients::Row;
-use const_eval::Ran;
 use handler_table::Shelf;
 use hmr_types::ModName;
 use output_lines::OutLine;
-use retained_data::Bag;
+use retained_data::{Bag, Ran};
 use run_promises::what_is_promised_of_runs;
 use server_core::{Core, NewFault};
 use std::alloc::{AllocError, Global};

@@ -23,11 +23,11 @@ use Rattle.module_language.specs.ModuleLanguage.{module_language}
 use Rattle.client_plan.specs.Planned.{IsPlanned}
 use Rattle.client_plan.specs.UnderWay.{IsFetched, IsUnderWay, plan_with, with_cause_of}
 use Rattle.client_plan.specs.declared.under_way.UnderWay.{UnderWay}
-use Rattle.hot_runtime.specs.Becoming.{Becomes}
+use Rattle.runtime_state.specs.Becoming.{Becomes}
 use Rattle.hot_runtime.specs.Fetching.{IsStaged, IsStagedIn}
-use Rattle.hot_runtime.specs.Standing.{IsPlan, IsPlannedWell, IsSound, Keeps}
-use Rattle.hot_runtime.specs.declared.runtime.HotRuntime.{HotRuntime}
-use Rattle.hot_runtime.proofs.Keeping.{plan_kept, plan_sound, run_with, with_under_way}
+use Rattle.runtime_state.specs.Standing.{IsPlan, IsPlannedWell, IsSound, Keeps}
+use Rattle.runtime_state.specs.declared.runtime.HotRuntime.{HotRuntime}
+use Rattle.runtime_state.proofs.Keeping.{plan_kept, plan_sound, run_with, with_under_way}
 
 module _ (loaded : Bool) (n : Name) (version : ℕ) (text : Text) where
   given_up : (cause : model.Cause) → is_answer loaded (abort_message cause) (msg.Text n version text) ≡ true → {X : Type 0} → X

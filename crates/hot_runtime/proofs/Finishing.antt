@@ -22,9 +22,9 @@ use Rattle.client_model.specs.Requesting.{abort_message, ask_or_invalidate, carr
 use Rattle.client_model.specs.Runtime as model
 use Rattle.client_model.specs.Runtime.{Runtime, Did, Invalidation}
 use Rattle.module_language.specs.ModuleLanguage.{module_language}
-use Rattle.page_lifecycle.specs.declared.page.Page.{Page}
-use Rattle.page_lifecycle.specs.Live.{number_of}
-use Rattle.page_lifecycle.proofs.Following.{lines_then}
+use Rattle.page_state.specs.declared.page.Page.{Page}
+use Rattle.page_state.specs.Live.{number_of}
+use Rattle.page_state.proofs.Following.{lines_then}
 use Rattle.hmr_types.specs.declared.words.PlanKind.{PlanKind}
 use Rattle.plan_changes.specs.Changing.{HasChanged, page_done}
 use Rattle.plan_changes.specs.Finding.{IsFound, IsFoundFor, IsPageOf, IsToApply}
@@ -39,11 +39,11 @@ use Rattle.client_plan.specs.declared.under_way.Ready.{Ready}
 use Rattle.client_plan.specs.declared.under_way.UnderWay.{UnderWay}
 use Rattle.client_plan.proofs.Paging.{entries_counted, new_paged, new_there, page_counted}
 use Rattle.hot_runtime.specs.Applying.{IsApplied, IsTurned}
-use Rattle.hot_runtime.specs.Becoming.{Becomes}
-use Rattle.hot_runtime.specs.Standing.{HasRoom, count_of, IsPlan, IsPlannedWell, IsSound, Keeps}
-use Rattle.hot_runtime.specs.declared.runtime.HotRuntime.{HotRuntime}
-use Rattle.hot_runtime.proofs.Keeping.{still}
-use Rattle.hot_runtime.proofs.Rising.{new_rises}
+use Rattle.runtime_state.specs.Becoming.{Becomes}
+use Rattle.runtime_state.specs.Standing.{HasRoom, count_of, IsPlan, IsPlannedWell, IsSound, Keeps}
+use Rattle.runtime_state.specs.declared.runtime.HotRuntime.{HotRuntime}
+use Rattle.runtime_state.proofs.Keeping.{still}
+use Rattle.runtime_state.proofs.Rising.{new_rises}
 
 -- A client that tells that a plan is applied.
 

@@ -8,7 +8,7 @@ use Rattle.core_model.specs.Page.{Plan, new_view}
 use Rattle.core_model.specs.View.{View}
 use Rattle.client_model.specs.Runtime.{Runtime}
 use Rattle.page_plan.specs.Plans.{IsSamePlan}
-use Rattle.page_lifecycle.specs.declared.page.Page.{Page}
+use Rattle.page_state.specs.declared.page.Page.{Page}
 use Rattle.plan_changes.specs.Changing.{HasChanged, page_done}
 use Rattle.plan_changes.specs.Finding.{IsFoundIn, IsPageOf, IsToApply}
 use Rattle.client_plan.specs.UnderWay.{IsReady}

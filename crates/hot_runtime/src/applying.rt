@@ -6,53 +6,58 @@ ghost use Rattle.client_model.specs.Answering.{apply_in};
 ghost use Rattle.client_model.specs.Requesting.{request};
 ghost use Rattle.client_model.specs.Runtime.{Runtime};
 ghost use Rattle.module_language.specs.ModuleLanguage.{module_language};
-ghost use Rattle.page_lifecycle.specs.Standing.{KeepWords, StandsFor};
+ghost use Rattle.page_state.specs.Standing.{KeepWords, StandsFor};
 ghost use Rattle.plan_changes.specs.Changing.{CanChange};
 ghost use Rattle.plan_changes.specs.Finding.{IsFound};
 ghost use Rattle.client_plan.specs.UnderWay.{is_applied_told};
 ghost use Rattle.hot_runtime.specs.Applying.{IsApplied, IsTurned};
-ghost use Rattle.hot_runtime.specs.Becoming.{Becomes};
-ghost use Rattle.hot_runtime.specs.Standing.{HasRoom, IsSound, Keeps, KeepsWords, count_of};
+ghost use Rattle.runtime_state.specs.Becoming.{Becomes};
+ghost use Rattle.runtime_state.specs.Standing.{HasRoom, IsSound, Keeps, KeepsWords, count_of};
 ghost use Rattle.client_plan.specs.declared.under_way.UnderWay.{UnderWay};
 
-use crate::runtime::HotRuntime;
 use client_plan::{UnderWay, put};
-use const_eval::Ran;
 use hmr_types::ModName;
 use module_graph::View;
 use output_lines::OutLine;
-use page_lifecycle::Page;
+use page_state::Page;
 use plan_changes::{Found, change_page, find};
-use retained_data::Bag;
+use retained_data::{Bag, Ran};
+use runtime_state::HotRuntime;
 use std::alloc::{AllocError, Global};
 
-impl<F: FnOnce(Bag) -> Result<Ran, AllocError> + Drop> HotRuntime<F> {
-    /// Old instances end, new ones are made, and callbacks are called.
-    pub(crate) fn apply(&mut self) -> Result<Vec<OutLine>, AllocError>
-        requires running { self.old.stopped ≡ false }
-        requires room { HasRoom self.old }
-        requires callable { (f : F) → F.IsAlwaysCallable f }
-        requires words { KeepsWords F.post self.old }
-        ensures becomes { (r : Runtime) → Keeps r self.old → IsSound self.old
-            → is_applied_told (request module_language r) ≡ true
-            → IfOk result (λ lines. Becomes (apply_in r.page.plan module_language r) self.new lines.items) }
-        ensures words { OnOk result (KeepsWords F.post self.new) }
-        ensures format { self.new.format ≡ self.old.format }
-        ensures stopped { self.new.stopped ≡ self.old.stopped }
-    {
-        let alloc = self.allocator();
-        let forced = self.forced.as_slice();
-        match turned(&mut self.plan, alloc, &self.page, &mut self.view, forced)? {
-            Some(found) => {
-                put(&mut self.plan, None);
-                put(&mut self.forced, Vec::new(alloc));
-                self.loaded = true;
-                self.whole = found.whole;
-                let lines = apply_to(&mut self.page, alloc, found)?;
-                Ok(lines)
-            }
-            None => Ok(Vec::new(alloc)),
+/// Old instances end, new ones are made, and callbacks are called.
+pub(crate) fn apply<F: FnOnce(Bag) -> Result<Ran, AllocError> + Drop>(
+    runtime: &mut HotRuntime<F>,
+) -> Result<Vec<OutLine>, AllocError>
+    requires running { runtime.old.stopped ≡ false }
+    requires room { HasRoom runtime.old }
+    requires callable { (f : F) → F.IsAlwaysCallable f }
+    requires words { KeepsWords F.post runtime.old }
+    ensures becomes { (r : Runtime) → Keeps r runtime.old → IsSound runtime.old
+        → is_applied_told (request module_language r) ≡ true
+        → IfOk result (λ lines. Becomes (apply_in r.page.plan module_language r) runtime.new lines.items) }
+    ensures words { OnOk result (KeepsWords F.post runtime.new) }
+    ensures format { runtime.new.format ≡ runtime.old.format }
+    ensures stopped { runtime.new.stopped ≡ runtime.old.stopped }
+{
+    let alloc = runtime.allocator();
+    let forced = runtime.forced.as_slice();
+    match turned(
+        &mut runtime.plan,
+        alloc,
+        &runtime.page,
+        &mut runtime.view,
+        forced,
+    )? {
+        Some(found) => {
+            put(&mut runtime.plan, None);
+            put(&mut runtime.forced, Vec::new(alloc));
+            runtime.loaded = true;
+            runtime.whole = found.whole;
+            let lines = apply_to(&mut runtime.page, alloc, found)?;
+            Ok(lines)
         }
+        None => Ok(Vec::new(alloc)),
     }
 }
 

@@ -9,50 +9,47 @@ ghost use Rattle.client_model.specs.Requesting.{request};
 ghost use Rattle.client_model.specs.Runtime.{Runtime};
 ghost use Rattle.module_language.specs.ModuleLanguage.{module_language};
 ghost use Rattle.client_plan.specs.declared.under_way.UnderWay.{UnderWay};
-ghost use Rattle.hot_runtime.specs.Becoming.{Becomes};
+ghost use Rattle.runtime_state.specs.Becoming.{Becomes};
 ghost use Rattle.hot_runtime.specs.Fetching.{IsStagedIn};
-ghost use Rattle.hot_runtime.specs.Standing.{IsSound, Keeps};
+ghost use Rattle.runtime_state.specs.Standing.{IsSound, Keeps};
 
-use crate::runtime::HotRuntime;
 use client_plan::UnderWay;
-use const_eval::Ran;
 use fetched_texts::fetched;
 use hmr_types::{ModName, Text, Ver};
 use module_graph::View;
 use output_lines::OutLine;
-use retained_data::Bag;
+use retained_data::{Bag, Ran};
+use runtime_state::HotRuntime;
 use std::alloc::{AllocError, Global};
 
-impl<F: FnOnce(Bag) -> Result<Ran, AllocError> + Drop> HotRuntime<F> {
-    /// The text of the module that was asked for came. It takes time linear in the text, and that of what
-    /// the plan's walk meets next.
-    pub(crate) fn stage(
-        &mut self,
-        name: ModName,
-        version: Ver,
-        text: Text,
-    ) -> Result<Vec<OutLine>, AllocError>
-        requires short { length text ≤ 4294967294 }
-        ensures becomes { (r : Runtime) → Keeps r self.old → IsSound self.old → IsVersion version
-            → is_answer self.old.loaded (request module_language r) (msg.Text name version text) ≡ true
-            → IfOk result
-            (λ lines.
-            Becomes (stage_in r.page.plan module_language name version text r) self.new lines.items) }
-        ensures rest { self.new ≡ record self.old { plan = self.new.plan } }
-    {
-        let alloc = self.allocator();
-        let roots = self.roots.as_slice();
-        stage_for(
-            &mut self.plan,
-            alloc,
-            roots,
-            &self.view,
-            &name,
-            version,
-            &text,
-        )?;
-        Ok(Vec::new(alloc))
-    }
+/// The text of the module that was asked for came. It takes time linear in the text, and that of what
+/// the plan's walk meets next.
+pub(crate) fn stage<F: FnOnce(Bag) -> Result<Ran, AllocError> + Drop>(
+    runtime: &mut HotRuntime<F>,
+    name: ModName,
+    version: Ver,
+    text: Text,
+) -> Result<Vec<OutLine>, AllocError>
+    requires short { length text ≤ 4294967294 }
+    ensures becomes { (r : Runtime) → Keeps r runtime.old → IsSound runtime.old → IsVersion version
+        → is_answer runtime.old.loaded (request module_language r) (msg.Text name version text) ≡ true
+        → IfOk result
+        (λ lines.
+        Becomes (stage_in r.page.plan module_language name version text r) runtime.new lines.items) }
+    ensures rest { runtime.new ≡ record runtime.old { plan = runtime.new.plan } }
+{
+    let alloc = runtime.allocator();
+    let roots = runtime.roots.as_slice();
+    stage_for(
+        &mut runtime.plan,
+        alloc,
+        roots,
+        &runtime.view,
+        &name,
+        version,
+        &text,
+    )?;
+    Ok(Vec::new(alloc))
 }
 
 // The text of the module that the plan under way asked for, over a page of these roots and modules. With no

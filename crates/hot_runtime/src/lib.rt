@@ -1,26 +1,14 @@
-//! The client runtime: what a client asks of its server, and what each answer and each event does to its
-//! page.
+//! The client runtime at each answer: what a client's page becomes by what its server tells it.
 //!
-//! Stands on what a page keeps of a plan under way, on a page's deeds, on the messages, and on the
-//! definitions of a client for the module language. Keeps: a [`HotRuntime`] stands for the list of the
-//! messages and events that it took, so that its requests, lines and tables are those of the definitions.
-//! A call takes memory only where its result can say that memory ran out. Knows nothing of links, of
-//! bytes or of other clients.
+//! Stands on what a runtime does at answers that touch no instance (`runtime_answers`) and outside a plan
+//! (`runtime_events`), on texts that were fetched, and on what a plan does to a page (`plan_changes`). Keeps: a runtime takes each answer to its request as the
+//! definitions' client does, and its lines are theirs. A call takes memory only where its result can say that
+//! memory ran out. Knows nothing of links, of bytes or of other clients.
 #![tactic(auto)]
 
 mod answering;
 mod applying;
-mod beginning;
-mod events;
-mod expecting;
-mod fault;
 mod fetching;
-mod forcing;
-mod pruning;
-mod requesting;
-mod runtime;
-mod showing;
 mod taking;
 
-pub use fault::RuntimeFault;
-pub use runtime::HotRuntime;
+pub use taking::take;

@@ -12,8 +12,8 @@ use Rattle.output_lines.specs.declared.out_line.OutLine.{OutLine}
 use Rattle.play_text.specs.Lines.{line_text}
 use Rattle.update_msgs.specs.declared.message.ClientMsg.TheVariants.{Bye}
 use Rattle.client_model.specs.Runtime.{Opening}
-use Rattle.hot_runtime.specs.Standing.{StandsFor}
-use Rattle.hot_runtime.specs.declared.runtime.HotRuntime.{HotRuntime}
+use Rattle.runtime_state.specs.Standing.{StandsFor}
+use Rattle.runtime_state.specs.declared.runtime.HotRuntime.{HotRuntime}
 use Rattle.sessions.specs.Endings.{ended_at}
 use Rattle.sessions.specs.declared.ended.Ended.{Ended}
 use Rattle.client_sessions.specs.Asking.{lines_of, past_after}

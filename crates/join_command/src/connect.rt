@@ -10,11 +10,10 @@ ghost use Rattle.join_command.specs.Joining.{JoinsAt, JoinsBy};
 use crate::plan::JoinPlan;
 use crate::session::run;
 use crate::stop::JoinStop;
-use const_eval::Ran;
 use handler_table::Shelf;
 use hmr_base::Sink;
-use hot_runtime::HotRuntime;
-use retained_data::Bag;
+use retained_data::{Bag, Ran};
+use runtime_state::HotRuntime;
 use std::alloc::{AllocError, Global};
 use transport::Net;
 

@@ -3,17 +3,16 @@ ghost use Rattle.std.specs.Prelude.{◌≡◌, ◌≤◌, [], Err};
 ghost use Rattle.hmr_base.specs.Causes.{Rose};
 ghost use Rattle.transport.specs.declared.link.Phase.{Phase};
 ghost use Rattle.client_model.specs.Runtime.{Opening};
-ghost use Rattle.hot_runtime.specs.Standing.{KeepsWords, StandsFor};
+ghost use Rattle.runtime_state.specs.Standing.{KeepsWords, StandsFor};
 ghost use Rattle.client_sessions.specs.Asking.{IsNew};
 ghost use Rattle.join_command.specs.Joining.{Joins};
 
 use crate::stop::{JoinStop, ends_as};
 use crate::writing::write_lines;
 use client_sessions::{Ended, bye, turn};
-use const_eval::Ran;
 use hmr_base::Sink;
-use hot_runtime::HotRuntime;
-use retained_data::Bag;
+use retained_data::{Bag, Ran};
+use runtime_state::HotRuntime;
 use std::alloc::{AllocError, Global};
 use transport::Link;
 

@@ -20,14 +20,14 @@ use Rattle.page_instances.specs.declared.instance.Instance.{Instance}
 use Rattle.page_instances.specs.Scopes.{kept_at}
 use Rattle.page_instances.specs.Showing.{lines_in}
 use Rattle.page_instances.proofs.Shown.{fate_shown, values_shown}
-use Rattle.page_lifecycle.specs.declared.page.Page.{Page}
-use Rattle.page_lifecycle.specs.Live.{HasNumber, Numbers, number_of}
-use Rattle.page_lifecycle.specs.Settling.{live_in}
+use Rattle.page_state.specs.declared.page.Page.{Page}
+use Rattle.page_state.specs.Live.{HasNumber, Numbers, number_of}
+use Rattle.page_state.specs.Settling.{live_in}
 use Rattle.page_showing.specs.Showing.{apart, lines_of, lines_upto, link_by, stale_among, values_among, values_kept, values_under}
 use Rattle.live_instances.specs.Orderly.{NumbersFall}
-use Rattle.page_lifecycle.specs.Standing.{BothOrNone, StandsFor}
+use Rattle.page_state.specs.Standing.{BothOrNone, StandsFor}
 use Rattle.live_instances.proofs.Order.{itself}
-use Rattle.page_lifecycle.proofs.Standing.{live_seen}
+use Rattle.page_state.proofs.Standing.{live_seen}
 
 -- no link is there at first
 pub no_number : (n : Name) → number_of [] n ≡ None

@@ -9,9 +9,9 @@ use Rattle.client_model.specs.Runtime.{Runtime}
 use Rattle.client_model.specs.Stale.{link_of, live_number, same_link}
 use Rattle.page_instances.specs.declared.instance.Instance.{Instance}
 use Rattle.page_instances.specs.Showing.{export_lines, lines_in}
-use Rattle.page_lifecycle.specs.Live.{Numbers, number_of}
-use Rattle.page_lifecycle.specs.Settling.{live_in}
-use Rattle.page_lifecycle.specs.declared.page.Page.{Page}
+use Rattle.page_state.specs.Live.{Numbers, number_of}
+use Rattle.page_state.specs.Settling.{live_in}
+use Rattle.page_state.specs.declared.page.Page.{Page}
 
 -- what the exports of the live modules among these hold
 abbrev pub values_among : Runtime → List Name → List OutLine

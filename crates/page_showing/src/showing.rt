@@ -6,16 +6,16 @@ ghost use Rattle.core_model.specs.Names.{Name, at};
 ghost use Rattle.client_model.specs.Printing.{fate_lines};
 ghost use Rattle.client_model.specs.Runtime.{Runtime};
 ghost use Rattle.client_model.specs.Stale.{same_link};
-ghost use Rattle.page_lifecycle.specs.Live.{number_of};
-ghost use Rattle.page_lifecycle.specs.Settling.{live_in};
+ghost use Rattle.page_state.specs.Live.{number_of};
+ghost use Rattle.page_state.specs.Settling.{live_in};
 ghost use Rattle.page_showing.specs.Showing.{apart, lines_upto, link_by, stale_among, values_among};
 ghost use Rattle.page_showing.specs.Showing.{values_kept, values_under};
-ghost use Rattle.page_lifecycle.specs.Standing.{StandsFor};
+ghost use Rattle.page_state.specs.Standing.{StandsFor};
 
 use hmr_types::ModName;
 use output_lines::OutLine;
 use page_instances::{tell_fate, tell_values};
-use page_lifecycle::{LiveNumbers, Page};
+use page_state::{LiveNumbers, Page};
 use std::alloc::{AllocError, Global};
 
 /// The numbers of links, by name: the first link of a name counts. It takes the time of so many look-ups.

@@ -24,16 +24,16 @@ use Rattle.module_language.specs.ModuleLanguage.{module_language}
 use Rattle.page_plan.specs.Numbers.{new_number}
 use Rattle.page_instances.specs.declared.instance.Instance.{Instance}
 use Rattle.page_instances.specs.Scopes.{kept_at}
-use Rattle.page_lifecycle.specs.declared.birth.Birth.{Birth}
-use Rattle.page_lifecycle.specs.declared.page.Page.{Page}
-use Rattle.page_lifecycle.specs.Each.{FollowsEach, IsReplacing, StandAt}
-use Rattle.page_lifecycle.specs.EachBirth.{AreBirths, FollowsBirths}
-use Rattle.page_lifecycle.specs.Live.{number_of}
+use Rattle.page_births.specs.declared.birth.Birth.{Birth}
+use Rattle.page_state.specs.declared.page.Page.{Page}
+use Rattle.page_ends.specs.Each.{FollowsEach, IsReplacing, StandAt}
+use Rattle.page_births.specs.EachBirth.{AreBirths, FollowsBirths}
+use Rattle.page_state.specs.Live.{number_of}
 use Rattle.live_instances.specs.Orderly.{Orderly}
-use Rattle.page_lifecycle.specs.Standing.{BothOrNone, Follows, StandsFor, name_at}
-use Rattle.page_lifecycle.specs.Tellings.{told}
-use Rattle.page_lifecycle.proofs.Each.{stand_kept}
-use Rattle.page_lifecycle.proofs.Following.{follows_as, follows_nothing, follows_then}
+use Rattle.page_state.specs.Standing.{BothOrNone, Follows, StandsFor, name_at}
+use Rattle.page_ends.specs.Tellings.{told}
+use Rattle.page_ends.proofs.Each.{stand_kept}
+use Rattle.page_state.proofs.Following.{follows_as, follows_nothing, follows_then}
 use Rattle.live_instances.proofs.Order.{live_named, live_numbered}
 use Rattle.plan_changes.specs.Changing.{AreMade, HasChanged, IsUpdate, page_done}
 use Rattle.plan_changes.specs.declared.changing.Update.{Update}
@@ -43,7 +43,7 @@ use Rattle.live_instances.proofs.Living.{live_apart, live_there}
 use Rattle.plan_changes.proofs.Making.{are_new}
 use Rattle.client_plan.proofs.Orders.{Distinct, names_once}
 use Rattle.client_plan.proofs.Paging.{fresh_unpaged, unpaged}
-use Rattle.plan_changes.proofs.Sounding.{counted_of, unsent_of, versions_of}
+use Rattle.page_ends.proofs.Sounding.{counted_of, unsent_of, versions_of}
 
 -- What is live is at a place of the page, and there it stays.
 

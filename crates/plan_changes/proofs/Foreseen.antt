@@ -10,8 +10,8 @@ use Rattle.core_model.specs.View.{View}
 use Rattle.client_model.specs.Linking.{new_names, place_of}
 use Rattle.client_model.specs.Runtime.{Runtime}
 use Rattle.page_plan.specs.Numbers.{NewNumbers, new_number}
-use Rattle.page_lifecycle.specs.declared.birth.Birth.{Birth}
-use Rattle.page_lifecycle.specs.declared.page.Page.{Page}
+use Rattle.page_births.specs.declared.birth.Birth.{Birth}
+use Rattle.page_state.specs.declared.page.Page.{Page}
 use Rattle.plan_changes.specs.Changing.{AreMade, AreNumbers, IsMadeOf}
 use Rattle.plan_changes.specs.Finding.{IsPageOf, IsToApply}
 use Rattle.client_plan.specs.declared.under_way.Ready.{Ready}

@@ -17,8 +17,8 @@ use Rattle.core_model.specs.View.{View}
 use Rattle.client_model.specs.Linking.{link_to}
 use Rattle.page_plan.specs.Numbers.{NewNumbers}
 use Rattle.page_plan.proofs.Numbering.{found}
-use Rattle.page_lifecycle.specs.declared.birth.Birth.{Birth}
-use Rattle.page_lifecycle.specs.Live.{Numbers}
+use Rattle.page_births.specs.declared.birth.Birth.{Birth}
+use Rattle.page_state.specs.Live.{Numbers}
 use Rattle.plan_changes.specs.Changing.{IsMadeOf, links_by, number_then}
 
 -- One more link.

@@ -1,4 +1,3 @@
-pub mod Sounding
 pub mod Gathering
 pub mod Making
 pub mod Foreseen

@@ -21,11 +21,11 @@ use Rattle.module_language.specs.ModuleLanguage.{module_in}
 use Rattle.page_plan.specs.Numbers.{NewNumbers}
 use Rattle.page_plan.specs.Plans.{IsSamePlan}
 use Rattle.page_plan.proofs.Same.{entry_same}
-use Rattle.page_lifecycle.specs.declared.birth.Birth.{Birth}
-use Rattle.page_lifecycle.specs.declared.page.Page.{Page}
-use Rattle.page_lifecycle.specs.EachBirth.{AreBirths, AreNew}
-use Rattle.page_lifecycle.specs.Live.{Numbers, number_of}
-use Rattle.page_lifecycle.specs.Standing.{StandsFor}
+use Rattle.page_births.specs.declared.birth.Birth.{Birth}
+use Rattle.page_state.specs.declared.page.Page.{Page}
+use Rattle.page_births.specs.EachBirth.{AreBirths, AreNew}
+use Rattle.page_state.specs.Live.{Numbers, number_of}
+use Rattle.page_state.specs.Standing.{StandsFor}
 use Rattle.plan_changes.specs.Changing.{AreNumbers, IsMadeOf, links_by, number_then}
 use Rattle.client_plan.specs.UnderWay.{HasTrees}
 use Rattle.client_plan.proofs.Orders.{CountsFrom, Distinct}

@@ -23,13 +23,13 @@ use Rattle.client_model.specs.Runtime.{Runtime, Did, and_then, for_each}
 use Rattle.module_language.specs.ModuleLanguage.{module_language}
 use Rattle.live_instances.specs.Counted.{AreCountedIn}
 use Rattle.page_plan.specs.Numbers.{NewNumbers, new_number}
-use Rattle.page_lifecycle.specs.declared.birth.Birth.{Birth}
-use Rattle.page_lifecycle.specs.declared.page.Page.{Page}
-use Rattle.page_lifecycle.specs.EachBirth.{AreBirths}
-use Rattle.page_lifecycle.specs.Live as now_live
-use Rattle.page_lifecycle.specs.Live.{number_of}
-use Rattle.page_lifecycle.specs.Standing.{StandsFor, StaysElsewhere}
-use Rattle.page_lifecycle.specs.Tellings.{is_within, told}
+use Rattle.page_births.specs.declared.birth.Birth.{Birth}
+use Rattle.page_state.specs.declared.page.Page.{Page}
+use Rattle.page_births.specs.EachBirth.{AreBirths}
+use Rattle.page_state.specs.Live as now_live
+use Rattle.page_state.specs.Live.{number_of}
+use Rattle.page_state.specs.Standing.{StandsFor, StaysElsewhere}
+use Rattle.page_ends.specs.Tellings.{is_within, told}
 use Rattle.plan_changes.specs.declared.changing.Change.{Change}
 use Rattle.plan_changes.specs.declared.changing.Change.TheVariants as change
 use Rattle.plan_changes.specs.declared.changing.Update.{Update}

@@ -9,9 +9,9 @@ use Rattle.core_model.specs.Page.{Plan}
 use Rattle.core_model.specs.View.{View}
 use Rattle.client_model.specs.Runtime.{Runtime}
 use Rattle.page_plan.specs.Plans.{IsSamePlan}
-use Rattle.page_lifecycle.specs.Live.{number_of}
-use Rattle.page_lifecycle.specs.Standing.{StandsFor}
-use Rattle.page_lifecycle.specs.declared.page.Page.{Page}
+use Rattle.page_state.specs.Live.{number_of}
+use Rattle.page_state.specs.Standing.{StandsFor}
+use Rattle.page_state.specs.declared.page.Page.{Page}
 use Rattle.plan_changes.specs.Changing.{AreMade, IsChange}
 use Rattle.client_plan.specs.UnderWay.{HasTrees, IsReady}
 use Rattle.plan_changes.specs.declared.finding.Found.{Found}

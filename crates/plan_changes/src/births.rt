@@ -13,8 +13,9 @@ ghost use Rattle.plan_changes.specs.Changing.{IsMadeOf, links_by};
 use hmr_types::{ModName, Name, Sequence};
 use module_graph::{View, copy_name};
 use module_tree::Module;
-use page_lifecycle::{Birth, LiveNumbers, Page};
+use page_births::Birth;
 use page_plan::{Numbers, Plan};
+use page_state::{LiveNumbers, Page};
 use std::alloc::{AllocError, Global};
 use std::collections::BTreeMap;
 

@@ -8,17 +8,19 @@ ghost use Rattle.client_model.specs.Linking.{new_names};
 ghost use Rattle.client_model.specs.Runtime.{Runtime};
 ghost use Rattle.page_plan.specs.Numbers.{new_number};
 ghost use Rattle.page_plan.specs.Plans.{IsSamePlan};
-ghost use Rattle.page_lifecycle.specs.Standing.{KeepWords, StandsFor};
+ghost use Rattle.page_state.specs.Standing.{KeepWords, StandsFor};
 ghost use Rattle.plan_changes.specs.Changing.{AreMade, AreNumbers, CanChange, CanUpdate, HasChanged};
 ghost use Rattle.plan_changes.specs.Changing.{IsChange, IsUpdate, page_done};
 
-use const_eval::Ran;
 use hmr_types::{ModName, PlanKind};
 use module_graph::copy_name;
 use output_lines::OutLine;
-use page_lifecycle::{Birth, Page, Told};
+use page_births::{Birth, make_all};
+use page_ends::{Told, drop_all, reload_all, tellings};
+use page_lifecycle::{replace_all, tell_all};
 use page_plan::{NameSet, Numbers, Plan};
-use retained_data::Bag;
+use page_state::Page;
+use retained_data::{Bag, Ran};
 use std::alloc::{AllocError, Global};
 
 /// What a plan does with the instances that are there.
@@ -90,7 +92,7 @@ fn update_of<F>(
 {
     let replaced = replaced_of(alloc, plan, names)?;
     let forced = NameSet::of(alloc, forced)?;
-    let rows = page.tellings(alloc, pairs, &numbers, &forced)?;
+    let rows = tellings(page, alloc, pairs, &numbers, &forced)?;
     Ok(Update {
         replaced,
         numbers,
@@ -163,7 +165,7 @@ fn load<F: FnOnce(Bag) -> Result<Ran, AllocError> + Drop>(
         → AreMade r p page.old births.items → OnOk result (HasChanged
         (page_done plan_kind.Load p r) r p page.old page.new lines.old.items lines.new.items) }
 {
-    page.make_all(alloc, births, lines)?;
+    make_all(page, alloc, births, lines)?;
     Ok(())
 }
 
@@ -182,8 +184,8 @@ fn reload<F: FnOnce(Bag) -> Result<Ran, AllocError> + Drop>(
         → AreMade r p page.old births.items → OnOk result (HasChanged
         (page_done plan_kind.Reload p r) r p page.old page.new lines.old.items lines.new.items) }
 {
-    page.reload_all(alloc)?;
-    page.make_all(alloc, births, lines)?;
+    reload_all(page, alloc)?;
+    make_all(page, alloc, births, lines)?;
     Ok(())
 }
 
@@ -210,9 +212,9 @@ fn replace<F: FnOnce(Bag) -> Result<Ran, AllocError> + Drop>(
         numbers,
         rows,
     } = update;
-    let places = page.replace_all(alloc, replaced, &numbers, lines)?;
-    page.make_all(alloc, births, lines)?;
-    page.tell_all(alloc, &rows, lines)?;
-    page.drop_all(&places);
+    let places = replace_all(page, alloc, replaced, &numbers, lines)?;
+    make_all(page, alloc, births, lines)?;
+    tell_all(page, alloc, &rows, lines)?;
+    drop_all(page, &places);
     Ok(())
 }

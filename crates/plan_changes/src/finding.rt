@@ -15,8 +15,9 @@ use client_plan::{Next, Ready, UnderWay};
 use hmr_types::{ModName, PlanKind};
 use module_graph::View;
 use module_tree::Module;
-use page_lifecycle::{Birth, Page};
+use page_births::Birth;
 use page_plan::Plan;
+use page_state::Page;
 use std::alloc::{AllocError, Global};
 use std::collections::BTreeMap;
 

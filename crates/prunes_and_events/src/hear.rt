@@ -4,14 +4,15 @@ ghost use Rattle.std.specs.List.{All};
 ghost use Rattle.client_model.specs.Firing.{hear_all, hear_event};
 ghost use Rattle.client_model.specs.Instance as model;
 ghost use Rattle.module_language.specs.ModuleLanguage.{module_language};
-ghost use Rattle.page_lifecycle.specs.Each.{FollowsEach};
-ghost use Rattle.page_lifecycle.specs.Standing.{Follows, KeepWords};
+ghost use Rattle.page_ends.specs.Each.{FollowsEach};
+ghost use Rattle.page_state.specs.Standing.{Follows, KeepWords};
 
-use const_eval::Ran;
 use hmr_types::{ModName, Value};
 use output_lines::OutLine;
-use page_lifecycle::{Given, Page, Whose};
-use retained_data::Bag;
+use page_ends::{Whose, rising_places};
+use page_runs::{Given, run_listing};
+use page_state::Page;
+use retained_data::{Bag, Ran};
 use std::alloc::{AllocError, Global};
 
 /// The callbacks of the instance at a place that list this event are run, in the order in which they
@@ -37,7 +38,7 @@ pub fn hear_event<F: FnOnce(Bag) -> Result<Ran, AllocError> + Drop>(
 {
     let copy = value.clone()?;
     let given = Given::Event(copy);
-    page.run_listing(alloc, place, event, &given, lines)?;
+    run_listing(page, alloc, place, event, &given, lines)?;
     Ok(())
 }
 
@@ -82,7 +83,7 @@ pub fn hear_all<F: FnOnce(Bag) -> Result<Ran, AllocError> + Drop>(
         page.old page.new lines.old.items lines.new.items) }
 {
     let whose = Whose::All;
-    let places = page.rising_places(alloc, &whose)?;
+    let places = rising_places(page, alloc, &whose)?;
     hear_each(page, alloc, &places, event, value, lines)?;
     Ok(())
 }

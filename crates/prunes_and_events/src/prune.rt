@@ -10,17 +10,18 @@ ghost use Rattle.client_model.specs.Instance.{prunes};
 ghost use Rattle.client_model.specs.Running.{no_arguments, run_each};
 ghost use Rattle.client_model.specs.Runtime.{for_each};
 ghost use Rattle.module_language.specs.ModuleLanguage.{module_language};
-ghost use Rattle.page_lifecycle.specs.Each.{FollowsEach};
-ghost use Rattle.page_lifecycle.specs.Standing.{Follows, KeepWords, name_at};
+ghost use Rattle.page_ends.specs.Each.{FollowsEach};
+ghost use Rattle.page_state.specs.Standing.{Follows, KeepWords, name_at};
 
-use const_eval::Ran;
 use hmr_types::ModName;
 use module_semantics::ModParam;
 use output_lines::{FaultPlace, InstanceFate, OutLine};
+use page_ends::{Whose, drop_held, end_instance, falling_places, give_up_bag};
 use page_instances::imports_in;
-use page_lifecycle::{Page, Whose};
 use page_plan::NameSet;
-use retained_data::Bag;
+use page_runs::{run_disposer, settle, spend};
+use page_state::Page;
+use retained_data::{Bag, Ran};
 use std::alloc::{AllocError, Global};
 
 /// Runs the prune handler of the instance at a place, where it holds one, and adds its lines. It fails
@@ -48,8 +49,8 @@ pub fn run_prune<F: FnOnce(Bag) -> Result<Ran, AllocError> + Drop>(
     };
     let bag = page.bags.take(alloc, &page.instances[place].name);
     let own = page.instances[place].values.as_slice();
-    let ran = handler.spend(alloc, own, &imports, &mods, bag)?;
-    page.settle(place, FaultPlace::Prune, ran, lines)?;
+    let ran = spend(alloc, handler, own, &imports, &mods, bag)?;
+    settle(page, place, FaultPlace::Prune, ran, lines)?;
     Ok(())
 }
 
@@ -71,11 +72,11 @@ pub fn prune_instance<F: FnOnce(Bag) -> Result<Ran, AllocError> + Drop>(
         → OnOk result (Follows (prune_instance module_language i)
         page.old page.new lines.old.items lines.new.items) }
 {
-    page.run_disposer(alloc, place, lines)?;
+    run_disposer(page, alloc, place, lines)?;
     run_prune(page, alloc, place, lines)?;
-    page.drop_held(place);
-    page.give_up_bag(place);
-    page.end_instance(place, InstanceFate::Pruned);
+    drop_held(page, place);
+    give_up_bag(page, place);
+    end_instance(page, place, InstanceFate::Pruned);
     let name = page.instances[place].name.clone()?;
     lines.push(OutLine::Pruned {
         client: page.client,
@@ -124,7 +125,7 @@ pub fn prune_all<F: FnOnce(Bag) -> Result<Ran, AllocError> + Drop>(
 {
     let set = NameSet::of(alloc, names)?;
     let whose = Whose::Among(set);
-    let places = page.falling_places(alloc, &whose)?;
+    let places = falling_places(page, alloc, &whose)?;
     prune_each(page, alloc, &places, lines)?;
     Ok(())
 }

@@ -4,9 +4,8 @@
 ghost use Rattle.update_msgs.specs.Writable.{IsFormat};
 
 use crate::transcript::played;
-use const_eval::Ran;
 use handler_table::host_run;
-use retained_data::Bag;
+use retained_data::{Bag, Ran};
 use std::alloc::{AllocError, Global};
 use std::test::Fail;
 

@@ -5,16 +5,18 @@
 ghost use Rattle.std.specs.Prelude.{◌≡◌, ℕ, IfOk, codes};
 ghost use Rattle.handler_table.specs.Held.{IsHost};
 ghost use Rattle.update_msgs.specs.Writable.{IsFormat, IsWritable};
-ghost use Rattle.hot_runtime.specs.Standing.{KeepsWords};
+ghost use Rattle.runtime_state.specs.Standing.{KeepsWords};
 
-use const_eval::Ran;
 use handler_table::Shelf;
 use hmr_types::{ModName, Text, Value, Ver};
-use hot_runtime::{HotRuntime, RuntimeFault};
+use hot_runtime::take;
 use message_json::decode;
 use output_lines::OutLine;
 use play_text::render;
-use retained_data::Bag;
+use retained_data::{Bag, Ran};
+use runtime_events::fire;
+use runtime_showing::{fates, stale, values};
+use runtime_state::{HotRuntime, RuntimeFault};
 use std::alloc::{AllocError, Global};
 use update_msgs::{AbortCause, ClientMsg, ServerMsg};
 
@@ -168,7 +170,7 @@ fn put_stale<F>(
     runtime: &HotRuntime<F>,
     out: &mut String,
 ) -> Result<(), AllocError> {
-    for (importer, dependency) in &runtime.stale()? {
+    for (importer, dependency) in &stale(runtime)? {
         let row = format!(in alloc; "stale {importer} {dependency}")?;
         put_row(out, &row)?;
     }
@@ -190,8 +192,8 @@ fn put_shown<F>(
     out: &mut String,
 ) -> Result<(), AllocError> {
     match kind {
-        "values" => put_lines(alloc, &runtime.values()?, out),
-        "fates" => put_lines(alloc, &runtime.fates()?, out),
+        "values" => put_lines(alloc, &values(runtime)?, out),
+        "fates" => put_lines(alloc, &fates(runtime)?, out),
         "stale" => put_stale(alloc, runtime, out),
         "table" => {
             let table = runtime.table()?;
@@ -202,7 +204,7 @@ fn put_shown<F>(
 }
 
 /// Fires an event, given as NAME TEXT.
-fn fire<F: FnOnce(Bag) -> Result<Ran, AllocError> + Drop>(
+fn play_event<F: FnOnce(Bag) -> Result<Ran, AllocError> + Drop>(
     alloc: Global,
     runtime: &mut HotRuntime<F>,
     event: &str,
@@ -216,7 +218,7 @@ fn fire<F: FnOnce(Bag) -> Result<Ran, AllocError> + Drop>(
     let (name, value) = event.split_once(' ').unwrap_or((event, ""));
     let name = named(alloc, name)?;
     let value = Value::Str(text(alloc, value)?);
-    put_heard(alloc, runtime.fire(&name, &value), out)
+    put_heard(alloc, fire(runtime, &name, &value), out)
 }
 
 /// Looks at the client, or fires an event.
@@ -232,13 +234,13 @@ fn look<F: FnOnce(Bag) -> Result<Ran, AllocError> + Drop>(
     ensures format { runtime.new.format ≡ runtime.old.format }
 {
     match kind.split_once(' ') {
-        Some((_, event)) => fire(alloc, runtime, event, out),
+        Some((_, event)) => play_event(alloc, runtime, event, out),
         None => put_shown(alloc, runtime, kind, out),
     }
 }
 
 /// Takes a message, and adds what it did.
-fn take<F: FnOnce(Bag) -> Result<Ran, AllocError> + Drop>(
+fn play_message<F: FnOnce(Bag) -> Result<Ran, AllocError> + Drop>(
     alloc: Global,
     runtime: &mut HotRuntime<F>,
     row: &str,
@@ -251,7 +253,7 @@ fn take<F: FnOnce(Bag) -> Result<Ran, AllocError> + Drop>(
     ensures format { runtime.new.format ≡ runtime.old.format }
 {
     let msg = message(alloc, row, runtime.format())?;
-    put_taken(alloc, runtime.take(msg), out)
+    put_taken(alloc, take(runtime, msg), out)
 }
 
 /// Adds the request that stands, and the message with what it did.
@@ -270,7 +272,7 @@ fn answer<F: FnOnce(Bag) -> Result<Ran, AllocError> + Drop>(
     let asked = request_told(alloc, runtime.request()?)?;
     put_row(out, &asked)?;
     put_row(out, row)?;
-    take(alloc, runtime, row, out)
+    play_message(alloc, runtime, row, out)
 }
 
 /// A message of each kind, and a refusal by each code; with that of `refused` no request is refused. None
@@ -321,7 +323,7 @@ fn lie<F: FnOnce(Bag) -> Result<Ran, AllocError> + Drop>(
     ensures format { runtime.new.format ≡ runtime.old.format }
 {
     for kind in kinds.split(' ') {
-        take(alloc, runtime, lie_of(kind), out)?;
+        play_message(alloc, runtime, lie_of(kind), out)?;
     }
     Ok(())
 }

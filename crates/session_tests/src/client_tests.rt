@@ -4,13 +4,12 @@ use crate::messages::{
     are_sent, coming,
 };
 use client_sessions::{Ended, client_session};
-use const_eval::Ran;
 use handler_table::{Shelf, host_run};
-use hot_runtime::HotRuntime;
 use message_json::MsgFault;
 use output_lines::OutLine;
 use play_text::render;
-use retained_data::Bag;
+use retained_data::{Bag, Ran};
+use runtime_state::HotRuntime;
 use std::alloc::{AllocError, Global};
 use std::collections::VecDeque;
 use std::sync::Wait;

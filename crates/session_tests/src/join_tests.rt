@@ -2,11 +2,10 @@
 use crate::messages::{
     APPLIED, ASK, BYE, CONNECTED, DONE, FETCH, HELLO, IDLE, TEXT, UNKNOWN, are_sent, coming,
 };
-use const_eval::Ran;
 use handler_table::{Shelf, host_run};
 use hmr_base::MemSink;
 use join_command::{JoinPlan, JoinStop, join};
-use retained_data::Bag;
+use retained_data::{Bag, Ran};
 use std::alloc::{AllocError, Global};
 use std::collections::VecDeque;
 use std::sync::Wait;

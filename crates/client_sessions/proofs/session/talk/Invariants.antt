@@ -1,7 +1,7 @@
 use Rattle.std.proofs.Common.{◌≡◌, ◌≤◌, [], false}
 use Rattle.transport.specs.declared.link.Phase.TheVariants.{Open}
 use Rattle.client_model.specs.Runtime.{Opening}
-use Rattle.hot_runtime.specs.Standing.{KeepsWords, StandsFor}
+use Rattle.runtime_state.specs.Standing.{KeepsWords, StandsFor}
 use Rattle.client_sessions.specs.Asking.{IsNew}
 use Rattle.client_sessions.specs.Course.{Talked}
 use Rattle.client_sessions.proofs.session.talk.Given as goal

@@ -1,12 +1,12 @@
 use Rattle.std.proofs.Common.{ap}
 use Rattle.std.specs.Prelude.{Err, Ok}
-use Rattle.hot_runtime.specs.declared.fault.RuntimeFault.TheVariants.{InstancesFull}
+use Rattle.runtime_state.specs.declared.fault.RuntimeFault.TheVariants.{InstancesFull}
 use Rattle.world_model.specs.Turning.{lines_taken}
 use Rattle.hmr_world.proofs.Turning.{after_of, taken_of, never_stopped, never_unexpected}
 use Rattle.hmr_world.proofs.turns.take_answer.Goals as goal
 
 pub returns-in-Ok-clause-runtime : goal.returns-in-Ok-clause-runtime
-returns-in-Ok-clause-runtime g c = λ r h. after_of c.args.runtime.now c.take.new.self c.args.msg c.in-Ok.lines c.in-Ok.ensures.stands r h
+returns-in-Ok-clause-runtime g c = λ r h. after_of c.args.runtime.now c.take.new.runtime c.args.msg c.in-Ok.lines c.in-Ok.ensures.stands r h
 
 pub returns-in-Ok-clause-lines : goal.returns-in-Ok-clause-lines
 returns-in-Ok-clause-lines g c = λ r h. ap lines_taken (taken_of c.args.runtime.now c.args.msg (Ok c.in-Ok.lines) c.in-Ok.ensures.answer r h)

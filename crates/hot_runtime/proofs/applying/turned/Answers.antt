@@ -4,7 +4,7 @@ use Rattle.std.proofs.lemmas.Option.{none-some, same_Some}
 use Rattle.hmr_types.specs.declared.limits.TheConstants.{INSTANCES}
 use Rattle.page_plan.specs.Plans.{IsSamePlan}
 use Rattle.hot_runtime.specs.Applying.{IsTurned}
-use Rattle.hot_runtime.specs.Standing.{count_of}
+use Rattle.runtime_state.specs.Standing.{count_of}
 use Rattle.hot_runtime.proofs.applying.turned.Goals as goal
 
 pub find-requires : goal.find-requires

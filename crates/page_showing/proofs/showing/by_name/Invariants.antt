@@ -1,6 +1,6 @@
 use Rattle.std.proofs.Common.{◌≡◌, ◌≤◌, drop, length}
 use Rattle.core_model.specs.Names.{Name, at}
-use Rattle.page_lifecycle.specs.Live.{number_of}
+use Rattle.page_state.specs.Live.{number_of}
 use Rattle.page_showing.proofs.showing.by_name.Given as goal
 
 -- those from the last on are there

@@ -1,5 +1,5 @@
 use Rattle.std.proofs.Common.{ap, ◌∙◌}
-use Rattle.page_lifecycle.specs.Live.{number_of}
+use Rattle.page_state.specs.Live.{number_of}
 use Rattle.page_showing.specs.Showing.{link_by}
 use Rattle.page_showing.proofs.Shown.{no_number}
 use Rattle.page_showing.proofs.showing.links_of.Goals as goal

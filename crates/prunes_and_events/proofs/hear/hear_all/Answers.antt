@@ -6,8 +6,8 @@ use Rattle.std.proofs.Math.Path.{subst}
 use Rattle.client_model.specs.Applying.{live_of}
 use Rattle.client_model.specs.Firing.{hear_event}
 use Rattle.module_language.specs.ModuleLanguage.{module_language}
-use Rattle.page_lifecycle.specs.Each.{StandAt, live_places}
-use Rattle.page_lifecycle.proofs.Each.{falling_within, follows_each, live_stand, stand_reverse}
+use Rattle.page_ends.specs.Each.{StandAt, live_places}
+use Rattle.page_ends.proofs.Each.{falling_within, follows_each, live_stand, stand_reverse}
 use Rattle.prunes_and_events.proofs.hear.hear_all.Goals as goal
 
 pub returns-clause-follows : goal.returns-clause-follows

@@ -1,8 +1,8 @@
 use Rattle.std.proofs.Common.{◌≡◌, drop, length}
 use Rattle.client_model.specs.Firing.{hear_event}
 use Rattle.module_language.specs.ModuleLanguage.{module_language}
-use Rattle.page_lifecycle.specs.Each.{EachBegins}
-use Rattle.page_lifecycle.specs.Standing.{KeepWords}
+use Rattle.page_ends.specs.Each.{EachBegins}
+use Rattle.page_state.specs.Standing.{KeepWords}
 use Rattle.prunes_and_events.proofs.hear.hear_each.Given as goal
 
 -- those so far heard it

@@ -5,10 +5,10 @@ use Rattle.core_model.specs.Names.{has}
 use Rattle.client_model.specs.Applying.{prune_instance, live_of}
 use Rattle.client_model.specs.Runtime.{for_each}
 use Rattle.module_language.specs.ModuleLanguage.{module_language}
-use Rattle.page_lifecycle.specs.Each.{StandAt}
-use Rattle.page_lifecycle.proofs.Each.{falling_within, follows_each, live_stand}
-use Rattle.page_lifecycle.proofs.Following.{follows_as}
-use Rattle.page_lifecycle.proofs.Meant.{live_of_as}
+use Rattle.page_ends.specs.Each.{StandAt}
+use Rattle.page_ends.proofs.Each.{falling_within, follows_each, live_stand}
+use Rattle.page_state.proofs.Following.{follows_as}
+use Rattle.page_ends.proofs.Meant.{live_of_as}
 use Rattle.prunes_and_events.proofs.prune.prune_all.Goals as goal
 
 pub returns-clause-follows : goal.returns-clause-follows

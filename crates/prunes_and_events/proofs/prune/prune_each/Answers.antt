@@ -2,7 +2,7 @@ use Rattle.std.proofs.Common.{◌∙◌, get_or}
 use Rattle.std.proofs.lemmas.Option.{slice_get-get_or}
 use Rattle.client_model.specs.Applying.{prune_instance}
 use Rattle.module_language.specs.ModuleLanguage.{module_language}
-use Rattle.page_lifecycle.proofs.Each.{next_begins, all_begun, within_page}
+use Rattle.page_ends.proofs.Each.{next_begins, all_begun, within_page}
 use Rattle.prunes_and_events.proofs.prune.prune_each.Goals as goal
 
 pub loop-place-preserved : goal.loop-place-preserved

@@ -10,14 +10,14 @@ use Rattle.module_language.specs.ModuleLanguage.{module_language}
 use Rattle.page_instances.specs.Scopes.{bound_slots}
 use Rattle.page_instances.specs.Seeing.{deed_in, listed}
 use Rattle.page_instances.proofs.Places.{no_place}
-use Rattle.page_lifecycle.specs.Settling.{left_by}
+use Rattle.page_state.specs.Settling.{left_by}
 use Rattle.retained_data.specs.Bags.{HasBag, bag_of}
 use Rattle.client_model.specs.Running as running
 use Rattle.client_model.specs.Runtime as runtime
-use Rattle.page_lifecycle.proofs.Words.{word_at, words_set, words_settled}
-use Rattle.page_lifecycle.proofs.Matching.{set_same, set_self}
-use Rattle.page_lifecycle.proofs.Following.{follows_as}
-use Rattle.page_lifecycle.proofs.Runs.{runs, runs_each, none_follow, run_follows, right_run, scope_given, turn_of}
+use Rattle.page_state.proofs.Words.{word_at, words_set, words_settled}
+use Rattle.page_state.proofs.Matching.{set_same, set_self}
+use Rattle.page_state.proofs.Following.{follows_as}
+use Rattle.page_runs.proofs.Runs.{runs, runs_each, none_follow, run_follows, right_run, scope_given, turn_of}
 use Rattle.prunes_and_events.proofs.prune.run_prune.Goals as goal
 
 pub returns-in-None-clause-follows : goal.returns-in-None-clause-follows
@@ -51,11 +51,11 @@ returns-clause-follows g c =
     let held : c.index-3.result.now ≡ c.take_prune.new.self = same_Some _ _ (sym third ∙ set_same before.instances.items c.args.place c.take_prune.new.self c.index_mut.result.now there) in
     let named : c.index-2.result.now.name ≡ c.index_mut.result.now.name = ap (λ x. x.name) taken ∙ ap (λ x. x.name) c.in-Some.ensures.rest in
     let settled : c.in_ok-settle.ensures.instance ≡ c.take_prune.new.self = same_Some _ _ (sym c.in_ok-settle.ensures.there ∙ set_same before.instances.items c.args.place c.take_prune.new.self c.index_mut.result.now there) in
-    let after : slice_get c.settle.new.self.instances.items c.args.place ≡ Some c.in_ok-settle.ensures.changed = ap (λ cs. slice_get cs c.args.place) c.in_ok-settle.ensures.instances ∙ set_same _ c.args.place c.in_ok-settle.ensures.changed c.in_ok-settle.ensures.instance c.in_ok-settle.ensures.there in
+    let after : slice_get c.settle.new.page.instances.items c.args.place ≡ Some c.in_ok-settle.ensures.changed = ap (λ cs. slice_get cs c.args.place) c.in_ok-settle.ensures.instances ∙ set_same _ c.args.place c.in_ok-settle.ensures.changed c.in_ok-settle.ensures.instance c.in_ok-settle.ensures.there in
     let empty : c.in_ok-settle.ensures.changed.held.prune ≡ None = ap (λ x. x.held.prune) c.in_ok-settle.ensures.rest ∙ ap (λ x. x.held.prune) settled ∙ c.in-Some.ensures.empty in
-    follows_as (runs Prune no_arguments (places_from 0 prunes) c.args.place) (run_each module_language Prune no_arguments prunes _) before c.settle.new.self c.args.lines.now.items c.settle.new.lines.items (λ r s. runs_each Prune no_arguments prunes c.args.place r)
+    follows_as (runs Prune no_arguments (places_from 0 prunes) c.args.place) (run_each module_language Prune no_arguments prunes _) before c.settle.new.page c.args.lines.now.items c.settle.new.lines.items (λ r s. runs_each Prune no_arguments prunes c.args.place r)
     (run_follows Prune no_arguments c.args.place (places_from 0 prunes) (places_from 0 prunes) (λ g. g.deed ≡ deed_in c.in-Some.handler)
-    before (record before { instances = with_item before.instances c.args.place c.take_prune.new.self; bags = c.take-bag.new.self }) c.settle.new.self
+    before (record before { instances = with_item before.instances c.args.place c.take_prune.new.self; bags = c.take-bag.new.self }) c.settle.new.page
     c.index_mut.result.now c.take_prune.new.self (left_by c.in_ok-ran.ran) c.args.lines.now.items c.settle.new.lines.items
     (record { client = refl; live = refl; unsent = refl; shelf = refl; there = there; set = refl; rest = c.in-Some.ensures.rest; bags = subst (λ n. HasBag n [] before.bags c.take-bag.new.self) named c.take-bag.ensures.taken })
     (λ i s. turn_of prunes c.in-Some.handler i c.take_prune.new.self (c.in-Some.ensures.some i s))
@@ -67,7 +67,7 @@ returns-clause-follows g c =
     (c.take-bag.ensures.bag ∙ ap (bag_of before.bags) named)
     r s i v [] (c.deref-2.ensures.value ∙ c.new-mods.ensures.items)
     ∙ ap (λ d. running.run_deed module_language d (running.scope_of module_language r i) [] (runtime.bag_of r i.name)) (sym does))
-    c.in_ok-settle.ensures c.settle.new.self c.settle.new.lines.items
-    (none_follow Prune no_arguments c.args.place (places_from 0 prunes) c.settle.new.self c.settle.new.self c.in_ok-settle.ensures.changed c.in_ok-settle.ensures.changed c.settle.new.lines.items
-    after refl (sym (set_self c.settle.new.self.instances.items c.args.place c.in_ok-settle.ensures.changed after)) refl
+    c.in_ok-settle.ensures c.settle.new.page c.settle.new.lines.items
+    (none_follow Prune no_arguments c.args.place (places_from 0 prunes) c.settle.new.page c.settle.new.page c.in_ok-settle.ensures.changed c.in_ok-settle.ensures.changed c.settle.new.lines.items
+    after refl (sym (set_self c.settle.new.page.instances.items c.args.place c.in_ok-settle.ensures.changed after)) refl
     (λ i v. (no_place prunes 0 i.handlers (v.held.prune ∙ ap (λ o. map deed_in (listed o)) empty), v))))

@@ -1,5 +1,5 @@
 use Rattle.std.proofs.Common.{◌≡◌}
-use Rattle.hot_runtime.specs.Standing.{KeepsWords}
+use Rattle.runtime_state.specs.Standing.{KeepsWords}
 use Rattle.runtime_tests.proofs.transcript.play_all.Given as goal
 
 -- the format is that of the beginning, and what is held keeps its word

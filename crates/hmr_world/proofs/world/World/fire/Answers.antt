@@ -36,7 +36,7 @@ returns-in-Ok-clause-stands g c = λ run s.
     c.deref.ensures.value c.index_mut.ensures.value c.in-Some.ensures.within c.in-Some.ensures.there
     c.in-Some.ensures.number c.in-Some.ensures.with in
     fire_stands run c.args.client c.args.event.now c.args.value.now c.args.self.now s row.1 spot.there
-    c.fire.new.self _ (spot.puts c.fire.new.self) refl refl refl c.in-Ok.ensures.stands
+    c.fire.new.runtime _ (spot.puts c.fire.new.runtime) refl refl refl c.in-Ok.ensures.stands
 
 pub returns-in-Ok-clause-answer : goal.returns-in-Ok-clause-answer
 returns-in-Ok-clause-answer g c = λ run s.

@@ -1,6 +1,0 @@
-use Rattle.hot_runtime.proofs.Changed.{cause_given}
-use Rattle.hot_runtime.proofs.runtime.HotRuntime.give_cause.Goals as goal
-
-pub returns-clause-becomes : goal.returns-clause-becomes
-returns-clause-becomes g c = λ r k s.
-    cause_given c.args.cause r c.args.self.now c.give_cause_to.new.plan _ k s c.give_cause_to.ensures.none c.give_cause_to.ensures.some c.new.ensures.items

@@ -1,0 +1,5 @@
+pub mod Births
+pub mod EachBirth
+pub mod Registering
+pub mod Registrations
+pub mod Shelves

@@ -1,0 +1,5 @@
+pub mod Each
+pub mod Foretold
+pub mod Gone
+pub mod Meant
+pub mod Sounding

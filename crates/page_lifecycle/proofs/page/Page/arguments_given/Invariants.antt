@@ -1,7 +1,0 @@
-use Rattle.std.proofs.Common.{◌≡◌, take, map}
-use Rattle.module_language.specs.ModuleLanguage.{argument_of}
-use Rattle.page_lifecycle.specs.Telling.{given_at, module_given}
-use Rattle.page_lifecycle.proofs.page.Page.arguments_given.Given as goal
-
-abbrev pub invariant-loop-dep : goal.invariant-loop-dep
-invariant-loop-dep g l = l.mods.items ≡ map argument_of (given_at l.name (module_given l.self l.name l.given) (take l.dep-index l.deps))

@@ -1,8 +1,0 @@
-use Rattle.std.proofs.Common.{◌≡◌}
-use Rattle.std.specs.Prelude.{reverse}
-use Rattle.page_lifecycle.specs.Each.{falling, is_of}
-use Rattle.page_lifecycle.proofs.page.Page.rising_places.Given as goal
-
--- those so far
-abbrev pub invariant-loop-place : goal.invariant-loop-place
-invariant-loop-place g l = l.places.items ≡ reverse (falling (is_of l.whose) l.self.instances.items l.place)

@@ -1,4 +1,0 @@
-use Rattle.page_lifecycle.proofs.page.Page.run_dep.Goals as goal
-
-pub returns-clause-follows : goal.returns-clause-follows
-returns-clause-follows g c = c.in_ok-run_listing.ensures.follows

@@ -1,0 +1,4 @@
+pub mod Asked
+pub mod Deeds
+pub mod Fired
+pub mod Leaving
