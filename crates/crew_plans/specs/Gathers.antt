@@ -24,6 +24,14 @@ pub record IsGathered (hub : Hub) (g : Gathered) : Type 0 where
   pub of : All (IsPassOf hub) g.passes.items
   pub full : g.full ≡ true → SomeFull g.passes.items
 
+-- how many passes there are once all jobs are finished: each worker and each session gives one back
+abbrev pub passes_due : {J : Type 0} → Vec J → Gathered → ℕ
+passes_due running gathered = length running.items + length gathered.passes.items
+
+-- how many logs there are then: each of the program's own clients leaves one
+abbrev pub logs_due : {C : Type 0} → Vec C → Gathered → ℕ
+logs_due clients gathered = length clients.items + length gathered.logs.items
+
 -- there is room for what each of the jobs that run will leave
 abbrev pub HasRoom : {J T : Type 0} → Vec J → Vec T → Type 0
 HasRoom running left = vec_len running + vec_len left ≤ vec_capacity left

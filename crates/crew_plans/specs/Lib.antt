@@ -2,3 +2,5 @@ pub mod Gathers
 pub mod Begun
 pub mod Splits
 pub mod Lendings
+pub mod Endings
+pub mod Hubs

@@ -1,10 +1,10 @@
 // What a crew is to begin.
-ghost use Rattle.std.specs.Prelude.{◌≡◌, ◌++◌, All, IfNone, IfSome, length, option_to_list};
+ghost use Rattle.std.specs.Prelude.{◌≡◌, ◌≤◌, ◌++◌, All, IfNone, IfOk, IfSome, length, option_to_list};
 ghost use Rattle.std.specs.Arc.{arc_value};
 ghost use Rattle.transform_pool.specs.Passes.{IsPassOf, role_of};
-ghost use Rattle.transform_pool.specs.Roles.{taking};
+ghost use Rattle.transform_pool.specs.Roles.{putting, taking};
 
-use std::alloc::Global;
+use std::alloc::{AllocError, Global};
 use std::sync::Arc;
 use transform_pool::{JobPass, JobQueue};
 
@@ -19,6 +19,29 @@ pub struct Workers<G: Drop> {
 }
 
 impl<G: Drop> Workers<G> {
+    /// So many workers of a new queue, from 1 to 16, behind a gate; before them the queue and the pass that
+    /// puts into it. It fails only where memory runs out, and takes memory for the queue and its passes.
+    pub fn of_new_queue(
+        alloc: Global,
+        count: u32,
+        gate: G,
+    ) -> Result<(Arc<JobQueue, Global>, JobPass, Workers<G>), AllocError>
+        requires count { (1 ≤ count) × (count ≤ 16) }
+        ensures of { IfOk result (λ made. IsPassOf (arc_value made.0) made.1) }
+        ensures puts { IfOk result (λ made. role_of made.1 ≡ putting) }
+        ensures count { IfOk result (λ made. length made.2.takers.items ≡ count) }
+    {
+        let (queue, jobs, takers) = JobQueue::new(alloc, count as usize)?;
+        let queue = Arc::new(alloc, queue)?;
+        let shared = Arc::try_clone(&queue)?;
+        let workers = Workers {
+            queue: shared,
+            takers,
+            gate,
+        };
+        Ok((queue, jobs, workers))
+    }
+
     /// The pass of the worker that is begun next, or `None` where none is left. It is the last of those that
     /// are left, which is taken off them; the queue and the gate stay as they are. It takes no memory.
     pub fn next_taker(&mut self) -> Option<JobPass>

@@ -2,9 +2,8 @@
 ghost use Rattle.std.specs.List.{All};
 ghost use Rattle.handler_table.specs.Held.{IsHost};
 
-use const_eval::Ran;
 use handler_table::Shelf;
-use retained_data::Bag;
+use retained_data::{Bag, Ran};
 use std::alloc::{AllocError, Global};
 use std::mem;
 

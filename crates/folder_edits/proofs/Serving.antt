@@ -418,6 +418,11 @@ pub end_as : {X : Type 0} (result ended other : End) → (result ≡ ended) ⊎ 
 end_as result ended other (inl e) f = inl (e ∙ f)
 end_as result ended other (inr x) f = inr x
 
+-- no report is written after these
+pub never_reported : (stop : ServeStop) → (stop ≡ Unwritten) ⊎ (stop ≡ NoMemory) → ¬ IsReported (Err stop)
+never_reported stop (inl e) h = subst (λ s. IsReported (Err s)) e h
+never_reported stop (inr e) h = subst (λ s. IsReported (Err s)) e h
+
 -- it stopped when it had listened, and before the work
 pub served_early : (asked : Bool) (roots : List Name) (coming : Option (List Files)) (listing : Files) (script : List Edit) (many port : ℕ) (stop : ServeStop) (r : End) (p o : Pass) (old new : Option (List ℕ))
     → r ≡ Err stop → IsFirst roots p → SameKnower p o → Opens coming listing (seen_of o) → HasTranscript o → (stop ≡ Unwritten) ⊎ (stop ≡ NoMemory) → ¬ IsReported (Err stop) → WritesFront old new (header port)

@@ -3,9 +3,8 @@ ghost use Rattle.std.specs.Prelude.{◌≡◌, ◌≤◌, [], Err, IfErr, IfOk, 
 ghost use Rattle.hmr_base.specs.Causes.{Rose};
 ghost use Rattle.folders.specs.Files.{MayOpen, files_after};
 ghost use Rattle.std.specs.Option.{option_map};
-ghost use Rattle.hmr_hub.specs.Calls.{IsFirst, SameKnower};
+ghost use Rattle.hmr_hub.specs.Calls.{SameKnower};
 ghost use Rattle.hmr_hub.specs.Passes.{HasTranscript, IsPassOf, is_alone, number_of, seen_of};
-ghost use Rattle.core_model.specs.Roots.{AreRoots};
 ghost use Rattle.folder_edits.specs.Causes.{IsFirstCause};
 ghost use Rattle.folder_edits.specs.Openings.{Opens};
 
@@ -14,28 +13,10 @@ use crate::context::ServerContext;
 use crate::stop::ServeStop;
 use folder_watch::{Listing, scan};
 use folders::Tree;
-use hmr_hub::{Hub, HubFault, Pass};
-use hmr_types::ModName;
+use hmr_hub::Pass;
 use hub_editor::open_sources;
-use std::alloc::Global;
 use std::sync::Wait;
 use std::thread::Threads;
-
-/// The hub of roots that are those of a page, of which no event was told yet, and its first pass. It fails
-/// only where memory runs out, by [`ServeStop::NoMemory`].
-pub fn new_hub(alloc: Global, roots: Vec<ModName>) -> Result<(Hub, Pass), ServeStop>
-    requires roots { AreRoots roots.items }
-    ensures pass { IfOk result (λ made. IsPassOf made.0 made.1) }
-    ensures first { IfOk result (λ made. IsFirst roots.items made.1) }
-    ensures transcript { IfOk result (λ made. HasTranscript made.1) }
-    ensures memory { IfErr result (λ stop. stop ≡ ServeStop.NoMemory) }
-{
-    match Hub::new(alloc, roots) {
-        Ok(made) => Ok(made),
-        Err(HubFault::Roots(_)) => unreachable!(),
-        Err(HubFault::NoMemory) => Err(ServeStop::NoMemory),
-    }
-}
 
 /// Scans the folder for the first time, makes the edits that bring its modules in order of their names, and
 /// settles them by so many workers. It gives what it listed.

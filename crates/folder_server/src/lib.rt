@@ -14,6 +14,7 @@ mod plan;
 mod running;
 mod top;
 
+pub use folder_edits::ServeStop;
 pub use outside::Outside;
 pub use plan::{Plan, ServeTask};
 pub use top::serve;

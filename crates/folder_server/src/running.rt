@@ -17,7 +17,6 @@ ghost use Rattle.folder_edits.specs.Causes.{IsWorkCause};
 ghost use Rattle.folder_edits.specs.Running.{Finds, Later};
 
 use crate::outside::Outside;
-use const_eval::Ran;
 use crew_plans::CrewPlan;
 use folder_edits::{
     Editing, LaterEdits, RunEnd, ServeStop, ServerContext, edit_to_the_end, settle_after,
@@ -27,8 +26,8 @@ use handler_table::Shelf;
 use hmr_hub::{Hub, Pass};
 use hub_editor::Editor;
 use jobs::{Gate, Spawner};
-use retained_data::Bag;
-use server_threads::Crew;
+use retained_data::{Bag, Ran};
+use server_threads::{Crew, begin_all, finish_all};
 use std::alloc::{AllocError, Global};
 use std::sync::{Arc, Wait};
 use std::thread::Threads;
@@ -119,7 +118,14 @@ where
     } = staff;
     let caller = context.caller;
     let mut crew = Crew::new(*caller.rt, caller.alloc, hub);
-    let begun = crew.begin_all(pass, &mut outside.net, &mut outside.spawner, plan, shelves);
+    let begun = begin_all(
+        &mut crew,
+        pass,
+        &mut outside.net,
+        &mut outside.spawner,
+        plan,
+        shelves,
+    );
     let editor = Editor::new(caller.alloc);
     let mut editing = Editing {
         queue: &queue,
@@ -127,7 +133,10 @@ where
         editor,
     };
     let edited = edit_to_the_end(context, pass, &mut editing, &mut outside.tree, later, begun);
-    let gathered = crew.finish_all(&mut outside.net, &mut outside.spawner);
+    finish_all(&mut crew, &mut outside.net, &mut outside.spawner);
     let ended = settle_after(context, pass, &mut editing.editor, edited);
-    RunEnd { gathered, ended }
+    RunEnd {
+        gathered: crew.gathered,
+        ended,
+    }
 }

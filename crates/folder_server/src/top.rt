@@ -14,23 +14,20 @@ ghost use Rattle.folder_edits.specs.Serving.{Served, StopsEarly, Wrote, WroteEar
 use crate::outside::Outside;
 use crate::plan::ServeTask;
 use crate::running::{Staff, run};
-use const_eval::Ran;
 use crew_plans::{Clients, CrewPlan, Workers};
 use folder_edits::{
-    LaterEdits, RunEnd, ServeStop, ServerContext, end_of, new_hub, open_folder, write_end,
-    write_last,
+    LaterEdits, RunEnd, ServeStop, ServerContext, SharedHub, announce, end_of, open_folder,
+    share_hub, write_end, write_last,
 };
 use folders::Tree;
 use handler_table::Shelf;
-use hmr_base::{Sink, write_all};
+use hmr_base::Sink;
 use hub_editor::HubCaller;
 use jobs::{Gate, Spawner};
-use module_graph::copy_of;
-use retained_data::Bag;
+use retained_data::{Bag, Ran};
 use std::alloc::{AllocError, Global};
-use std::sync::{Arc, Wait};
+use std::sync::Wait;
 use std::thread::Threads;
-use transform_pool::JobQueue;
 use transport::Net;
 
 /// Serves the modules of a folder, from its first scan to the report.
@@ -164,31 +161,25 @@ where
 {
     let plan = task.plan;
     let script = task.script;
-    let names = copy_of(alloc, &task.roots)?;
-    let (hub, mut pass) = new_hub(alloc, task.roots)?;
-    let hub = Arc::new(alloc, hub)?;
-    let own = Arc::try_clone(&hub)?;
+    let SharedHub {
+        roots,
+        own,
+        crew,
+        mut pass,
+    } = share_hub(alloc, task.roots)?;
     let caller = HubCaller {
         rt,
         alloc,
-        hub: &hub,
+        hub: &own,
     };
     let context = ServerContext {
         caller,
         folder: task.folder.as_str(),
     };
     let listing = open_folder(&context, &mut pass, &mut outside.tree, plan.workers)?;
-    let (queue, jobs, takers) = JobQueue::new(alloc, plan.workers as usize)?;
-    let queue = Arc::new(alloc, queue)?;
-    let shared = Arc::try_clone(&queue)?;
+    let (queue, jobs, workers) = Workers::of_new_queue(alloc, plan.workers, gate)?;
     let port = outside.net.listen(alloc, plan.port)?;
-    let line = format!(in alloc; "listening {port}\n")?;
-    write_all(&mut outside.out, line.as_bytes())?;
-    let workers = Workers {
-        queue: shared,
-        takers,
-        gate,
-    };
+    announce(&mut outside.out, alloc, port)?;
     let clients = Clients {
         own: plan.clients,
         turns: plan.turns,
@@ -196,7 +187,7 @@ where
         outside: plan.outside,
     };
     let staff = Staff {
-        hub: own,
+        hub: crew,
         queue,
         jobs,
         crew: CrewPlan { workers, clients },
@@ -215,7 +206,7 @@ where
     write_end(
         &context,
         &mut pass,
-        &names,
+        &roots,
         plan.recorded,
         over,
         &mut outside.out,

@@ -1,8 +1,9 @@
 -- An Out of a job has a pass of the job's hub.
-use Rattle.std.proofs.Common.{◌≡◌, Bool, true, false, refl, ap, sym, ◌∙◌}
+use Rattle.std.proofs.Common.{◌≡◌, ◌≢◌, ℕ, Bool, true, false, refl, ap, sym, ◌∙◌, arith}
 use Rattle.std.specs.Prelude.{◌==◌, Some, Result, Ok, Err}
 use Rattle.std.specs.Arc.{arc_value}
 use Rattle.atomic_table.specs.Seated.{TableId}
+use Rattle.hmr_base.specs.Causes.{Rose}
 use Rattle.transport.specs.declared.link.Link as Link
 use Rattle.sessions.specs.declared.ended.Ended.{Ended}
 use Rattle.sessions.specs.declared.ended.Ended.TheVariants.{Stopped}
@@ -14,12 +15,17 @@ use Rattle.session_desks.specs.declared.board.HubBoard.{HubBoard}
 use Rattle.session_desks.specs.declared.desk.HubDesk.{HubDesk}
 use Rattle.session_desks.specs.Boards.{SameBoard}
 use Rattle.session_desks.specs.Desks.{Left, LeftBy, SameDesk}
+pub use Rattle.session_desks.proofs.Fullness.{nearly_full}
 use Rattle.serve_jobs.specs.declared.job.SessionJob.{SessionJob}
 use Rattle.serve_jobs.specs.declared.job.ServeJob.{ServeJob}
 use Rattle.serve_jobs.specs.declared.job.ServeJob.TheVariants.{Worker, Session}
 use Rattle.serve_jobs.specs.declared.job.ServeOut.{ServeOut}
 use Rattle.serve_jobs.specs.declared.job.ServeOut.TheVariants.{Worker as WorkerOut, Session as SessionOut}
 use Rattle.serve_jobs.specs.Outs.{HasLeft, IsServed, IsShut, JobOf, OutIsGood, OutOf, is_unrun}
+
+-- a count that rose isn't 0
+pub rose_some : (before now : ℕ) → Rose before now → now ≢ 0
+rose_some before now rose zero = omega arith
 
 board_mark : (x y : HubBoard) → SameBoard x y → mark_of y.pass ≡ mark_of x.pass
 board_mark x y same = y.of_hub ∙ (ap (λ hub. hub_mark (arc_value hub)) same.hub ∙ sym x.of_hub)

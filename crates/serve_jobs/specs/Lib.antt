@@ -1,5 +1,1 @@
 pub mod Outs
-pub mod ClientEnds
-pub mod Clients
-pub mod ClientSessions
-pub mod RunningClients

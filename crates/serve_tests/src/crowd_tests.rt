@@ -1,11 +1,10 @@
 // Many clients and many workers, beside many edits.
 use crate::changing::{Changing, MODULES, changing_site, lines_of};
 use crate::page::{Setting, served};
-use const_eval::Ran;
 use folder_server::Plan;
 use handler_table::host_run;
 use jobs::OpenGate;
-use retained_data::Bag;
+use retained_data::{Bag, Ran};
 use std::alloc::{AllocError, Global};
 use std::collections::{BTreeMap, VecDeque};
 use std::fmt::Write;

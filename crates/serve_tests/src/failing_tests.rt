@@ -2,11 +2,10 @@
 // it, has each end back, and writes its report where it had listened.
 use crate::page::{Over, Setting, only, plan, served};
 use crate::site::one_module;
-use const_eval::Ran;
-use folder_edits::ServeStop;
+use folder_server::ServeStop;
 use handler_table::host_run;
 use jobs::OpenGate;
-use retained_data::Bag;
+use retained_data::{Bag, Ran};
 use std::alloc::{AllocError, Global};
 use std::collections::VecDeque;
 use std::sync::Wait;

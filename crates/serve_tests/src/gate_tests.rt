@@ -2,9 +2,8 @@
 use crate::page::{Setting, plan, served};
 use crate::site::{Site, files};
 use crate::turning_gate::TurningGate;
-use const_eval::Ran;
 use handler_table::host_run;
-use retained_data::Bag;
+use retained_data::{Bag, Ran};
 use std::alloc::{AllocError, Global};
 use std::collections::VecDeque;
 use std::sync::Arc;

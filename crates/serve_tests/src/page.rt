@@ -3,15 +3,13 @@ ghost use Rattle.std.specs.Prelude.{◌≡◌, ◌≤◌, None};
 
 use crate::counted_net::CountedNet;
 use crate::site::Site;
-use const_eval::Ran;
-use folder_edits::ServeStop;
-use folder_server::{Outside, Plan, ServeTask, serve};
+use folder_server::{Outside, Plan, ServeStop, ServeTask, serve};
 use folders::MemTree;
 use handler_table::Shelf;
 use hmr_base::MemSink;
 use hmr_types::Text;
 use jobs::{CutSpawner, Gate, ThreadSpawner};
-use retained_data::Bag;
+use retained_data::{Bag, Ran};
 use std::alloc::{AllocError, Global};
 use std::slice;
 use std::sync::Wait;

@@ -3,12 +3,11 @@ ghost use Rattle.std.specs.Prelude.{◌≡◌, ◌≤◌, None};
 
 use crate::page::{Over, Setting, plan, served};
 use crate::site::one_module;
-use const_eval::Ran;
 use handler_table::{Shelf, host_run};
 use hmr_base::MemSink;
 use jobs::OpenGate;
 use join_command::{JoinPlan, JoinStop, join};
-use retained_data::Bag;
+use retained_data::{Bag, Ran};
 use std::alloc::{AllocError, Global};
 use std::collections::VecDeque;
 use std::sync::Wait;

@@ -1,3 +1,0 @@
-pub mod Crews
-pub mod Lendings
-pub mod Emptied

@@ -39,27 +39,27 @@ returns-clause-transcript g c = c.settle_after-ended.ensures.transcript (c.edit_
 pub returns-clause-begun : goal.returns-clause-begun
 returns-clause-begun g c =
     on_ok c.settle_after-ended.result
-    (λ f none. c.finish_all-gathered.ensures.begun ∙ f none)
-    (begun_all _ c.begin_all-begun.new.self.gathered c.finish_all-gathered.result c.begin_all-begun.result c.edit_to_the_end-edited.result c.settle_after-ended.result _ _ _ _
-    c.begin_all-begun.ensures.begun c.edit_to_the_end-edited.ensures.begun c.settle_after-ended.ensures.well c.finish_all-gathered.ensures.gathers)
+    (λ f none. c.finish_all.ensures.begun ∙ f none)
+    (begun_all _ c.begin_all-begun.new.crew.gathered c.finish_all.new.crew.gathered c.begin_all-begun.result c.edit_to_the_end-edited.result c.settle_after-ended.result _ _ _ _
+    c.begin_all-begun.ensures.begun c.edit_to_the_end-edited.ensures.begun c.settle_after-ended.ensures.well c.finish_all.ensures.gathers)
 
 pub returns-clause-finds : goal.returns-clause-finds
 returns-clause-finds g c =
-    finds_all c.new-crew.result.gathered c.begin_all-begun.new.self.gathered c.finish_all-gathered.result c.settle_after-ended.result _ _ _ _ _ _
-    c.new-crew.ensures.well.1 c.begin_all-begun.ensures.gathers c.finish_all-gathered.ensures.gathers
+    finds_all c.new-crew.result.gathered c.begin_all-begun.new.crew.gathered c.finish_all.new.crew.gathered c.settle_after-ended.result _ _ _ _ _ _
+    c.new-crew.ensures.well.1 c.begin_all-begun.ensures.gathers c.finish_all.ensures.gathers
     (λ e. c.begin_all-begun.ensures.failed (c.edit_to_the_end-edited.ensures.fault
     (edited_fault c.edit_to_the_end-edited.new.pass c.settle_after-ended.new.pass c.edit_to_the_end-edited.result c.settle_after-ended.result c.settle_after-ended.ensures.cause e)))
 
 pub returns-clause-ends : goal.returns-clause-ends
 returns-clause-ends g c =
-    ends_all _ _ _ _ _ c.new-crew.ensures.no_ends c.begin_all-begun.ensures.ends c.finish_all-gathered.ensures.ends
+    ends_all _ _ _ _ _ c.new-crew.ensures.no_ends c.begin_all-begun.ensures.ends c.finish_all.ensures.ends
 
 pub returns-clause-stops : goal.returns-clause-stops
-returns-clause-stops g c = λ well. c.finish_all-gathered.ensures.unasked.1 ∙ c.begin_all-begun.ensures.stops well
+returns-clause-stops g c = λ well. c.finish_all.ensures.unasked.1 ∙ c.begin_all-begun.ensures.stops well
 
 pub returns-clause-goes : goal.returns-clause-goes
 returns-clause-goes g c =
-    on_ok c.settle_after-ended.result (λ goes. c.finish_all-gathered.ensures.unasked.0 ∙ goes)
+    on_ok c.settle_after-ended.result (λ goes. c.finish_all.ensures.unasked.0 ∙ goes)
     (goes_all _ c.begin_all-begun.result c.edit_to_the_end-edited.result c.settle_after-ended.result
     c.begin_all-begun.ensures.goes c.edit_to_the_end-edited.ensures.begun c.settle_after-ended.ensures.well)
 

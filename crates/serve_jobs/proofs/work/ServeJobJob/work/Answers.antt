@@ -3,8 +3,7 @@ use Rattle.std.specs.Prelude.{Some}
 use Rattle.sessions.specs.declared.ended.Ended.TheVariants.{LinkFault}
 use Rattle.serve_jobs.specs.Outs.{HasLeft, IsServed, IsShut, OutOf}
 use Rattle.serve_jobs.specs.declared.job.ServeOut.TheVariants as outs
-use Rattle.serve_jobs.proofs.Clients.{rose_some}
-use Rattle.serve_jobs.proofs.Outs.{session_served}
+use Rattle.serve_jobs.proofs.Outs.{rose_some, session_served}
 use Rattle.serve_jobs.proofs.work.ServeJobJob.work.Goals as goal
 
 pub returns-in-Session : goal.returns-in-Session

@@ -1,0 +1,4 @@
+pub mod ClientEnds
+pub mod Clients
+pub mod ClientSessions
+pub mod RunningClients
