@@ -7,10 +7,9 @@ ghost use Rattle.hmr_hub.specs.Passes.{IsPassOf, seen_of};
 ghost use Rattle.hub_moves.specs.Fullness.{IsNearlyFull};
 ghost use Rattle.session_desks.specs.Boards.{has_ended};
 
-use crate::bell::Bell;
-use crate::news_board::NewsBoard;
 use hmr_hub::Pass;
 use hmr_types::{Outcome, Ver};
+use live_context::{Bell, NewsBoard};
 use live_lines::{News, line_at};
 use session_desks::HubBoard;
 use std::alloc::{AllocError, Global};

@@ -10,9 +10,9 @@ ghost use Rattle.hub_moves.specs.Fullness.{IsNearlyFull};
 
 use crate::dealings::Dealings;
 use crate::exchange::{is_ask, is_change, is_idle};
-use crate::shared::Shared;
 use hmr_hub::{Hub, Pass};
 use hmr_types::ClientId;
+use live_context::Shared;
 use live_lines::{Asked, ImportedName, News, PageLog, PageNews};
 use live_site::Site;
 use session_desks::HubDesk;

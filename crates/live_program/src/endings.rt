@@ -1,7 +1,7 @@
 // The statuses with which the program ends, the records that its servers leave, and what is looked at for them.
 use hmr_types::Text;
+use live_context::{LiveEnd, LiveReport};
 use live_lines::Style;
-use live_server::{LiveEnd, LiveReport};
 use std::alloc::{AllocError, Global};
 use std::io::IsTerminal;
 use std::{env, fs};

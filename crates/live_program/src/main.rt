@@ -1,35 +1,27 @@
 //! The program of `./hmr dev`: a folder is served to browsers on this machine until it is told to end.
 //!
-//! It reads the words, takes a port, and makes the real folder, net, threads and terminal of a live server; and
-//! of a further one at the same port, where a key asks for it or the hub of the one before can take no more.
-//! Stands on `live_words` for the words, on `live_server` for all that it does, on `script_site` for what it
-//! answers, on `tcp_doors`, `live_folder` and `live_answers` for the real outside, on `live_page` for the page's
-//! client, on `instance_urls` for the page that is made where there is none, and on `live_lines` for what it says.
-//! Keeps: what is served is what the words can ask for. Knows nothing of messages, edits or sessions.
+//! It reads the words, takes a port, and makes the real folder, net, threads and terminal of a live server;
+//! and of a further one at the same port, where a key asks for it or the hub of the one before can take no
+//! more. Stands on `live_words` for the words, on `live_setup` for the port, the folder and the site, on
+//! `tcp_doors` for the real net, on `live_terminal` for the terminal, on `live_lines` for its colours, and
+//! on `live_server`, of what is in `live_context`, for all that it does. Keeps: what is served is what the
+//! words can ask for. Knows nothing of messages, edits or sessions.
 #![tactic(auto)]
 
 ghost use Rattle.std.specs.Prelude.{◌≡◌};
 
-mod day_time;
 mod endings;
-mod keys;
-mod made_text;
-mod ports;
-mod screen;
-mod sides;
 mod wanted;
 
-use day_time::offset_here;
 use endings::{NO_MEMORY, NO_NET, OTHER, status_of, style_of};
 use hmr_base::StdSink;
 use hmr_types::ModName;
 use jobs::ThreadSpawner;
-use keys::keys_of;
-use live_server::{Folder, LivePlan, Supply, serve_live};
+use live_context::{Folder, LivePlan, Supply};
+use live_server::serve_live;
+use live_setup::{Sides, listen_next, page_roots, sides_of};
+use live_terminal::{Manner, Screen, keys_of, offset_here};
 use live_words::DevPlan;
-use ports::listen_next;
-use screen::{Manner, Screen};
-use sides::{Sides, page_roots, sides_of};
 use std::process::ExitCode;
 use std::time::Instant;
 use tcp_doors::TcpEntrance;

@@ -5,8 +5,6 @@ pub mod Attendants
 pub mod Outs
 pub mod Crews
 pub mod Doors
-pub mod Editing
 pub mod Events
 pub mod Passes
-pub mod Editors
 pub mod Serving

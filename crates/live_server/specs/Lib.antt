@@ -2,7 +2,6 @@ pub mod Held
 pub mod Attendants
 pub mod Outs
 pub mod Crews
-pub mod Editors
 pub mod Splits
 pub mod Doors
 pub mod Serving

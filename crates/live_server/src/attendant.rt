@@ -6,10 +6,11 @@ ghost use Rattle.std.specs.Arc.{arc_value};
 ghost use Rattle.transport.specs.declared.link.Phase.{Phase};
 ghost use Rattle.hmr_hub.specs.Passes.{IsPassOf};
 
-use crate::answering::answer_heads;
 use doors::{Attendant, Visitor};
 use hmr_hub::{Hub, Pass};
-use live_desk::{LiveDesk, Shared};
+use live_context::Shared;
+use live_desk::LiveDesk;
+use live_heads::answer_heads;
 use live_site::Site;
 use sessions::serve_session;
 use std::alloc::{AllocError, Global};

@@ -16,15 +16,13 @@ ghost use Rattle.live_server.specs.Serving.{passes_due};
 ghost use Rattle.live_server.specs.Splits.{Divided};
 
 use crate::attendant::HubAttendant;
-use crate::context::Context;
 use crate::job::{LiveDoor, LiveJob, LiveOut, LiveWorker};
-use crate::outside::Supply;
-use crate::plan::LiveEnd;
 use crate::taking::{hand_back, take_in};
 use doors::{Door, Entrance};
 use hmr_hub::{Hub, Pass};
 use jobs::{Running, Spawner, start};
-use live_desk::{LiveBoard, Shared};
+use live_context::{Context, LiveEnd, Shared, Supply};
+use live_desk::LiveBoard;
 use live_site::Site;
 use session_desks::HubBoard;
 use std::alloc::{AllocError, Global};

@@ -6,10 +6,9 @@ ghost use Rattle.hmr_hub.specs.Passes.{IsPassOf, roots_of};
 ghost use Rattle.hub_moves.specs.Moves.{KnowsOwn};
 ghost use Rattle.live_server.specs.Serving.{HasJoined, HasRecord};
 
-use crate::context::Context;
-use crate::plan::LivePlan;
 use crate::recording::put_record;
 use hmr_hub::Pass;
+use live_context::{Context, LivePlan};
 use serve_reports::wind_up;
 use std::sync::Wait;
 

@@ -10,14 +10,13 @@ ghost use Rattle.live_server.specs.Held.{HasDoors, TakenBack};
 ghost use Rattle.live_server.specs.Outs.{kind_of};
 ghost use Rattle.live_server.specs.Serving.{passes_due};
 
-use crate::context::Context;
 use crate::crew::Crew;
 use crate::job::LiveJob;
-use crate::outside::Supply;
 use crate::taking::take_in;
 use doors::{Door, Entrance};
 use hmr_hub::{Hub, Pass};
 use jobs::{Running, Spawner, finish};
+use live_context::{Context, Supply};
 use live_site::Site;
 use std::sync::Wait;
 use std::thread::Threads;

@@ -1,6 +1,0 @@
-use Rattle.live_server.specs.Editors.{GoesOn}
-use Rattle.live_server.proofs.live_editor.LiveEditor.make_each.Given as goal
-
--- the editor has gone on
-abbrev pub invariant-loop-change : goal.invariant-loop-change
-invariant-loop-change g l = record { goes : GoesOn l.fn.self l.self }
