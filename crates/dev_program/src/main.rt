@@ -5,19 +5,17 @@
 //! what makes the real outside. Keeps: nothing of its own is read or written. Knows nothing of commands.
 #![tactic(auto)]
 
-use const_eval::Ran;
-use folder_server::Outside;
 use folders::FolderTree;
 use handler_table::host_run;
 use hmr_base::{StdSink, StdSource};
 use jobs::{OpenGate, ThreadSpawner};
-use retained_data::Bag;
+use retained_data::{Bag, Ran};
 use script_runs::host_shelves;
 use std::alloc::AllocError;
 use std::env;
 use std::io::ErrorKind;
 use std::process::ExitCode;
-use top_call::{Embedding, run};
+use top_call::{Embedding, Outside, run};
 use ws_links::TcpNet;
 
 /// The status where memory runs out.

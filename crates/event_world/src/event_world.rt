@@ -18,13 +18,12 @@ ghost use Rattle.event_runs.specs.Steps.{HasFormat, event_step_of};
 ghost use Rattle.event_world.specs.Logs.{IsLogged};
 ghost use Rattle.event_world.specs.Standing.{IsRunning, IsStepped, KeepsWords, NoneIsOpen, StandsFor};
 
-use const_eval::Ran;
 use event_runs::{EventLog, EventStep, behind, full_lines, pass, passage_of};
 use hmr_types::{ClientId, ModName, Value};
 use hmr_world::World;
 use hot_events::Waiting;
 use output_lines::OutLine;
-use retained_data::Bag;
+use retained_data::{Bag, Ran};
 use run_promises::what_is_promised_of_runs;
 use server_core::Event;
 use std::alloc::{AllocError, Global};

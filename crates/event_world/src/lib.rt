@@ -12,3 +12,4 @@
 mod event_world;
 
 pub use event_world::EventWorld;
+pub use hmr_world::World;

@@ -11,8 +11,8 @@ use Rattle.world_model.specs.Playing.{Stage, is_up_in, settle_of}
 use Rattle.world_laws.specs.Runs.{Run, world_of}
 use Rattle.world_parts.specs.Jobs.{key_of}
 use Rattle.run_promises.specs.RunSteps as run_steps
-use Rattle.hmr_world.specs.Standing as worlds
-use Rattle.hmr_world.specs.declared.world.World.{World}
+use Rattle.event_world.specs.Worlds as worlds
+use Rattle.event_world.specs.Worlds.{World}
 use Rattle.event_runs.specs.Courses.{Course, plain, world_in}
 use Rattle.event_runs.specs.Runs.{run_of}
 use Rattle.event_runs.specs.Playing.{Played, client_in, is_up_at, play_step, play_turns, play_turns_of, settle_all, turns}

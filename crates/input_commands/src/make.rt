@@ -20,16 +20,14 @@ ghost use Rattle.script_runs.specs.Summing.{SumsUp};
 ghost use Rattle.input_commands.specs.Standing.{IsAt};
 
 use crate::play::play_all;
-use const_eval::Ran;
 use event_runs::EventStep;
-use event_world::EventWorld;
+use event_world::{EventWorld, World};
 use handler_table::Shelf;
 use hmr_base::{Sink, write_all};
 use hmr_types::ClientId;
-use hmr_world::World;
 use made_scripts::{Generated, count_instances, generate, summary};
 use play_script::ScriptLine;
-use retained_data::Bag;
+use retained_data::{Bag, Ran};
 use server_core::NewFault;
 use std::alloc::{AllocError, Global};
 use text_commands::{KeptLines, Stop};

@@ -14,12 +14,11 @@ ghost use Rattle.script_runs.specs.Commands.{FitsFormat, command_seen};
 ghost use Rattle.script_runs.specs.Playing.{commanded, nothing, perform, quieted, settled_by};
 ghost use Rattle.input_commands.specs.Standing.{IsAt, Plays};
 
-use const_eval::Ran;
 use event_runs::EventStep;
 use event_world::EventWorld;
 use hmr_types::{ClientId, ModName, Ver};
 use play_script::{Commands, ScriptLine};
-use retained_data::Bag;
+use retained_data::{Bag, Ran};
 use script_runs::{Command, command_of, stop_of_world};
 use std::alloc::{AllocError, Global};
 use text_commands::{LineSink, Stop};

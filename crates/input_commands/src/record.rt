@@ -22,16 +22,14 @@ ghost use Rattle.script_runs.specs.Playing.{perform, script_played, stage_on};
 ghost use Rattle.input_commands.specs.Standing.{IsAt, IsSomewhere};
 
 use crate::play::play_lines;
-use const_eval::Ran;
-use event_world::EventWorld;
+use event_world::{EventWorld, World};
 use handler_table::Shelf;
 use hmr_base::{Sink, Source, read_all};
 use hmr_types::ModName;
 use hmr_types::limits::SCRIPT_BYTES;
-use hmr_world::World;
 use module_graph::copy_of;
 use play_script::{Commands, Script, read_script};
-use retained_data::Bag;
+use retained_data::{Bag, Ran};
 use script_runs::record_log;
 use server_core::NewFault;
 use std::alloc::{AllocError, Global};

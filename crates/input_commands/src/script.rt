@@ -20,15 +20,13 @@ ghost use Rattle.script_runs.specs.Performing.{Performs};
 ghost use Rattle.input_commands.specs.Standing.{IsAt};
 
 use crate::play::play_lines;
-use const_eval::Ran;
-use event_world::EventWorld;
+use event_world::{EventWorld, World};
 use handler_table::Shelf;
 use hmr_base::{Sink, Source, read_all};
 use hmr_types::limits::SCRIPT_BYTES;
-use hmr_world::World;
 use module_graph::copy_of;
 use play_script::{Commands, Script, read_script};
-use retained_data::Bag;
+use retained_data::{Bag, Ran};
 use server_core::NewFault;
 use std::alloc::{AllocError, Global};
 use text_commands::{Stop, stop_of_fault};

@@ -1,3 +1,2 @@
-pub mod Shortness
 pub mod Apart
 pub mod Paged

@@ -11,11 +11,10 @@ ghost use Rattle.top_call.specs.Outside.{IsJoinStatus, IsJoined, first_shelf, la
 ghost use Rattle.top_call.specs.Outside.{opening_of, status_of_join};
 
 use command_ends::{Limit, Status};
-use const_eval::Ran;
 use handler_table::Shelf;
 use hmr_base::{Sink, write_all};
 use join_command::{JoinPlan, JoinStop, join};
-use retained_data::Bag;
+use retained_data::{Bag, Ran};
 use std::alloc::{AllocError, Global};
 use transport::Net;
 use world_parts::discard;

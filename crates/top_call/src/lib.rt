@@ -18,4 +18,5 @@ mod serve;
 mod top;
 
 pub use embedding::Embedding;
+pub use folder_server::Outside;
 pub use top::run;

@@ -1,36 +1,26 @@
 // The command `serve`: the edits of the input are read where they are asked for, and the folder is served.
-ghost use Rattle.std.specs.Prelude.{◌≡◌, ◌≢◌, ◌≤◌, ◌⊎◌, ◌+◌, ◌∷◌, [], All, Err, IfErr, IfOk, IsErrOf};
-ghost use Rattle.std.specs.Prelude.{List, None, Ok, OnOk, Option, Some, length, true, false, ℕ};
+ghost use Rattle.std.specs.Prelude.{◌≡◌, ◌≢◌, ◌⊎◌, ◌+◌, ◌∷◌, [], Err, None, Ok, Some, false, true};
 ghost use Rattle.std.specs.Io.KnownBytes.{IsAtEnd, Keeps};
 ghost use Rattle.hmr_base.specs.Causes.{Rose};
-ghost use Rattle.hmr_types.specs.declared.limits.TheConstants.{MESSAGE_BYTES, SCRIPT_BYTES};
 ghost use Rattle.command_words.specs.Words.{IsServable};
 ghost use Rattle.folders.specs.Files.{MayOpen};
 ghost use Rattle.world_parts.specs.Shelves.{AreHosts};
-ghost use Rattle.hub_editor.specs.Edits.{edits_in, length_of, text_in};
 ghost use Rattle.jobs.specs.Begun.{none_begun};
 ghost use Rattle.transport.specs.declared.net.Asked.{Asked};
-ghost use Rattle.play_script.specs.Edits as scripts;
-ghost use Rattle.top_call.specs.Outside.{HasNoScript, HasScript, HasServed, IsEditStop, IsNoScriptStatus};
-ghost use Rattle.top_call.specs.Outside.{IsScriptStop, IsServeStatus, status_of_serve};
+ghost use Rattle.top_call.specs.Outside.{HasServed, IsServeStatus, status_of_serve};
 
 use crate::embedding::Embedding;
-use command_ends::{Limit, Status};
+use command_ends::Status;
 use command_words::ServePlan;
-use const_eval::Ran;
-use folder_edits::ServeStop;
-use folder_server::{Outside, Plan, ServeTask, serve};
+use edit_input::{script_of, tell_stop};
+use folder_server::{Outside, Plan, ServeStop, ServeTask, serve};
 use folders::Tree;
-use hmr_base::{Sink, Source, read_all, write_all};
-use hmr_types::ModName;
-use hmr_types::limits::SCRIPT_BYTES;
+use hmr_base::{Sink, Source};
 use jobs::{Gate, Spawner};
-use play_script::{Edit, Edits, read_edits};
-use retained_data::Bag;
+use retained_data::{Bag, Ran};
 use std::alloc::{AllocError, Global};
 use std::sync::Wait;
 use std::thread::Threads;
-use text_commands::{Stop, stop_of_fault};
 use transport::Net;
 use world_parts::discard;
 
@@ -108,90 +98,6 @@ where
     let ended = serve(rt, alloc, task, outside, gate, &mut shelves);
     discard(shelves);
     status_of(ended)
-}
-
-// The edits of the input, where they are asked for.
-fn script_of<S: Source>(
-    alloc: Global,
-    asked: bool,
-    input: &mut S,
-) -> Result<Vec<(ModName, Option<Vec<u8>>)>, Stop>
-    ensures script { IfOk result (λ script. HasScript asked (S.left input.old) (edits_in script.items)) }
-    ensures short { IfOk result (λ script. All (λ e. length_of e ≤ MESSAGE_BYTES) (edits_in script.items)) }
-    ensures asked { IfErr result (λ _. asked ≡ true) }
-    ensures stops { IfErr result (IsScriptStop (S.left input.old)) }
-    ensures unread { IsErrOf result Stop.Unread → Rose (S.faults input.old) (S.faults input.new) }
-    ensures end { OnOk result (asked ≡ true → IsAtEnd (S.left input.new)) }
-    ensures untouched { asked ≡ false → input.new ≡ input.old }
-{
-    if !asked {
-        return Ok(Vec::new(alloc));
-    }
-    let bytes = read_all(alloc, input, SCRIPT_BYTES)?;
-    edits_of(alloc, &bytes)
-}
-
-// The edits that bytes say.
-fn edits_of(alloc: Global, bytes: &[u8]) -> Result<Vec<(ModName, Option<Vec<u8>>)>, Stop>
-    requires short { length bytes.now ≤ SCRIPT_BYTES }
-    ensures script { IfOk result (λ script. scripts.edits_of bytes.now ≡ Ok (edits_in script.items)) }
-    ensures short { IfOk result (λ script. All (λ e. length_of e ≤ MESSAGE_BYTES) (edits_in script.items)) }
-    ensures stops { IfErr result (IsEditStop bytes.now) }
-{
-    match read_edits(alloc, bytes) {
-        Ok(edits) => {
-            let script = all_of(alloc, edits)?;
-            Ok(script)
-        }
-        Err(refusal) => Err(stop_of_fault(alloc, refusal)),
-    }
-}
-
-// All edits of a text.
-fn all_of(
-    alloc: Global,
-    mut edits: Edits<'_>,
-) -> Result<Vec<(ModName, Option<Vec<u8>>)>, AllocError>
-    ensures { IfOk result (λ script. edits_in script.items ≡ edits.entry) }
-{
-    let mut script = Vec::new(alloc);
-    'edits: while let Some(edit) = edits.next(alloc)? {
-        script.push(owned(edit))?;
-    }
-    Ok(script)
-}
-
-// An edit as it is handed over.
-fn owned(edit: Edit) -> (ModName, Option<Vec<u8>>)
-    ensures { (result.0, text_in result.1) ≡ edit }
-{
-    let (name, text) = edit;
-    match text {
-        Some(text) => (name, Some(text.into_vec())),
-        None => (name, None),
-    }
-}
-
-// Writes the line of a stop before the server was begun, and answers its status.
-fn tell_stop<K: Sink>(stop: Stop, out: &mut K) -> u8
-    ensures told { (left : Option (List ℕ)) → IsScriptStop left stop → HasNoScript left
-        (K.written out.old) (K.written out.new) (K.faults out.old) (K.faults out.new) result }
-    ensures known { IsNoScriptStatus result }
-    ensures unread { result ≡ 4 → stop ≡ Stop.Unread }
-    ensures unread_silent { result ≡ 4 → Keeps (K.written out.old) (K.written out.new) }
-{
-    match stop {
-        Stop::Faulty(line) => {
-            let _ = write_all(out, &line);
-            Status::NoScript.number()
-        }
-        Stop::TooLong => {
-            let _ = write_all(out, Limit::Script.line().as_bytes());
-            Status::Limit.number()
-        }
-        Stop::Unread => Status::Unread.number(),
-        _ => Status::NoMemory.number(),
-    }
 }
 
 // The exit status of a server's end.

@@ -1,19 +1,17 @@
 // Runs of the top call over an input, an output, a folder, a net and threads of which chosen calls fail.
 ghost use Rattle.std.specs.Prelude.{◌≡◌, None};
 
-use const_eval::Ran;
-use folder_server::Outside;
 use folders::{MemFile, MemTree};
 use handler_table::host_run;
 use hmr_base::{MemSink, MemSource};
 use jobs::{CutSpawner, OpenGate, ThreadSpawner};
-use retained_data::Bag;
+use retained_data::{Bag, Ran};
 use script_runs::host_shelves;
 use std::alloc::{AllocError, Global};
 use std::collections::VecDeque;
 use std::sync::Wait;
 use std::thread::Threads;
-use top_call::{Embedding, run};
+use top_call::{Embedding, Outside, run};
 use transport::{MemNet, Net, TellNet};
 
 /// The text of the one module of most folders.

@@ -4,8 +4,8 @@ use Rattle.hmr_types.specs.declared.limits.TheConstants.{MESSAGE_BYTES}
 use Rattle.hub_editor.specs.Edits.{edits_in}
 use Rattle.play_script.specs.Edits.{Edit}
 use Rattle.play_script.specs.declared.fault.ScriptFault.{ScriptFault}
-use Rattle.top_call.proofs.Shortness.{read_short}
-use Rattle.top_call.proofs.serve.edits_of.Goals as goal
+use Rattle.edit_input.proofs.Shortness.{read_short}
+use Rattle.edit_input.proofs.script.edits_of.Goals as goal
 
 pub returns-in_ok-script-in-Ok-clause-short : goal.returns-in_ok-script-in-Ok-clause-short
 returns-in_ok-script-in-Ok-clause-short c =

@@ -1,6 +1,6 @@
 use Rattle.std.proofs.Common.{◌≡◌, ◌++◌, length}
 use Rattle.hub_editor.specs.Edits.{edits_in}
-use Rattle.top_call.proofs.serve.all_of.Given as goal
+use Rattle.edit_input.proofs.script.all_of.Given as goal
 
 -- those so far, and those that are left
 abbrev pub invariant-edits : goal.invariant-edits
