@@ -4,10 +4,9 @@ ghost use Rattle.handler_table.specs.Held.{IsHost};
 ghost use Rattle.handler_table.specs.Shelf.{marks_of, numbered};
 ghost use Rattle.world_parts.specs.Shelves.{AreHosts};
 
-use const_eval::Ran;
 use handler_table::Shelf;
 use hmr_types::Text;
-use retained_data::Bag;
+use retained_data::{Bag, Ran};
 use std::alloc::{AllocError, Global};
 use world_parts::discard;
 

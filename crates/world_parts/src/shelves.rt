@@ -7,10 +7,9 @@ ghost use Rattle.handler_table.specs.Shelf.{marks_of};
 ghost use Rattle.world_model.specs.Turning.{shelf_of};
 ghost use Rattle.world_parts.specs.Shelves.{AreHosts, AreShelves};
 
-use const_eval::Ran;
 use handler_table::Shelf;
 use hmr_types::ClientId;
-use retained_data::Bag;
+use retained_data::{Bag, Ran};
 use std::alloc::{AllocError, Global};
 use std::mem;
 
