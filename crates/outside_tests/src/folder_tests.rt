@@ -1,6 +1,6 @@
 // What a folder in memory and one of the file system show, before and after a change.
 use crate::{fails, file_named, is_gone, show};
-use folders::{FolderTree, MemFile, MemTree, OutFault, Tree};
+use folders::{FolderTree, MemFile, MemTree, Tree};
 use std::alloc::{AllocError, Global};
 use std::collections::VecDeque;
 use std::test::Fail;
@@ -92,12 +92,5 @@ fn a_folder_of_the_file_system_waits_for_each_change(rt: HostRuntime) -> Result<
     );
     assert!(rt; removed && are(&lines?, &["/main.js: changed"]));
     fs::remove_dir_all(&rt, "site")?;
-    Ok(())
-}
-
-#[test]
-fn a_folder_that_is_not_there_fails(rt: HostRuntime) -> Result<(), Fail> {
-    let mut tree = FolderTree::new(rt);
-    assert!(rt; show(rt.alloc(), &mut tree, "nowhere", 3) == Err(OutFault::Failed));
     Ok(())
 }

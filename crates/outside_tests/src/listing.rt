@@ -8,9 +8,6 @@ use std::alloc::{AllocError, Global};
 /// The most folders that are looked into.
 const FOLDERS: u8 = 9;
 
-/// The most folders, of which each is in the one before, that are looked into.
-const DEPTH: u16 = 2_000;
-
 // What was found so far.
 #[derive(Drop)]
 struct Found<D: Drop> {
@@ -119,37 +116,6 @@ pub fn file_named<T: Tree>(
         let Entry { name: found, node } = entry;
         if found.as_str() == name {
             return Ok(file_of(node));
-        }
-    }
-    Ok(None)
-}
-
-/// How many folders are nested in a folder, of which each holds the next as its first folder. No more than
-/// 2,000 are looked into.
-pub fn depth<T: Tree>(alloc: Global, tree: &mut T, root: T::Dir) -> Result<u16, OutFault>
-    ensures asked { T.asked tree.new ≡ T.asked tree.old }
-{
-    let mut dir = root;
-    for depth in 0..DEPTH {
-        let Some(next) = first_folder(alloc, tree, &dir)? else {
-            return Ok(depth);
-        };
-        dir = next;
-    }
-    Ok(DEPTH)
-}
-
-fn first_folder<T: Tree>(
-    alloc: Global,
-    tree: &mut T,
-    dir: &T::Dir,
-) -> Result<Option<T::Dir>, OutFault>
-    ensures asked { T.asked tree.new ≡ T.asked tree.old }
-{
-    for entry in tree.list(alloc, dir)? {
-        let Entry { name: _, node } = entry;
-        if let Node::Dir(below) = node {
-            return Ok(Some(below));
         }
     }
     Ok(None)

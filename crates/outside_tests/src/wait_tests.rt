@@ -1,5 +1,5 @@
-// Which `open`s of a folder of the file system wait. A thread beside them looks for the file that is made
-// once the folder was shown.
+// An `open` of a folder of the file system that does not wait. A thread beside it looks for the file that is
+// made once the folder was shown.
 use crate::folder_tests::are;
 use crate::show;
 use folders::{FolderTree, OutFault, Tree};
@@ -9,7 +9,7 @@ use std::sync::Wait;
 use std::test::Fail;
 use std::thread::Parker;
 use std::time::Duration;
-use std::{fs, io, thread};
+use std::{fs, thread};
 
 /// How often a file is looked for: five seconds at 50 ms each.
 const LOOKS: u8 = 100;
@@ -23,12 +23,6 @@ fn comes<R: Files + Wait>(rt: &R, path: &str) -> bool {
         parker.park_timeout(rt, Duration::from_millis(50));
     }
     false
-}
-
-/// Moves a file after a while.
-fn move_later<R: Files + Wait>(rt: &R, from: &str, to: &str) -> io::Result<()> {
-    Parker::new().park_timeout(rt, Duration::from_millis(300));
-    fs::rename(rt, from, to)
 }
 
 #[test]
@@ -50,23 +44,5 @@ fn the_open_after_a_refused_one_does_not_wait(rt: HostRuntime) -> Result<(), Fai
     assert!(rt; in_time && are(&lines?, &["/main.js: one"]));
     fs::remove_file(&rt, "late.shown")?;
     fs::remove_dir_all(&rt, "late")?;
-    Ok(())
-}
-
-#[test]
-fn an_empty_folder_shows_its_first_file(rt: HostRuntime) -> Result<(), Fail> {
-    let alloc = rt.alloc();
-    fs::create_dir(&rt, "empty")?;
-    fs::write(&rt, "first.js", "one")?;
-    let mut tree = FolderTree::new(rt);
-    assert!(rt; show(alloc, &mut tree, "empty", 3)?.is_empty());
-    let (lines, moved) = thread::join(
-        &rt,
-        || show(alloc, &mut tree, "empty", 3),
-        || move_later(&rt, "first.js", "empty/main.js"),
-    );
-    moved?;
-    assert!(rt; are(&lines?, &["/main.js: one"]));
-    fs::remove_dir_all(&rt, "empty")?;
     Ok(())
 }

@@ -1,37 +1,30 @@
-// A worker's board over a queue that several workers share.
-ghost use Rattle.std.specs.Prelude.{◌≡◌, ⊤, None, false};
+// A queue into which jobs are put, and a worker's board over it.
+ghost use Rattle.std.specs.Prelude.{◌≡◌, ⊤, IsSome, None, false, true};
 ghost use Rattle.std.specs.Arc.{arc_value};
 ghost use Rattle.transform_pool.specs.Passes.{IsPassOf, role_of};
 
 use hmr_types::Ver;
 use std::alloc::Global;
-use std::sync::atomic::{AtomicBool, Ordering};
+use std::collections::VecDeque;
 use std::sync::{Arc, Wait};
 use transform_pool::{Board, JobPass, JobQueue, TextJob};
 use transforms::Transformed;
 use update_msgs::HubStop;
 
-/// Takes jobs from a queue, by a pass of its own, and keeps what is posted. It tells nothing of either. A
-/// post of version 2 sets a flag that boards share, and one of version 1 before that is noted.
+/// Takes jobs from a queue, by a pass of its own, and keeps the versions that are posted. It tells nothing of
+/// either.
 #[derive(Drop)]
-pub struct QueueBoard {
+pub(crate) struct QueueBoard {
     queue: Arc<JobQueue, Global>,
     pass: JobPass,
-    posted: Vec<(Transformed, Ver)>,
-    second: Arc<AtomicBool, Global>,
-    is_early: bool,
+    posted: Vec<Ver>,
     ghost of_queue: { IsPassOf (arc_value queue) pass },
     ghost takes: { (role_of pass).puts ≡ false },
 }
 
 impl QueueBoard {
     /// A board over this queue, with a pass of it that takes.
-    pub fn new(
-        alloc: Global,
-        queue: Arc<JobQueue, Global>,
-        pass: JobPass,
-        second: Arc<AtomicBool, Global>,
-    ) -> QueueBoard
+    pub(crate) fn new(alloc: Global, queue: Arc<JobQueue, Global>, pass: JobPass) -> QueueBoard
         requires of { IsPassOf (arc_value queue) pass }
         requires takes { (role_of pass).puts ≡ false }
         ensures pass { result.pass ≡ pass }
@@ -40,19 +33,12 @@ impl QueueBoard {
             queue,
             pass,
             posted: Vec::new(alloc),
-            second,
-            is_early: false,
         }
     }
 
-    /// What was posted, in order.
-    pub fn posted(&self) -> &[(Transformed, Ver)] {
+    /// The versions that were posted, in order.
+    pub(crate) fn posted(&self) -> &[Ver] {
         &self.posted
-    }
-
-    /// Whether version 1 was posted while the flag was not set.
-    pub fn is_early(&self) -> bool {
-        self.is_early
     }
 }
 
@@ -78,22 +64,53 @@ impl Board for QueueBoard {
         &mut self,
         _rt: &R,
         _alloc: Global,
-        done: Transformed,
+        _done: Transformed,
         ver: Ver,
     ) -> Result<(), HubStop> {
-        if self.posted.push((done, ver)).is_err() {
-            return Err(HubStop::NoMemory);
+        match self.posted.push(ver) {
+            Ok(()) => Ok(()),
+            Err(_) => Err(HubStop::NoMemory),
         }
-        if ver == 1 && !self.second.load(Ordering::SeqCst) {
-            self.is_early = true;
-        }
-        if ver == 2 {
-            self.second.store(true, Ordering::SeqCst);
-        }
-        Ok(())
     }
 
     ghost same = { λ x. tt };
 
     ghost longer = { λ x y z p q. tt };
+}
+
+/// Puts jobs until none is left or one finds no place, and answers how many were put.
+pub(crate) fn put_all<R: Wait>(
+    rt: &R,
+    queue: &JobQueue,
+    pass: &mut JobPass,
+    jobs: VecDeque<TextJob>,
+) -> usize
+    requires of { IsPassOf queue.now pass.old }
+    requires puts { (role_of pass.old).puts ≡ true }
+    requires unclosed { (role_of pass.old).closed ≡ false }
+    ensures of { IsPassOf queue.now pass.new }
+    ensures puts { (role_of pass.new).puts ≡ true }
+    ensures unclosed { (role_of pass.new).closed ≡ false }
+{
+    let mut count = 0usize;
+    for job in jobs {
+        if queue.put(rt, pass, job).is_err() {
+            return count;
+        }
+        count = count.saturating_add(1);
+    }
+    count
+}
+
+/// The version of the next job, by a pass that takes and has not ended; None where it ends.
+pub(crate) fn next_version<R: Wait>(rt: &R, queue: &JobQueue, pass: &mut JobPass) -> Option<Ver>
+    requires of { IsPassOf queue.now pass.old }
+    requires takes { (role_of pass.old).puts ≡ false }
+    requires going { (role_of pass.old).ended ≡ false }
+    ensures of { IsPassOf queue.now pass.new }
+    ensures takes { (role_of pass.new).puts ≡ false }
+    ensures going { IsSome result → (role_of pass.new).ended ≡ false }
+{
+    let job = queue.take(rt, pass)?;
+    Some(job.ver())
 }

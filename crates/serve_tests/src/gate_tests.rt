@@ -1,6 +1,5 @@
 // Two results come in the other order than their edits.
-use crate::page::{Setting, plan, served};
-use crate::site::{Site, files};
+use crate::serving::{Looks, files, served};
 use crate::turning_gate::TurningGate;
 use handler_table::host_run;
 use retained_data::{Bag, Ran};
@@ -14,7 +13,7 @@ use transport::MemNet;
 const ROOT: &str = "import \"./a.js\";\nimport \"./b.js\";\n";
 
 /// A folder of one module at the first look, and of two more at the second.
-fn growing(alloc: Global) -> Result<Site, AllocError> {
+fn growing(alloc: Global) -> Result<Looks, AllocError> {
     let mut looks = VecDeque::new(alloc);
     looks.push_back(files(alloc, &[("/m.js", ROOT)])?)?;
     let more = [
@@ -23,7 +22,7 @@ fn growing(alloc: Global) -> Result<Site, AllocError> {
         ("/m.js", ROOT),
     ];
     looks.push_back(files(alloc, &more)?)?;
-    Site::new(alloc, looks, "/m.js")
+    Ok(looks)
 }
 
 #[test]
@@ -36,13 +35,7 @@ fn two_workers_end_in_the_other_order(rt: HostRuntime) -> Result<(), Fail> {
         third: Arc::new(alloc, AtomicBool::new(false))?,
         turned: Arc::try_clone(&turned)?,
     };
-    let setting = Setting {
-        plan: plan(0, 0),
-        site: growing(alloc)?,
-        calls: Vec::new(alloc),
-        starts: Vec::new(alloc),
-    };
-    let over = served(&rt, alloc, sample, setting, gate, net)?;
+    let over = served(&rt, alloc, sample, growing(alloc)?, gate, net)?;
     assert!(rt;
         turned.load(Ordering::SeqCst),
         "a worker didn't pass version 2 behind version 3"

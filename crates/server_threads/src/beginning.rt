@@ -7,11 +7,10 @@ ghost use Rattle.std.specs.Arc.{arc_value};
 ghost use Rattle.hmr_base.specs.Causes.{Rose};
 ghost use Rattle.jobs.specs.Begun.{most_starts, none_begun};
 ghost use Rattle.handler_table.specs.Held.{IsHost};
-ghost use Rattle.crew_plans.specs.Gathers.{Gathers, logs_due, passes_due};
 ghost use Rattle.crew_plans.specs.Hubs.{IsPassOf, all_given};
-ghost use Rattle.crew_plans.specs.Lendings.{Lends};
-ghost use Rattle.crew_plans.specs.Splits.{Divided, IsSpentBy};
-ghost use Rattle.serve_crew.specs.Crews.{IsCrew, ends_due};
+ghost use Rattle.crew_plans.specs.Splits.{IsSpentBy};
+ghost use Rattle.serve_crew.specs.Crews.{IsCrew};
+ghost use Rattle.server_threads.specs.Begins.{Begins, BegunAll};
 
 use crate::pairs::begin_pairs;
 use crate::starting::{begin_sessions, begin_workers};
@@ -64,26 +63,14 @@ where
     requires few { length plan.workers.takers.items
         + (2 * plan.clients.own + plan.clients.outside) ≤ most_starts }
     ensures hosts { All (All (IsHost F.post)) shelves.new }
-    ensures hub { crew.new.hub ≡ crew.old.hub }
-    ensures crew { IsCrew ⟦<N::End as Link>⟧ (arc_value crew.new.hub)
-        crew.new.running crew.new.clients crew.new.gathered }
-    ensures of { IsPassOf (arc_value crew.new.hub) pass.new }
-    ensures divided { Divided pass.old pass.new }
-    ensures gathers { Gathers crew.old.gathered crew.new.gathered
-        (N.faults net.old) (N.faults net.new) (P.faults spawner.old) (P.faults spawner.new) }
-    ensures asked { (N.asked net.new ≡ N.asked net.old) × (N.heard net.new ≡ N.heard net.old) }
-    ensures ends { Lends (ends_due crew.old.running crew.old.clients)
-        (ends_due crew.new.running crew.new.clients) (N.lent net.old) (N.lent net.new) }
-    ensures stops { N.refused net.old ≡ false → N.late net.new ≡ N.late net.old }
-    ensures goes { OnOk result (N.refused net.new ≡ N.refused net.old) }
+    ensures begins { Begins ⟦<N as Net>⟧ ⟦<P as Spawner>⟧
+        crew.old crew.new pass.old pass.new net.old net.new spawner.old spawner.new }
+    ensures all { OnOk result (BegunAll ⟦<N as Net>⟧ ⟦<P as Spawner>⟧ (length plan.workers.takers.items)
+        (plan.clients.own + plan.clients.outside) plan.clients.own
+        crew.old crew.new net.old net.new spawner.old spawner.new) }
     ensures begun { OnOk result (crew.new.gathered.fault ≡ false → P.begun spawner.new
         ≡ length plan.workers.takers.items ∷ (plan.clients.own + plan.clients.outside)
         ∷ plan.clients.own ∷ []) }
-    ensures kept { OnOk result (passes_due crew.new.running crew.new.gathered
-        ≡ passes_due crew.old.running crew.old.gathered
-        + (length plan.workers.takers.items + (plan.clients.own + plan.clients.outside))) }
-    ensures logs { OnOk result (logs_due crew.new.clients crew.new.gathered
-        ≡ logs_due crew.old.clients crew.old.gathered + plan.clients.own) }
     ensures spent { IsSpentBy (all_given pass.old) (all_given pass.new) result }
     ensures failed { IsErrOf result Cause.Fault → Rose (N.faults net.old) (N.faults net.new) }
 {

@@ -1,17 +1,15 @@
 // How pairs of a session and a client of the program's own are begun.
-ghost use Rattle.std.specs.Prelude.{◌≡◌, ◌≤◌, ◌+◌, ◌*◌, IsErrOf, IsSome, OnOk, Some, false, sum};
+ghost use Rattle.std.specs.Prelude.{◌≡◌, ◌≤◌, ◌+◌, ◌*◌, IsErrOf, IsSome, OnOk, Some, sum};
 ghost use Rattle.std.specs.List.{All};
 ghost use Rattle.std.specs.Arc.{arc_value};
 ghost use Rattle.hmr_base.specs.Causes.{Rose};
 ghost use Rattle.jobs.specs.Begun.{most_starts};
 ghost use Rattle.handler_table.specs.Held.{IsHost};
 ghost use Rattle.client_jobs.specs.Clients.{IsReady};
-ghost use Rattle.crew_plans.specs.Begun.{HasBegun};
-ghost use Rattle.crew_plans.specs.Gathers.{Gathers, logs_due, passes_due};
 ghost use Rattle.crew_plans.specs.Hubs.{IsPassOf, all_given};
-ghost use Rattle.crew_plans.specs.Lendings.{Lends};
-ghost use Rattle.crew_plans.specs.Splits.{Divided, IsSpentBy};
-ghost use Rattle.serve_crew.specs.Crews.{IsCrew, ends_due};
+ghost use Rattle.crew_plans.specs.Splits.{IsSpentBy};
+ghost use Rattle.serve_crew.specs.Crews.{IsCrew};
+ghost use Rattle.server_threads.specs.Begins.{Begins, BegunAll};
 
 use client_jobs::{ClientJob, ClientOpening, RunningClient, begin_client};
 use crew_plans::{Cause, Clients, Pass, take_shelf};
@@ -53,25 +51,10 @@ where
     requires hosts { All (All (IsHost F.post)) shelves.old }
     requires few { sum (P.begun spawner.old) + 2 * clients.own ≤ most_starts }
     ensures hosts { All (All (IsHost F.post)) shelves.new }
-    ensures hub { crew.new.hub ≡ crew.old.hub }
-    ensures crew { IsCrew ⟦<N::End as Link>⟧ (arc_value crew.new.hub)
-        crew.new.running crew.new.clients crew.new.gathered }
-    ensures of { IsPassOf (arc_value crew.new.hub) pass.new }
-    ensures divided { Divided pass.old pass.new }
-    ensures gathers { Gathers crew.old.gathered crew.new.gathered
-        (N.faults net.old) (N.faults net.new) (P.faults spawner.old) (P.faults spawner.new) }
-    ensures asked { (N.asked net.new ≡ N.asked net.old) × (N.heard net.new ≡ N.heard net.old) }
-    ensures ends { Lends (ends_due crew.old.running crew.old.clients)
-        (ends_due crew.new.running crew.new.clients) (N.lent net.old) (N.lent net.new) }
-    ensures stops { N.refused net.old ≡ false → N.late net.new ≡ N.late net.old }
-    ensures goes { OnOk result (N.refused net.new ≡ N.refused net.old) }
-    ensures begun { OnOk result (crew.new.gathered.fault ≡ false
-        → HasBegun 0 clients.own clients.own (P.begun spawner.old) (P.begun spawner.new)) }
-    ensures few { sum (P.begun spawner.new) ≤ sum (P.begun spawner.old) + 2 * clients.own }
-    ensures kept { OnOk result (passes_due crew.new.running crew.new.gathered
-        ≡ passes_due crew.old.running crew.old.gathered + clients.own) }
-    ensures logs { OnOk result (logs_due crew.new.clients crew.new.gathered
-        ≡ logs_due crew.old.clients crew.old.gathered + clients.own) }
+    ensures begins { Begins ⟦<N as Net>⟧ ⟦<P as Spawner>⟧
+        crew.old crew.new pass.old pass.new net.old net.new spawner.old spawner.new }
+    ensures all { OnOk result (BegunAll ⟦<N as Net>⟧ ⟦<P as Spawner>⟧ 0 clients.own clients.own
+        crew.old crew.new net.old net.new spawner.old spawner.new) }
     ensures spent { IsSpentBy (all_given pass.old) (all_given pass.new) result }
     ensures failed { IsErrOf result Cause.Fault → Rose (N.faults net.old) (N.faults net.new) }
 {
@@ -107,25 +90,10 @@ where
     requires heard { N.heard net.old ≡ Some clients.port }
     requires ready { IsReady F.post ((f : F) → F.IsAlwaysCallable f) opening.shelf }
     requires few { sum (P.begun spawner.old) + 2 ≤ most_starts }
-    ensures hub { crew.new.hub ≡ crew.old.hub }
-    ensures crew { IsCrew ⟦<N::End as Link>⟧ (arc_value crew.new.hub)
-        crew.new.running crew.new.clients crew.new.gathered }
-    ensures of { IsPassOf (arc_value crew.new.hub) pass.new }
-    ensures divided { Divided pass.old pass.new }
-    ensures gathers { Gathers crew.old.gathered crew.new.gathered
-        (N.faults net.old) (N.faults net.new) (P.faults spawner.old) (P.faults spawner.new) }
-    ensures asked { (N.asked net.new ≡ N.asked net.old) × (N.heard net.new ≡ N.heard net.old) }
-    ensures ends { Lends (ends_due crew.old.running crew.old.clients)
-        (ends_due crew.new.running crew.new.clients) (N.lent net.old) (N.lent net.new) }
-    ensures stops { N.refused net.old ≡ false → N.late net.new ≡ N.late net.old }
-    ensures goes { OnOk result (N.refused net.new ≡ N.refused net.old) }
-    ensures begun { OnOk result (crew.new.gathered.fault ≡ false
-        → HasBegun 0 1 1 (P.begun spawner.old) (P.begun spawner.new)) }
-    ensures few { sum (P.begun spawner.new) ≤ sum (P.begun spawner.old) + 2 }
-    ensures kept { OnOk result (passes_due crew.new.running crew.new.gathered
-        ≡ passes_due crew.old.running crew.old.gathered + 1) }
-    ensures logs { OnOk result (logs_due crew.new.clients crew.new.gathered
-        ≡ logs_due crew.old.clients crew.old.gathered + 1) }
+    ensures begins { Begins ⟦<N as Net>⟧ ⟦<P as Spawner>⟧
+        crew.old crew.new pass.old pass.new net.old net.new spawner.old spawner.new }
+    ensures all { OnOk result (BegunAll ⟦<N as Net>⟧ ⟦<P as Spawner>⟧ 0 1 1
+        crew.old crew.new net.old net.new spawner.old spawner.new) }
     ensures spent { IsSpentBy (all_given pass.old) (all_given pass.new) result }
     ensures failed { IsErrOf result Cause.Fault → Rose (N.faults net.old) (N.faults net.new) }
 {

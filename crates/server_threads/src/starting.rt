@@ -1,18 +1,16 @@
 // How workers are begun, and sessions with clients from outside. A refused start gives its job up, and the
 // next is begun; where the net gives no end, or there is no pass or no memory, no more are begun.
-ghost use Rattle.std.specs.Prelude.{◌≡◌, ◌≤◌, ◌+◌, IsErrOf, IsSome, OnOk, false, length, sum};
+ghost use Rattle.std.specs.Prelude.{◌≡◌, ◌≤◌, ◌+◌, IsErrOf, IsSome, OnOk, length, sum};
 ghost use Rattle.std.specs.Arc.{arc_value};
 ghost use Rattle.hmr_base.specs.Causes.{Rose};
 ghost use Rattle.jobs.specs.Begun.{most_starts};
 ghost use Rattle.transform_pool.specs.Passes as queues;
 ghost use Rattle.transform_pool.specs.Passes.{role_of};
 ghost use Rattle.transform_pool.specs.Roles.{taking};
-ghost use Rattle.crew_plans.specs.Begun.{HasBegun};
-ghost use Rattle.crew_plans.specs.Gathers.{Gathers, logs_due, passes_due};
 ghost use Rattle.crew_plans.specs.Hubs.{IsPassOf, all_given};
-ghost use Rattle.crew_plans.specs.Lendings.{Lends};
-ghost use Rattle.crew_plans.specs.Splits.{Divided, IsSpentBy};
-ghost use Rattle.serve_crew.specs.Crews.{IsCrew, ends_due};
+ghost use Rattle.crew_plans.specs.Splits.{IsSpentBy};
+ghost use Rattle.serve_crew.specs.Crews.{IsCrew};
+ghost use Rattle.server_threads.specs.Begins.{Begins, BegunAll};
 
 use crew_plans::{Cause, Pass, Workers};
 use jobs::{Gate, Spawner};
@@ -42,24 +40,10 @@ where
         crew.old.running crew.old.clients crew.old.gathered }
     requires of { IsPassOf (arc_value crew.old.hub) pass.old }
     requires few { sum (P.begun spawner.old) + length workers.takers.items ≤ most_starts }
-    ensures hub { crew.new.hub ≡ crew.old.hub }
-    ensures crew { IsCrew ⟦<N::End as Link>⟧ (arc_value crew.new.hub)
-        crew.new.running crew.new.clients crew.new.gathered }
-    ensures of { IsPassOf (arc_value crew.new.hub) pass.new }
-    ensures divided { Divided pass.old pass.new }
-    ensures gathers { Gathers crew.old.gathered crew.new.gathered
-        (N.faults net.old) (N.faults net.new) (P.faults spawner.old) (P.faults spawner.new) }
-    ensures asked { (N.asked net.new ≡ N.asked net.old) × (N.heard net.new ≡ N.heard net.old) }
-    ensures ends { Lends (ends_due crew.old.running crew.old.clients)
-        (ends_due crew.new.running crew.new.clients) (N.lent net.old) (N.lent net.new) }
-    ensures unasked { (N.refused net.new ≡ N.refused net.old) × (N.late net.new ≡ N.late net.old) }
-    ensures begun { OnOk result (crew.new.gathered.fault ≡ false
-        → HasBegun (length workers.takers.items) 0 0 (P.begun spawner.old) (P.begun spawner.new)) }
-    ensures few { sum (P.begun spawner.new) ≤ sum (P.begun spawner.old) + length workers.takers.items }
-    ensures kept { OnOk result (passes_due crew.new.running crew.new.gathered
-        ≡ passes_due crew.old.running crew.old.gathered + length workers.takers.items) }
-    ensures logs { logs_due crew.new.clients crew.new.gathered
-        ≡ logs_due crew.old.clients crew.old.gathered }
+    ensures begins { Begins ⟦<N as Net>⟧ ⟦<P as Spawner>⟧
+        crew.old crew.new pass.old pass.new net.old net.new spawner.old spawner.new }
+    ensures all { OnOk result (BegunAll ⟦<N as Net>⟧ ⟦<P as Spawner>⟧ (length workers.takers.items) 0 0
+        crew.old crew.new net.old net.new spawner.old spawner.new) }
     ensures spent { IsSpentBy (all_given pass.old) (all_given pass.new) result }
     ensures failed { IsErrOf result Cause.Fault → Rose (N.faults net.old) (N.faults net.new) }
 {
@@ -92,24 +76,10 @@ where
     requires of_queue { queues.IsPassOf (arc_value workers.now.queue) jobs }
     requires takes { role_of jobs ≡ taking }
     requires few { sum (P.begun spawner.old) + 1 ≤ most_starts }
-    ensures hub { crew.new.hub ≡ crew.old.hub }
-    ensures crew { IsCrew ⟦<N::End as Link>⟧ (arc_value crew.new.hub)
-        crew.new.running crew.new.clients crew.new.gathered }
-    ensures of { IsPassOf (arc_value crew.new.hub) pass.new }
-    ensures divided { Divided pass.old pass.new }
-    ensures gathers { Gathers crew.old.gathered crew.new.gathered
-        (N.faults net.old) (N.faults net.new) (P.faults spawner.old) (P.faults spawner.new) }
-    ensures asked { (N.asked net.new ≡ N.asked net.old) × (N.heard net.new ≡ N.heard net.old) }
-    ensures ends { Lends (ends_due crew.old.running crew.old.clients)
-        (ends_due crew.new.running crew.new.clients) (N.lent net.old) (N.lent net.new) }
-    ensures unasked { (N.refused net.new ≡ N.refused net.old) × (N.late net.new ≡ N.late net.old) }
-    ensures begun { OnOk result (crew.new.gathered.fault ≡ false
-        → HasBegun 1 0 0 (P.begun spawner.old) (P.begun spawner.new)) }
-    ensures few { sum (P.begun spawner.new) ≤ sum (P.begun spawner.old) + 1 }
-    ensures kept { OnOk result (passes_due crew.new.running crew.new.gathered
-        ≡ passes_due crew.old.running crew.old.gathered + 1) }
-    ensures logs { logs_due crew.new.clients crew.new.gathered
-        ≡ logs_due crew.old.clients crew.old.gathered }
+    ensures begins { Begins ⟦<N as Net>⟧ ⟦<P as Spawner>⟧
+        crew.old crew.new pass.old pass.new net.old net.new spawner.old spawner.new }
+    ensures all { OnOk result (BegunAll ⟦<N as Net>⟧ ⟦<P as Spawner>⟧ 1 0 0
+        crew.old crew.new net.old net.new spawner.old spawner.new) }
     ensures spent { IsSpentBy (all_given pass.old) (all_given pass.new) result }
     ensures failed { IsErrOf result Cause.Fault → Rose (N.faults net.old) (N.faults net.new) }
 {
@@ -143,25 +113,10 @@ where
     requires of { IsPassOf (arc_value crew.old.hub) pass.old }
     requires heard { IsSome (N.heard net.old) }
     requires few { sum (P.begun spawner.old) + count ≤ most_starts }
-    ensures hub { crew.new.hub ≡ crew.old.hub }
-    ensures crew { IsCrew ⟦<N::End as Link>⟧ (arc_value crew.new.hub)
-        crew.new.running crew.new.clients crew.new.gathered }
-    ensures of { IsPassOf (arc_value crew.new.hub) pass.new }
-    ensures divided { Divided pass.old pass.new }
-    ensures gathers { Gathers crew.old.gathered crew.new.gathered
-        (N.faults net.old) (N.faults net.new) (P.faults spawner.old) (P.faults spawner.new) }
-    ensures asked { (N.asked net.new ≡ N.asked net.old) × (N.heard net.new ≡ N.heard net.old) }
-    ensures ends { Lends (ends_due crew.old.running crew.old.clients)
-        (ends_due crew.new.running crew.new.clients) (N.lent net.old) (N.lent net.new) }
-    ensures stops { N.refused net.old ≡ false → N.late net.new ≡ N.late net.old }
-    ensures goes { OnOk result (N.refused net.new ≡ N.refused net.old) }
-    ensures begun { OnOk result (crew.new.gathered.fault ≡ false
-        → HasBegun 0 count 0 (P.begun spawner.old) (P.begun spawner.new)) }
-    ensures few { sum (P.begun spawner.new) ≤ sum (P.begun spawner.old) + count }
-    ensures kept { OnOk result (passes_due crew.new.running crew.new.gathered
-        ≡ passes_due crew.old.running crew.old.gathered + count) }
-    ensures logs { logs_due crew.new.clients crew.new.gathered
-        ≡ logs_due crew.old.clients crew.old.gathered }
+    ensures begins { Begins ⟦<N as Net>⟧ ⟦<P as Spawner>⟧
+        crew.old crew.new pass.old pass.new net.old net.new spawner.old spawner.new }
+    ensures all { OnOk result (BegunAll ⟦<N as Net>⟧ ⟦<P as Spawner>⟧ 0 count 0
+        crew.old crew.new net.old net.new spawner.old spawner.new) }
     ensures spent { IsSpentBy (all_given pass.old) (all_given pass.new) result }
     ensures failed { IsErrOf result Cause.Fault → Rose (N.faults net.old) (N.faults net.new) }
 {
@@ -186,25 +141,10 @@ where
     requires of { IsPassOf (arc_value crew.old.hub) pass.old }
     requires heard { IsSome (N.heard net.old) }
     requires few { sum (P.begun spawner.old) + 1 ≤ most_starts }
-    ensures hub { crew.new.hub ≡ crew.old.hub }
-    ensures crew { IsCrew ⟦<N::End as Link>⟧ (arc_value crew.new.hub)
-        crew.new.running crew.new.clients crew.new.gathered }
-    ensures of { IsPassOf (arc_value crew.new.hub) pass.new }
-    ensures divided { Divided pass.old pass.new }
-    ensures gathers { Gathers crew.old.gathered crew.new.gathered
-        (N.faults net.old) (N.faults net.new) (P.faults spawner.old) (P.faults spawner.new) }
-    ensures asked { (N.asked net.new ≡ N.asked net.old) × (N.heard net.new ≡ N.heard net.old) }
-    ensures ends { Lends (ends_due crew.old.running crew.old.clients)
-        (ends_due crew.new.running crew.new.clients) (N.lent net.old) (N.lent net.new) }
-    ensures stops { N.refused net.old ≡ false → N.late net.new ≡ N.late net.old }
-    ensures goes { OnOk result (N.refused net.new ≡ N.refused net.old) }
-    ensures begun { OnOk result (crew.new.gathered.fault ≡ false
-        → HasBegun 0 1 0 (P.begun spawner.old) (P.begun spawner.new)) }
-    ensures few { sum (P.begun spawner.new) ≤ sum (P.begun spawner.old) + 1 }
-    ensures kept { OnOk result (passes_due crew.new.running crew.new.gathered
-        ≡ passes_due crew.old.running crew.old.gathered + 1) }
-    ensures logs { logs_due crew.new.clients crew.new.gathered
-        ≡ logs_due crew.old.clients crew.old.gathered }
+    ensures begins { Begins ⟦<N as Net>⟧ ⟦<P as Spawner>⟧
+        crew.old crew.new pass.old pass.new net.old net.new spawner.old spawner.new }
+    ensures all { OnOk result (BegunAll ⟦<N as Net>⟧ ⟦<P as Spawner>⟧ 0 1 0
+        crew.old crew.new net.old net.new spawner.old spawner.new) }
     ensures spent { IsSpentBy (all_given pass.old) (all_given pass.new) result }
     ensures failed { IsErrOf result Cause.Fault → Rose (N.faults net.old) (N.faults net.new) }
 {

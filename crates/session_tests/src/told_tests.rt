@@ -1,7 +1,5 @@
 // What a server sends for what it is told.
 use crate::page_desk::PageDesk;
-use hmr_types::Text;
-use message_json::MsgFault;
 use sessions::{Ended, serve_session};
 use std::alloc::{AllocError, Global};
 use std::collections::VecDeque;
@@ -15,14 +13,7 @@ const HELLO: &str = "{\"format\":1,\"type\":\"hello\"}";
 
 const HELLO_2: &str = "{\"format\":2,\"type\":\"hello\"}";
 
-const FETCH: &str = "{\"path\":\"/m.js\",\"type\":\"fetch\"}";
-
 const BYE: &str = "{\"type\":\"bye\"}";
-
-const ASK_MORE: &str = "{\"type\":\"ask\",\"x\":1}";
-
-const REFUSED_1: &str =
-    "{\"code\":1,\"kept\":null,\"path\":null,\"told\":null,\"type\":\"refused\"}";
 
 const REFUSED_3: &str =
     "{\"code\":3,\"kept\":null,\"path\":null,\"told\":null,\"type\":\"refused\"}";
@@ -33,11 +24,6 @@ const UPDATE: &str = "{\"replaced\":[\"/m.js\"],\"type\":\"update\",\"updates\":
 
 const UPDATE_2: &str =
     "{\"batch\":1,\"replaced\":[\"/m.js\"],\"triggeredBy\":[],\"type\":\"update\",\"updates\":[]}";
-
-const TEXT: &str =
-    "{\"path\":\"/m.js\",\"text\":\"export const n = 1;\\n\",\"type\":\"text\",\"version\":1}";
-
-const DONE: &str = "{\"type\":\"done\"}";
 
 fn coming(alloc: Global, messages: &[&str]) -> Result<VecDeque<Vec<u8>>, AllocError> {
     let mut coming = VecDeque::new(alloc);
@@ -78,20 +64,6 @@ fn are_sent(sent: &[Vec<u8>], expected: &[&str]) -> bool {
 }
 
 #[test]
-fn each_message_is_answered_until_bye(rt: HostRuntime) -> Result<(), Fail> {
-    let told = [ASK, HELLO, HELLO, ASK, FETCH, BYE, ASK];
-    let expected = [REFUSED_1, CONNECTED, REFUSED_3, UPDATE, TEXT, DONE];
-    let session = served(rt.alloc(), rt, &told, 20);
-    assert!(rt; session.is_some());
-    if let Some((ended, link)) = session {
-        assert!(rt; ended == Ended::Closed);
-        assert!(rt; are_sent(link.sent(), &expected));
-        assert!(rt; link.faults() == 0);
-    }
-    Ok(())
-}
-
-#[test]
 fn the_last_hello_names_the_format(rt: HostRuntime) -> Result<(), Fail> {
     let told = [HELLO, ASK, HELLO_2, ASK, HELLO, ASK];
     let expected = [CONNECTED, UPDATE, REFUSED_3, UPDATE_2, REFUSED_3, UPDATE];
@@ -99,20 +71,6 @@ fn the_last_hello_names_the_format(rt: HostRuntime) -> Result<(), Fail> {
     assert!(rt; session.is_some());
     if let Some((ended, link)) = session {
         assert!(rt; ended == Ended::Closed);
-        assert!(rt; are_sent(link.sent(), &expected));
-    }
-    Ok(())
-}
-
-#[test]
-fn a_bad_message_ends_a_session(rt: HostRuntime) -> Result<(), Fail> {
-    let told = [HELLO, ASK_MORE, BYE];
-    let expected = [CONNECTED];
-    let key = Text::from_string(String::from_str(rt.alloc(), "x")?);
-    let session = served(rt.alloc(), rt, &told, 20);
-    assert!(rt; session.is_some());
-    if let Some((ended, link)) = session {
-        assert!(rt; ended == Ended::BadMessage(MsgFault::ExtraField(key)));
         assert!(rt; are_sent(link.sent(), &expected));
     }
     Ok(())

@@ -10,8 +10,6 @@ mod failing_tests;
 #[cfg(test)]
 mod outcomes;
 #[cfg(test)]
-mod stops_tests;
-#[cfg(test)]
 mod tests;
 #[cfg(test)]
 mod worked;

@@ -14,8 +14,8 @@ use std::thread::Threads;
 use top_call::{Embedding, Outside, run};
 use transport::{MemNet, Net, TellNet};
 
-/// The text of the one module of most folders.
-pub(crate) const MODULE: &str = "export const n = 1;\n";
+/// The text of the one module of the folder.
+const MODULE: &[u8] = b"export const n = 1;\n";
 
 /// The most bytes that a read of the input gives; a long input comes in larger pieces.
 const PIECE: usize = 40;
@@ -61,19 +61,7 @@ pub(crate) fn outcome<R: Threads + Wait + Sync + Copy + Drop + Send + 'static>(
     faults: &Faults,
 ) -> Result<(u8, Vec<u8>), AllocError> {
     let mut looks = VecDeque::new(alloc);
-    looks.push_back(look(alloc, MODULE, None)?)?;
-    outcome_at(rt, alloc, words, text, looks, faults)
-}
-
-/// The same over a folder that has these files at its looks.
-pub(crate) fn outcome_at<R: Threads + Wait + Sync + Copy + Drop + Send + 'static>(
-    rt: R,
-    alloc: Global,
-    words: &str,
-    text: &[u8],
-    looks: VecDeque<Vec<MemFile>>,
-    faults: &Faults,
-) -> Result<(u8, Vec<u8>), AllocError> {
+    looks.push_back(look(alloc)?)?;
     let ends = ends_of(alloc, faults)?;
     let net = MemNet::new(alloc, rt, one(alloc, faults.net)?, ends)?;
     let given = Given {
@@ -155,23 +143,13 @@ where
     Ok((status, Vec::from_slice(alloc, outside.out.bytes())?))
 }
 
-/// A look at a folder that finds a module, and beside it one with a text of its own where one is given.
-pub(crate) fn look(
-    alloc: Global,
-    module: &str,
-    beside: Option<Vec<u8>>,
-) -> Result<Vec<MemFile>, AllocError> {
+// A look at a folder that finds one module.
+fn look(alloc: Global) -> Result<Vec<MemFile>, AllocError> {
     let mut files = Vec::new(alloc);
     files.push(MemFile {
         path: String::from_str(alloc, "/m.js")?,
-        text: Vec::from_slice(alloc, module.as_bytes())?,
+        text: Vec::from_slice(alloc, MODULE)?,
     })?;
-    if let Some(text) = beside {
-        files.push(MemFile {
-            path: String::from_str(alloc, "/n.js")?,
-            text,
-        })?;
-    }
     Ok(files)
 }
 

@@ -2,7 +2,10 @@
 // that answers a client wrongly.
 use crate::outcomes::{Faults, NONE, joined, outcome};
 use crate::worked::{JOINED, TOLD};
+use std::alloc::{AllocError, Global};
+use std::sync::Wait;
 use std::test::Fail;
+use std::thread::Threads;
 
 #[test]
 fn a_fault_keeps_its_status_where_its_line_is_unwritten(rt: HostRuntime) -> Result<(), Fail> {
@@ -14,15 +17,27 @@ fn a_fault_keeps_its_status_where_its_line_is_unwritten(rt: HostRuntime) -> Resu
     Ok(())
 }
 
+/// Whether a client whose server tells these messages comes to this status, and writes these lines.
+fn comes_to<R: Threads + Wait + Sync + Copy + Drop + Send + 'static>(
+    rt: R,
+    alloc: Global,
+    told: &[&str],
+    wanted: u8,
+    lines: &str,
+) -> Result<bool, AllocError> {
+    let (status, written) = joined(rt, alloc, told, &NONE)?;
+    Ok(status == wanted && written.as_slice() == lines.as_bytes())
+}
+
 #[test]
 fn a_client_joins_a_server(rt: HostRuntime) -> Result<(), Fail> {
     let alloc = rt.alloc();
-    let (status, written) = joined(rt, alloc, &TOLD, &NONE)?;
-    assert_eq!(rt; status, 0);
-    assert_eq!(rt; written.as_slice(), JOINED.as_bytes());
-    let no_answer = [TOLD[0], TOLD[1], TOLD[2], TOLD[4]];
-    let (status, written) = joined(rt, alloc, &no_answer, &NONE)?;
-    assert_eq!(rt; status, 10);
-    assert_eq!(rt; written.as_slice(), JOINED.as_bytes());
+    let [connected, text, done, idle, last] = TOLD;
+    assert!(rt; comes_to(rt, alloc, &[connected, text, done, idle, last], 0, JOINED)?);
+    assert!(rt; comes_to(rt, alloc, &[connected], 0, "")?);
+    // what is no answer to an ask, and what is no message
+    assert!(rt; comes_to(rt, alloc, &[connected, text, done, last], 10, JOINED)?);
+    let news = "{\"type\":\"news\"}";
+    assert!(rt; comes_to(rt, alloc, &[connected, text, done, news], 10, JOINED)?);
     Ok(())
 }

@@ -1,32 +1,13 @@
-use Rattle.std.proofs.Common.{◌≡◌, ◌≤◌, ◌+◌, false, sum}
-use Rattle.std.specs.Arc.{arc_value}
-use Rattle.crew_plans.specs.Hubs.{IsPassOf, all_given}
-use Rattle.crew_plans.specs.Begun.{HasBegun}
-use Rattle.serve_crew.specs.Crews.{IsCrew, ends_due}
-use Rattle.crew_plans.specs.Gathers.{Gathers, logs_due, passes_due}
-use Rattle.crew_plans.specs.Lendings.{Lends}
-use Rattle.crew_plans.specs.Splits.{Divided}
+use Rattle.std.proofs.Common.{◌≡◌, false}
+use Rattle.crew_plans.specs.Hubs.{all_given}
+use Rattle.server_threads.specs.Begins.{Begins, BegunAll}
 use Rattle.server_threads.proofs.starting.begin_sessions.Given as goal
 
 -- so many sessions were begun
 abbrev pub invariant-loop : goal.invariant-loop
 invariant-loop g l =
-    let faults = g.N.Net.faults in
-    let starts = g.P.Spawner.faults in
-    let count = g.P.Spawner.begun in
     record {
-      hub : l.crew.hub ≡ l.fn.crew.hub;
-      crew : IsCrew g.N.End.Link (arc_value l.crew.hub) l.crew.running l.crew.clients l.crew.gathered;
-      of : IsPassOf (arc_value l.crew.hub) l.pass;
-      divided : Divided l.fn.pass l.pass;
-      gathers : Gathers l.fn.crew.gathered l.crew.gathered (faults l.fn.net) (faults l.net) (starts l.fn.spawner) (starts l.spawner);
-      asked : (g.N.Net.asked l.net ≡ g.N.Net.asked l.fn.net) × (g.N.Net.heard l.net ≡ g.N.Net.heard l.fn.net);
+      begins : Begins g.N.Net g.P.Spawner l.fn.crew l.crew l.fn.pass l.pass l.fn.net l.net l.fn.spawner l.spawner;
+      all : BegunAll g.N.Net g.P.Spawner 0 l.counter 0 l.fn.crew l.crew l.fn.net l.net l.fn.spawner l.spawner;
       given : all_given l.fn.pass ≡ false → all_given l.pass ≡ false;
-      begun : l.crew.gathered.fault ≡ false → HasBegun 0 l.counter 0 (count l.fn.spawner) (count l.spawner);
-      few : sum (count l.spawner) ≤ sum (count l.fn.spawner) + l.counter;
-      kept : passes_due l.crew.running l.crew.gathered ≡ passes_due l.fn.crew.running l.fn.crew.gathered + l.counter;
-      logs : logs_due l.crew.clients l.crew.gathered ≡ logs_due l.fn.crew.clients l.fn.crew.gathered;
-      ends : Lends (ends_due l.fn.crew.running l.fn.crew.clients) (ends_due l.crew.running l.crew.clients) (g.N.Net.lent l.fn.net) (g.N.Net.lent l.net);
-      goes : g.N.Net.refused l.net ≡ g.N.Net.refused l.fn.net;
-      stops : g.N.Net.refused l.fn.net ≡ false → g.N.Net.late l.net ≡ g.N.Net.late l.fn.net;
     }

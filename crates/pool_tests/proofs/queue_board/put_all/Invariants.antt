@@ -1,6 +1,6 @@
 use Rattle.std.proofs.Common.{◌≡◌, true, false}
 use Rattle.transform_pool.specs.Passes.{IsPassOf, role_of}
-use Rattle.pool_tests.proofs.worker_job.put_all.Given as goal
+use Rattle.pool_tests.proofs.queue_board.put_all.Given as goal
 
 abbrev pub invariant-loop-job : goal.invariant-loop-job
 invariant-loop-job g l = record {
