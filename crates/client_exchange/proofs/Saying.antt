@@ -3,7 +3,7 @@ use Rattle.std.proofs.Common.{◌≡◌, refl}
 use Rattle.core_model.specs.Exchange.{message_of}
 use Rattle.core_model.specs.Requests as requests
 use Rattle.core_model.specs.Sources.{job, same, removed, edit_refused}
-use Rattle.server_core.specs.Said.{said}
+use Rattle.events_and_replies.specs.Said.{said}
 use Rattle.client_exchange.specs.Replies.{message_in}
 
 pub message_said : (reply : requests.Reply) → message_in (said reply) ≡ message_of reply

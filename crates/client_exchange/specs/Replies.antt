@@ -3,8 +3,8 @@ use Rattle.std.specs.Prelude.{ℕ, Bool, Option, Some, None, if◌then◌else◌
 use Rattle.update_msgs.specs.declared.message.ServerMsg.{ServerMsg}
 use Rattle.update_msgs.specs.declared.message.ServerMsg.TheVariants as msg
 use Rattle.core_model.specs.Exchange.{refusal_message}
-use Rattle.server_core.specs.declared.event.Reply.{Reply}
-use Rattle.server_core.specs.declared.event.Reply.TheVariants as replies
+use Rattle.events_and_replies.specs.declared.event.Reply.{Reply}
+use Rattle.events_and_replies.specs.declared.event.Reply.TheVariants as replies
 
 -- the client that an answer gives; else the one before
 abbrev pub connected_or : ℕ → ServerMsg → ℕ

@@ -1,11 +1,11 @@
 // A client's message as an event of the core.
 ghost use Rattle.std.specs.Prelude.{◌≡◌};
 ghost use Rattle.core_model.specs.Exchange as model;
-ghost use Rattle.server_core.specs.Said.{event_of};
+ghost use Rattle.events_and_replies.specs.Said.{event_of};
 ghost use Rattle.client_exchange.specs.Messages.{is_bye, is_hello};
 
+use events_and_replies::Event;
 use hmr_types::ClientId;
-use server_core::Event;
 use update_msgs::ClientMsg;
 
 /// The event that a message of this client is; a client that says hello has no number yet, and the event

@@ -5,8 +5,8 @@ ghost use Rattle.update_msgs.specs.declared.message.ServerMsg.TheVariants.{Refus
 ghost use Rattle.client_exchange.specs.Replies.{client_after, message_in};
 
 use core_model::Refusal;
+use events_and_replies::Reply;
 use hmr_types::ClientId;
-use server_core::Reply;
 use update_msgs::ServerMsg;
 
 /// The message that a reply is. It is None exactly for the replies to edits and to results, which are no

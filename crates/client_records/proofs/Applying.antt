@@ -24,11 +24,12 @@ use Rattle.page_plan.specs.Renewals.{IsClosed}
 use Rattle.page_plan.proofs.Renewals.{made_closed, made_rises as new_rises}
 use Rattle.page_plan.proofs.Same.{row_same, view_same}
 use Rattle.client_queue.specs.Queue.{Queue, is_marked, knows}
+use Rattle.page_marks.specs.Marks.{AreRenewed, IsGrown}
+use Rattle.page_marks.proofs.Renewing.{known_made, marks_made}
 use Rattle.client_records.specs.Inside.{AreCounted, AreFetched, IsCounted}
-use Rattle.client_records.specs.Made.{AreRenewed, HasMade, IsGrown}
+use Rattle.client_records.specs.Made.{HasMade}
 use Rattle.client_records.specs.Record.{IsPlan, IsRecord, Kept}
 use Rattle.client_records.proofs.Fetching.{counted_step}
-use Rattle.client_records.proofs.Renewing.{known_made, marks_made}
 
 -- The view that a plan makes.
 

@@ -19,12 +19,13 @@ use Rattle.page_plan.proofs.Growing.{IsFound, growing_is, growth_found, rows_ali
 use Rattle.page_plan.proofs.Placing.{first_put}
 use Rattle.page_plan.proofs.Renewals.{dropped_renewed, growth_fits, kept_at, renewed_closed, renewed_is_in, renewed_names, view_is}
 use Rattle.client_queue.specs.Queue.{Queue, is_marked, is_none_left, knows, mark_in, mark_where_known}
+use Rattle.page_marks.specs.Marks.{AreRenewed, mark_on}
+use Rattle.page_marks.proofs.Renewing.{known_step, on_step}
 use Rattle.client_records.specs.InPlace.{IsFitting, IsInPlace}
 use Rattle.client_records.specs.Inside.{AreCounted, IsStaged}
-use Rattle.client_records.specs.Made.{AreRenewed, HasMade, mark_on}
+use Rattle.client_records.specs.Made.{HasMade}
 use Rattle.client_records.specs.Record.{IsRecord, Kept}
 use Rattle.client_records.proofs.Applying.{made_counted}
-use Rattle.client_records.proofs.Renewing.{known_step, on_step}
 
 -- where no name is forced
 pub none_in_queue : (view : View) (q : Queue) → q.forced ≡ [] → AreIn q.forced view

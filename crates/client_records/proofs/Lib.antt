@@ -8,6 +8,5 @@ pub mod Beginning
 pub mod Asking
 pub mod Pruning
 pub mod Tabling
-pub mod Renewing
 pub mod Applying
 pub mod InPlace

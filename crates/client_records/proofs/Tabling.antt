@@ -1,6 +1,6 @@
 -- The modules of a page with their versions are a table.
-use Rattle.std.proofs.Common.{◌≡◌, ℕ, ◌+◌, ◌≤◌, suc, zero, add-one, List, [], ◌∷◌, ◌++◌, take, refl, ap, sym, ◌∙◌}
-use Rattle.std.specs.Prelude.{slice_get, All}
+use Rattle.std.proofs.Common.{◌≡◌, ℕ, ◌≤◌, List, [], ◌∷◌, refl, ap, sym}
+use Rattle.std.specs.Prelude.{All}
 use Rattle.std.specs.Cmp.Lexicographic.{slice_cmp}
 use Rattle.std.specs.List.Sorted.{IsStrictlySortedBy}
 use Rattle.std.specs.Map.{keys_of}
@@ -11,17 +11,6 @@ use Rattle.hmr_types.specs.Table.{IsTable}
 use Rattle.core_model.specs.Names.{Name, names_of}
 use Rattle.core_model.specs.View.{View, table_of}
 use Rattle.client_records.specs.Inside.{AreCounted}
-use Rattle.client_records.specs.Steps.{listed}
-
-taken_suc : (view : View) (i : ℕ) → table_of (take i view) ++ table_of (listed (slice_get view i)) ≡ table_of (take (suc i) view)
-taken_suc [] zero = refl
-taken_suc [] (suc i) = refl
-taken_suc (row ∷ rows) zero = refl
-taken_suc (row ∷ rows) (suc i) = ap (λ l. (row.0, row.1.version) ∷ l) (taken_suc rows i)
-
--- the rows so far and the next one
-pub taken_more : (view : View) (i : ℕ) → table_of (take i view) ++ table_of (listed (slice_get view i)) ≡ table_of (take (i + 1) view)
-taken_more view i = taken_suc view i ∙ ap (λ j. table_of (take j view)) (sym (add-one i))
 
 keys_table : (view : View) → keys_of (table_of view) ≡ names_of view
 keys_table [] = refl

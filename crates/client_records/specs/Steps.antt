@@ -1,11 +1,11 @@
 -- The steps of the core's definitions, on what is kept.
-use Rattle.std.specs.Prelude.{◌≡◌, ◌≤◌, ◌++◌, ⊤, [], ◌∷◌}
+use Rattle.std.specs.Prelude.{◌≡◌, ◌≤◌, ◌++◌, ⊤}
 use Rattle.std.specs.Prelude.{List, length, Option, Some, None, Bool, true, false}
 use Rattle.propagate.specs.Passing.{cause_in, path_of}
 use Rattle.core_model.specs.Names.{Name, with_row, sorted}
 use Rattle.core_model.specs.Sources.{Sources}
 use Rattle.core_model.specs.Page.{Plan}
-use Rattle.core_model.specs.View.{View, Entry, changed_of}
+use Rattle.core_model.specs.View.{View, changed_of}
 use Rattle.core_model.specs.Spread.{cause_of, reason_of, replaced_of, pairs_of}
 use Rattle.core_model.specs.Client.{same_number}
 use Rattle.core_model.specs.Asking.{AskRow, load, idle, prune, reload, update, row_loaded}
@@ -75,8 +75,3 @@ before_of false false undropped = Some rows.Load
 before_of true held false = Some rows.Prune
 before_of true true true = Some rows.Idle
 before_of true false true = None
-
--- the modules at a place: one, or none
-abbrev pub listed : Option (Name × Entry) → View
-listed None = []
-listed (Some row) = row ∷ []

@@ -18,10 +18,10 @@ ghost use Rattle.client_records.specs.Record.{IsRecord};
 
 use crate::answer::Answer;
 use crate::client_record::ClientRecord;
-use crate::marks::{enter_all, is_on, renew_all};
 use core_model::Refusal;
 use hmr_types::{ModName, Sequence, Table};
 use module_graph::{View, copy_name};
+use page_marks::{enter_all, is_on, renew_all};
 use page_plan::Applied;
 use prune_list::unreached;
 use std::alloc::{AllocError, Global};

@@ -6,10 +6,10 @@ ghost use Rattle.core_model.specs.Sources.{Sources};
 ghost use Rattle.core_model.specs.View.{table_of};
 ghost use Rattle.client_records.specs.Record.{IsRecord, is_at_rest};
 
-use crate::versions::versions_of;
 use client_queue::ClientQueue;
 use hmr_types::{ModName, PlanKind, Sequence, Table};
 use module_graph::View;
+use page_marks::versions_of;
 use page_plan::Plan;
 use std::alloc::{AllocError, Global};
 use std::marker::Model;

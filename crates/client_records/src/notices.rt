@@ -6,8 +6,8 @@ ghost use Rattle.core_model.specs.Sources.{Sources};
 ghost use Rattle.client_records.specs.Record.{IsRecord, SameBut};
 
 use crate::client_record::ClientRecord;
-use crate::marks::{differs, set_mark};
 use hmr_types::{ModName, TextFault};
+use page_marks::{differs, set_mark};
 use std::alloc::AllocError;
 use version_map::VersionMap;
 

@@ -16,9 +16,9 @@ ghost use Rattle.client_records.specs.Made.{HasMade};
 ghost use Rattle.client_records.specs.Record.{IsRecord};
 
 use crate::client_record::{ClientRecord, none_left};
-use crate::marks::renew_all;
 use hmr_types::{ModName, Sequence, Table};
 use module_graph::View;
+use page_marks::renew_all;
 use page_plan::{Plan, Renewed, put_first, put_in_place};
 use std::alloc::{AllocError, Global};
 use version_map::VersionMap;

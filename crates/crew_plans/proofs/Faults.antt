@@ -4,7 +4,7 @@ use Rattle.std.proofs.lemmas.Bool.{or_cases, or_left}
 use Rattle.hmr_base.specs.Causes.{Rose}
 use Rattle.std.specs.Prelude.{List}
 use Rattle.hmr_hub.specs.declared.pass.Pass.{Pass}
-use Rattle.serve_reports.specs.declared.log.Log.{Log}
+use Rattle.sessions.specs.declared.log.Log.{Log}
 use Rattle.crew_plans.specs.declared.gathered.Gathered.{Gathered}
 use Rattle.crew_plans.specs.Gathers.{Gathers, SameGathered, TakenIn}
 

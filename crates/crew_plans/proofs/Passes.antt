@@ -4,8 +4,8 @@ use Rattle.std.specs.Prelude.{Result, Ok, Err, OnOk}
 use Rattle.hmr_hub.specs.declared.pass.Pass.{Pass}
 use Rattle.hmr_hub.specs.Calls.{SameSeen}
 use Rattle.hmr_hub.specs.Passes.{HasTranscript, roots_of, seen_of}
-use Rattle.hmr_hub.specs.Transcripts.{IsTranscript}
-use Rattle.hub_moves.proofs.Moves.{moved_no_more, moved_none, moved_split}
+use Rattle.transcripts.specs.Transcripts.{IsTranscript}
+use Rattle.hmr_hub.proofs.Moves.{moved_no_more, moved_none, moved_split}
 use Rattle.crew_plans.specs.declared.cause.Cause.TheVariants.{Spent}
 use Rattle.crew_plans.specs.Splits.{Divided, IsSpentBy}
 

@@ -7,8 +7,8 @@ use Rattle.hmr_base.specs.Causes.{Rose}
 use Rattle.hmr_hub.specs.declared.pass.Hub.{Hub}
 use Rattle.hmr_hub.specs.declared.pass.Pass.{Pass}
 use Rattle.hmr_hub.specs.Passes.{IsPassOf, seen_of}
-use Rattle.hub_moves.specs.Fullness.{IsNearlyFull}
-use Rattle.serve_reports.specs.declared.log.Log.{Log}
+use Rattle.hmr_hub.specs.Fullness.{IsNearlyFull}
+use Rattle.sessions.specs.declared.log.Log.{Log}
 use Rattle.crew_plans.specs.declared.gathered.Gathered.{Gathered}
 
 -- some pass has seen a transcript that has no place for a message of full size

@@ -2,4 +2,4 @@
 pub use Rattle.hmr_hub.specs.declared.pass.Hub.{Hub}
 pub use Rattle.hmr_hub.specs.declared.pass.Pass.{Pass}
 pub use Rattle.hmr_hub.specs.Passes.{IsPassOf, all_given, hub_mark, seen_of}
-pub use Rattle.serve_reports.specs.declared.log.Log.{Log}
+pub use Rattle.sessions.specs.declared.log.Log.{Log}

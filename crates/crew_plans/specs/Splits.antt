@@ -6,7 +6,7 @@ use Rattle.hmr_base.specs.declared.out_fault.OutFault.{OutFault}
 use Rattle.hmr_base.specs.declared.out_fault.OutFault.TheVariants.{Failed, NoMemory as NoMemoryOutside}
 use Rattle.hmr_hub.specs.declared.pass.Pass.{Pass}
 use Rattle.hmr_hub.specs.Passes.{HasTranscript}
-use Rattle.hub_moves.specs.Moves.{Moved}
+use Rattle.hmr_hub.specs.Moves.{Moved}
 use Rattle.crew_plans.specs.declared.cause.Cause.{Cause}
 use Rattle.crew_plans.specs.declared.cause.Cause.TheVariants.{Fault, NoMemory, Spent}
 

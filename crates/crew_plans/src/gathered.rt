@@ -2,7 +2,7 @@
 ghost use Rattle.std.specs.Prelude.{◌≡◌, ◌||◌, [], false, vec_len};
 
 use hmr_hub::Pass;
-use serve_reports::Log;
+use sessions::Log;
 use std::alloc::Global;
 
 /// What jobs that ended have left. How they ended is told by `memory`, `full` and `fault` alone: a session

@@ -7,11 +7,11 @@ ghost use Rattle.module_semantics.specs.Analysis.{transformed};
 ghost use Rattle.module_semantics.specs.ModuleText.{parsing};
 ghost use Rattle.core_model.specs.Formed.{IsFormedOutcome, IsName};
 ghost use Rattle.core_model.specs.Transcript.{IsTrueEvent};
-ghost use Rattle.server_core.specs.Said.{event_of};
+ghost use Rattle.events_and_replies.specs.Said.{event_of};
 ghost use Rattle.event_facts.specs.Tellable.{IsTellable};
 
+use events_and_replies::Event;
 use hmr_types::{ModName, Outcome, Table, Ver};
-use server_core::Event;
 use transforms::Transformed;
 
 /// The event is one that a record can tell: its names are names, its table is a table, and the place of a fault

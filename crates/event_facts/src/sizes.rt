@@ -3,10 +3,10 @@
 ghost use Rattle.std.specs.Prelude.{◌≤◌, ◌<◌, ◌+◌, ◌-◌, length, sum_by};
 ghost use Rattle.std.specs.Option.{SomeIff};
 ghost use Rattle.core_model.specs.Transcript.{event_bytes, most_entries};
-ghost use Rattle.server_core.specs.Said.{event_of};
+ghost use Rattle.events_and_replies.specs.Said.{event_of};
 
+use events_and_replies::Event;
 use hmr_types::{ModName, Ver};
-use server_core::Event;
 
 /// The most bytes of a transcript: 256 MiB.
 pub const MOST_BYTES: usize = 268_435_456;

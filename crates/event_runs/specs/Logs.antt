@@ -3,8 +3,8 @@ use Rattle.std.specs.Prelude.{◌≡◌, ◌≤◌, ◌+◌, ℕ, Bool, true, fa
 use Rattle.std.specs.Prelude.{map, length, Option, Some, None, ⊤}
 use Rattle.core_model.specs.Core as model
 use Rattle.core_model.specs.Transcript.{most_bytes, most_entries}
-use Rattle.server_core.specs.Said.{event_of}
-use Rattle.server_core.specs.declared.event.Event.{Event}
+use Rattle.events_and_replies.specs.Said.{event_of}
+use Rattle.events_and_replies.specs.declared.event.Event.{Event}
 use Rattle.record_laws.specs.Bounds.{past_bytes}
 use Rattle.world_model.specs.World.{Step}
 use Rattle.world_model.specs.Steps.{world_after}

@@ -3,12 +3,12 @@ ghost use Rattle.std.specs.Prelude.{◌≡◌, ◌≤◌, ◌<◌, ◌-◌, ◌+
 ghost use Rattle.std.specs.Option.{SomeIff};
 ghost use Rattle.core_model.specs.Core as model;
 ghost use Rattle.core_model.specs.Transcript.{most_entries};
-ghost use Rattle.server_core.specs.Said.{event_of};
+ghost use Rattle.events_and_replies.specs.Said.{event_of};
 ghost use Rattle.record_laws.specs.Bounds.{entry_bytes};
 ghost use Rattle.event_runs.specs.Logs.{IsLogOf, is_on};
 
 use event_facts::{MOST_BYTES, after_entry, left_after};
-use server_core::Event;
+use events_and_replies::Event;
 use std::alloc::{AllocError, Global};
 
 /// The events that the core is told in the steps of a world, as far as they have places in a transcript.

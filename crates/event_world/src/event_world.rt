@@ -7,7 +7,7 @@ ghost use Rattle.world_parts.specs.Steps as plain_steps;
 ghost use Rattle.world_parts.specs.Steps.{step_of};
 ghost use Rattle.world_parts.specs.Stops.{AreLines};
 ghost use Rattle.world_parts.specs.declared.stop.WorldStop.TheVariants.{InstancesFull};
-ghost use Rattle.server_core.specs.Said.{event_of};
+ghost use Rattle.events_and_replies.specs.Said.{event_of};
 ghost use Rattle.world_laws.specs.Runs.{Run};
 ghost use Rattle.event_runs.specs.CoreEvents.{core_event_in};
 ghost use Rattle.event_runs.specs.Courses.{emits, hears, plain};
@@ -19,13 +19,13 @@ ghost use Rattle.event_world.specs.Logs.{IsLogged};
 ghost use Rattle.event_world.specs.Standing.{IsRunning, IsStepped, KeepsWords, NoneIsOpen, StandsFor};
 
 use event_runs::{EventLog, EventStep, behind, full_lines, pass, passage_of};
+use events_and_replies::Event;
 use hmr_types::{ClientId, ModName, Value};
 use hmr_world::World;
 use hot_events::Waiting;
 use output_lines::OutLine;
 use retained_data::{Bag, Ran};
 use run_promises::what_is_promised_of_runs;
-use server_core::Event;
 use std::alloc::{AllocError, Global};
 use world_parts::{Step, WorldStop, one_line};
 

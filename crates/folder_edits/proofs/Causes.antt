@@ -9,8 +9,8 @@ use Rattle.folder_watch.specs.declared.scan_stop.ScanStop.TheVariants as scans
 use Rattle.core_model.specs.Transcript.{Recorded}
 use Rattle.hmr_hub.specs.declared.pass.Pass.{Pass}
 use Rattle.hmr_hub.specs.Passes.{all_given, seen_of}
-use Rattle.hub_moves.specs.Moves.{Moved}
-use Rattle.hub_moves.proofs.Fullness.{nearly_full_moved}
+use Rattle.hmr_hub.specs.Moves.{Moved}
+use Rattle.hmr_hub.proofs.Fullness.{nearly_full_moved}
 use Rattle.hub_editor.specs.Causes as editing
 use Rattle.hub_editor.specs.declared.stop.EditStop.{EditStop}
 use Rattle.hub_editor.specs.declared.stop.EditStop.TheVariants as edits

@@ -15,7 +15,7 @@ use Rattle.folder_watch.specs.declared.scan_stop.ScanStop.{ScanStop}
 use Rattle.folder_watch.specs.declared.scan_stop.ScanStop.TheVariants as scans
 use Rattle.hmr_hub.specs.declared.pass.Pass.{Pass}
 use Rattle.hmr_hub.specs.Passes.{HasTranscript, number_of, seen_of}
-use Rattle.hub_moves.specs.Moves.{Moved}
+use Rattle.hmr_hub.specs.Moves.{Moved}
 use Rattle.hub_editor.specs.Causes.{IsRoomStop, IsStopBy, IsStopFor}
 use Rattle.hub_editor.specs.Edits.{Answer, Edit, Made, answered_edit, edit_of, edits_in, text_in}
 use Rattle.hub_editor.specs.Editing.{Edited, SameEdits, StoppedAt}

@@ -19,10 +19,10 @@ use Rattle.hmr_hub.specs.declared.pass.Hub.{Hub}
 use Rattle.hmr_hub.specs.declared.pass.Pass.{Pass}
 use Rattle.hmr_hub.specs.Calls.{IsFirst, SameKnower}
 use Rattle.hmr_hub.specs.Passes.{HasTranscript, IsPassOf, all_given, known_of, number_of, roots_of, seen_of}
-use Rattle.hub_moves.specs.Fullness.{IsNearlyFull}
-use Rattle.hub_moves.specs.Moves.{KnowsOwn, Moved, own_of}
-use Rattle.hub_moves.proofs.Fullness.{nearly_full_longer}
-use Rattle.hub_moves.proofs.Moves.{knows_first, moved_no_more, moved_none}
+use Rattle.hmr_hub.specs.Fullness.{IsNearlyFull}
+use Rattle.hmr_hub.specs.Moves.{KnowsOwn, Moved, own_of}
+use Rattle.hmr_hub.proofs.Fullness.{nearly_full_longer}
+use Rattle.hmr_hub.proofs.Moves.{knows_first, moved_no_more, moved_none}
 use Rattle.hub_editor.specs.Edits.{Edit, Made, edit_entry}
 use Rattle.hub_editor.specs.Editing.{AreAnswered, HaveLastResults, entries_of}
 use Rattle.hub_editor.specs.Openings.{jobs_after, opening}
@@ -31,7 +31,7 @@ use Rattle.hub_editor.proofs.Steps.{answers_moved, edited_none, own_moved, resul
 use Rattle.crew_plans.specs.declared.gathered.Gathered.{Gathered}
 use Rattle.crew_plans.specs.Gathers.{SomeFull}
 use Rattle.serve_reports.specs.Within.{IsWithin}
-use Rattle.serve_reports.specs.declared.log.Log.{Log}
+use Rattle.crew_plans.specs.Hubs.{Log}
 use Rattle.serve_reports.specs.Logs.{log_lines}
 use Rattle.serve_reports.specs.Texts.{report_text}
 use Rattle.hmr_hub.specs.Reports.{report_of}

@@ -4,7 +4,7 @@ use Rattle.std.specs.Prelude.{Option, Result, Ok, Err, OnOk, IsOk, IsErrOf, IfEr
 use Rattle.hmr_base.specs.Causes.{Rose}
 use Rattle.hmr_hub.specs.declared.pass.Pass.{Pass}
 use Rattle.hmr_hub.specs.Passes.{HasTranscript, number_of}
-use Rattle.hub_moves.specs.Moves.{Moved}
+use Rattle.hmr_hub.specs.Moves.{Moved}
 use Rattle.hub_editor.specs.Edits.{Edit, Made}
 use Rattle.hub_editor.specs.Editing.{Edited, HaveLastResults, SameEdits}
 use Rattle.hub_editor.specs.declared.stop.EditStop.TheVariants as edits

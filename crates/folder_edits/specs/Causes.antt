@@ -6,7 +6,7 @@ use Rattle.core_model.specs.Names.{Name}
 use Rattle.folder_watch.specs.declared.scan_stop.ScanStop.TheVariants as scans
 use Rattle.hmr_hub.specs.declared.pass.Pass.{Pass}
 use Rattle.hmr_hub.specs.Passes.{HasTranscript, all_given, roots_of, seen_of}
-use Rattle.hub_moves.specs.Fullness.{IsNearlyFull}
+use Rattle.hmr_hub.specs.Fullness.{IsNearlyFull}
 use Rattle.hub_editor.specs.Causes.{HasRefused}
 use Rattle.hub_editor.specs.declared.stop.EditStop.TheVariants as edit_stops
 use Rattle.folder_edits.specs.declared.stop.Limit.{Limit}

@@ -17,8 +17,8 @@ use Rattle.hmr_hub.specs.declared.pass.Pass.{Pass}
 use Rattle.hmr_hub.specs.declared.report_line.ReportLine.TheVariants.{Line}
 use Rattle.hmr_hub.specs.Passes.{HasTranscript, IsPassOf, all_given, number_of, roots_of, seen_of}
 use Rattle.hmr_hub.specs.Reports.{report_of}
-use Rattle.hub_moves.specs.Fullness.{IsNearlyFull}
-use Rattle.hub_moves.specs.Moves.{Moved}
+use Rattle.hmr_hub.specs.Fullness.{IsNearlyFull}
+use Rattle.hmr_hub.specs.Moves.{Moved}
 use Rattle.hub_editor.specs.Edits.{Edit, Made, jobs_at_end}
 use Rattle.hub_editor.specs.Editing.{AreAnswered, HaveLastResults, entries_of}
 use Rattle.hub_editor.specs.Openings.{AreAccepted, opening}
@@ -29,7 +29,7 @@ use Rattle.record_laws.specs.Sound.{rests_behind}
 use Rattle.record_laws.specs.Written.{lines_told, record_told}
 use Rattle.record_laws.specs.declared.verdict.Verdict.TheVariants.{Yes}
 use Rattle.crew_plans.specs.declared.gathered.Gathered.{Gathered}
-use Rattle.serve_reports.specs.declared.log.Log.{Log}
+use Rattle.crew_plans.specs.Hubs.{Log}
 use Rattle.serve_reports.specs.Logs.{log_lines}
 use Rattle.serve_reports.specs.Texts.{report_text}
 use Rattle.folder_edits.specs.declared.stop.Limit.TheVariants.{Transcript}

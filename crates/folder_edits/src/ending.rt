@@ -4,7 +4,7 @@ ghost use Rattle.hmr_base.specs.Causes.{Rose};
 ghost use Rattle.hmr_hub.specs.Passes.{HasTranscript, IsPassOf, roots_of, seen_of};
 ghost use Rattle.hmr_hub.specs.declared.report_line.ReportLine.{ReportLine};
 ghost use Rattle.hmr_hub.specs.declared.report_line.ReportLine.TheVariants.{Steps};
-ghost use Rattle.hub_moves.specs.Moves.{KnowsOwn};
+ghost use Rattle.hmr_hub.specs.Moves.{KnowsOwn};
 ghost use Rattle.crew_plans.specs.Gathers.{IsGathered};
 ghost use Rattle.serve_reports.specs.Texts.{report_text};
 ghost use Rattle.folder_edits.specs.Serving.{EndsReported, IsConfirmedPart, WroteEarly};

@@ -8,7 +8,7 @@ ghost use Rattle.transform_pool.specs.Roles.{putting};
 ghost use Rattle.hmr_hub.specs.Calls.{SameKnower};
 ghost use Rattle.hmr_hub.specs.Passes.{HasTranscript, IsPassOf, all_given, number_of};
 ghost use Rattle.hmr_hub.specs.declared.pass.Pass.{Pass};
-ghost use Rattle.hub_moves.specs.Moves.{KnowsOwn};
+ghost use Rattle.hmr_hub.specs.Moves.{KnowsOwn};
 ghost use Rattle.hub_editor.specs.Edits.{edits_in, length_of};
 ghost use Rattle.hub_editor.specs.Editing.{Edited, HaveLastResults, SameEdits, made_by};
 ghost use Rattle.folder_edits.specs.Causes.{IsSettleCause, IsWorkCause};

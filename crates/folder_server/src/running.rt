@@ -10,7 +10,7 @@ ghost use Rattle.jobs.specs.Begun.{none_begun};
 ghost use Rattle.transform_pool.specs.Passes as pool;
 ghost use Rattle.transform_pool.specs.Roles.{putting};
 ghost use Rattle.hmr_hub.specs.Passes.{HasTranscript, IsPassOf, all_given, number_of};
-ghost use Rattle.hub_moves.specs.Moves.{KnowsOwn};
+ghost use Rattle.hmr_hub.specs.Moves.{KnowsOwn};
 ghost use Rattle.hub_editor.specs.Edits.{Made, edits_in, length_of};
 ghost use Rattle.crew_plans.specs.Gathers.{IsGathered};
 ghost use Rattle.folder_edits.specs.Causes.{IsWorkCause};

@@ -3,14 +3,14 @@ use Rattle.std.proofs.Common.{◌≡◌, ℕ, Bool, false, ◌++◌, ap, sym, �
 use Rattle.std.specs.Prelude.{Result}
 use Rattle.update_msgs.specs.declared.desk.HubStop.{HubStop}
 use Rattle.core_model.specs.Core.{Event}
-use Rattle.server_core.specs.declared.event.Reply.{Reply}
+use Rattle.events_and_replies.specs.declared.event.Reply.{Reply}
 use Rattle.turn_lock.specs.Histories.{grown}
 use Rattle.hmr_hub.specs.declared.hub_reply.HubReply.{HubReply}
 use Rattle.hmr_hub.specs.declared.hub_reply.HubReply.TheVariants as hub_reply
 use Rattle.hmr_hub.specs.Outcomes.{Answers, IsAnswer, IsOutcome, is_recorded}
 use Rattle.hmr_hub.specs.Questions.{Asked, tell, transcript_of, history_of}
 use Rattle.hmr_hub.specs.Recordings.{Recording}
-use Rattle.hmr_hub.specs.Transcripts.{IsTranscript, recorded}
+use Rattle.transcripts.specs.Transcripts.{IsTranscript, recorded}
 use Rattle.hmr_hub.proofs.Histories.{transcript_more, transcript_of_history}
 
 module _ (opening value : Recording) (by : ℕ) (same : value.roots ≡ opening.roots) where

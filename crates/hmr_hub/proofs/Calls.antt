@@ -10,9 +10,9 @@ use Rattle.update_msgs.specs.declared.desk.HubStop.TheVariants.{TranscriptFull, 
 use Rattle.core_model.specs.Names.{Name}
 use Rattle.core_model.specs.Core.{Event}
 use Rattle.core_model.specs.Transcript.{Recorded, events_of, reply_after}
-use Rattle.server_core.specs.declared.event.Event as server
-use Rattle.server_core.specs.declared.event.Reply.{Reply}
-use Rattle.server_core.specs.Said.{IsWritten, event_of, said}
+use Rattle.events_and_replies.specs.declared.event.Event as server
+use Rattle.events_and_replies.specs.declared.event.Reply.{Reply}
+use Rattle.events_and_replies.specs.Said.{IsWritten, event_of, said}
 use Rattle.turn_lock.specs.Calls as lock
 use Rattle.turn_lock.specs.Histories.{Past, calls, grown}
 use Rattle.turn_lock.specs.Passes.{pass_view}
@@ -29,7 +29,7 @@ use Rattle.hmr_hub.specs.Outcomes.{Answers, IsAnswer, IsEventsTold, IsOutcome, I
 use Rattle.hmr_hub.specs.Passes.{HasTranscript, known_of, mark_of, number_of, roots_of, seen_of, is_alone}
 use Rattle.hmr_hub.specs.Questions.{Asked, tell, outstanding, report, events, transcript_of}
 use Rattle.hmr_hub.specs.Recordings.{Recording, roots_in}
-use Rattle.hmr_hub.specs.Transcripts.{IsTranscript, is_full, is_outstanding, recorded}
+use Rattle.transcripts.specs.Transcripts.{IsTranscript, is_full, is_outstanding, recorded}
 use Rattle.hmr_hub.proofs.Histories.{calls_transcript, grown_not, past_transcript, transcript_more}
 use Rattle.hmr_hub.proofs.Legal.{same_entries}
 

@@ -4,14 +4,14 @@ use Rattle.std.specs.Prelude.{cond, Result, Ok, Err}
 use Rattle.std.proofs.lemmas.List.{append-nil, map-append, reverse-append}
 use Rattle.std.proofs.lemmas.Grind.{flat_map-append}
 use Rattle.update_msgs.specs.declared.desk.HubStop.{HubStop}
-use Rattle.server_core.specs.declared.event.Reply.{Reply}
+use Rattle.events_and_replies.specs.declared.event.Reply.{Reply}
 use Rattle.core_model.specs.Core.{Event}
 use Rattle.core_model.specs.Transcript.{Recorded, events_of}
 use Rattle.turn_lock.specs.Histories.{Past, calls, grown, has}
 use Rattle.turn_lock.proofs.Histories.{calls_append}
 use Rattle.hmr_hub.specs.Outcomes.{is_recorded}
 use Rattle.hmr_hub.specs.Questions.{Asked, tell, outstanding, report, events, entry_in, transcript_of, history_of}
-use Rattle.hmr_hub.specs.Transcripts.{past_of, recorded}
+use Rattle.transcripts.specs.Transcripts.{past_of, recorded}
 
 -- the events, newest first, with one entry more
 pub past_more : (entries : List Recorded) (by : ℕ) (event : Event) → past_of (entries ++ (by, event) ∷ []) ≡ event ∷ past_of entries

@@ -12,7 +12,7 @@ use Rattle.core_model.specs.Roots.{AreRoots}
 use Rattle.core_model.specs.Formed.{IsFormed}
 use Rattle.core_model.specs.Core.{Event}
 use Rattle.core_model.specs.Transcript.{IsTrueEvent, Recorded, event_bytes, events_of, most_bytes, most_entries, transcript_bytes}
-use Rattle.hmr_hub.specs.Transcripts.{IsTranscript, entry_bytes, is_full, may_make}
+use Rattle.transcripts.specs.Transcripts.{IsTranscript, entry_bytes, is_full, may_make}
 
 -- the transcript has a place for the event
 pub record HasPlace (entries : List Recorded) (event : Event) : Type 0 where

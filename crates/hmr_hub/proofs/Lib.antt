@@ -1,10 +1,11 @@
 pub mod Answering
+pub mod Answers
 pub mod Calls
-pub mod EventForms
+pub mod Fullness
 pub mod Histories
 pub mod Legal
 pub mod Lines
+pub mod Moves
 pub mod Paging
 pub mod Rooting
 pub mod Sounding
-pub mod Weights

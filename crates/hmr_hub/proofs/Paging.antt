@@ -16,7 +16,7 @@ use Rattle.core_model.specs.View.{table_of}
 use Rattle.core_model.specs.Core.{Core, Event, change, connect, request, disconnect, client_at, without_client, core_after, step, told_of, requested, disconnected, connected, if_room, admitted, is_full}
 use Rattle.core_model.proofs.Clients.{at_each, at_with, at_without}
 use Rattle.server_core.specs.Reading.{page_of}
-use Rattle.server_core.specs.Said.{said}
+use Rattle.events_and_replies.specs.Said.{said}
 use Rattle.hmr_hub.specs.Pages.{ArePages, IsPage, Page, last_page}
 use Rattle.hmr_hub.specs.Passages.{IsComing, IsStaying, is_to}
 

@@ -6,8 +6,8 @@ use Rattle.std.proofs.lemmas.Bool.{cases_Bool, ltb-true, ltb-false}
 use Rattle.hmr_types.specs.declared.limits.TheConstants.{ROOTS}
 use Rattle.core_model.specs.Names.{Name}
 use Rattle.core_model.specs.Roots.{AreRoots, are_distinct}
-use Rattle.server_core.specs.declared.event.NewFault.{NewFault}
-use Rattle.server_core.specs.declared.event.NewFault.TheVariants.{DuplicateRoot, NoRoots, TooManyRoots}
+use Rattle.server_core.specs.declared.new_fault.NewFault.{NewFault}
+use Rattle.server_core.specs.declared.new_fault.NewFault.TheVariants.{DuplicateRoot, NoRoots, TooManyRoots}
 use Rattle.hmr_hub.specs.declared.pass.HubFault.TheVariants.{Roots}
 use Prim.{⊥}
 

@@ -8,7 +8,7 @@ use Rattle.core_model.specs.Core.{Event}
 use Rattle.core_model.specs.Transcript.{IsTrueEvent, Recorded}
 use Rattle.server_core.specs.Kept.{Kept, StandsFor}
 use Rattle.hmr_hub.specs.Pages.{ArePages, Page}
-use Rattle.hmr_hub.specs.Transcripts.{IsTranscript, may_make, past_of}
+use Rattle.transcripts.specs.Transcripts.{IsTranscript, may_make, past_of}
 use Rattle.hmr_hub.proofs.Histories.{past_more}
 use Rattle.hmr_hub.proofs.Legal.{HasPlace, one_more}
 

@@ -6,14 +6,14 @@ use Rattle.core_model.specs.Core.{Event}
 use Rattle.core_model.specs.Transcript.{Recorded, reply_after}
 use Rattle.update_msgs.specs.declared.desk.HubStop.{HubStop}
 use Rattle.update_msgs.specs.declared.desk.HubStop.TheVariants.{TranscriptFull}
-use Rattle.server_core.specs.declared.event.Reply.{Reply}
-use Rattle.server_core.specs.Said.{IsWritten, said}
+use Rattle.events_and_replies.specs.declared.event.Reply.{Reply}
+use Rattle.events_and_replies.specs.Said.{IsWritten, said}
 use Rattle.turn_lock.specs.Histories.{Past, calls, has}
 use Rattle.turn_lock.specs.Views.{most_numbers}
 use Rattle.hmr_hub.specs.declared.pass.Pass.{Pass}
 use Rattle.hmr_hub.specs.Passes.{all_given, given_of, is_alone, known_of, mark_of, number_of}
 use Rattle.hmr_hub.specs.Passes.{roots_of, seen_of}
-use Rattle.hmr_hub.specs.Transcripts.{is_full, recorded}
+use Rattle.transcripts.specs.Transcripts.{is_full, recorded}
 
 -- the first pass of a hub with these roots
 pub record IsFirst (roots : List Name) (p : Pass) : Type 0 where

@@ -3,7 +3,7 @@ use Rattle.server_core.specs.Kept.{StandsFor}
 use Rattle.hmr_hub.specs.declared.recorded_core.RecordedCore.TheInside.{Inside}
 use Rattle.hmr_hub.specs.Pages.{ArePages}
 use Rattle.hmr_hub.specs.Recordings.{Recording}
-use Rattle.hmr_hub.specs.Transcripts.{IsTranscript, past_of}
+use Rattle.transcripts.specs.Transcripts.{IsTranscript, past_of}
 
 -- the roots of the core, and the transcript
 abbrev pub recording_of : Inside → Recording

@@ -1,5 +1,5 @@
 -- The kinds of questions, as the definitions have them.
-use Rattle.server_core.specs.Said.{event_of}
+use Rattle.events_and_replies.specs.Said.{event_of}
 use Rattle.hmr_hub.specs.declared.question.Kind.{Kind}
 use Rattle.hmr_hub.specs.declared.question.Kind.TheVariants as kind
 use Rattle.hmr_hub.specs.Questions.{Asked, tell, outstanding, report, events, IsAskable}

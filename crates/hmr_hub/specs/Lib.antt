@@ -1,8 +1,9 @@
-pub mod Bounds
+pub mod Answered
 pub mod Calls
+pub mod Fullness
 pub mod Inside
-pub mod KeptEvents
 pub mod Kinds
+pub mod Moves
 pub mod Outcomes
 pub mod Pages
 pub mod Passages
@@ -10,4 +11,3 @@ pub mod Passes
 pub mod Questions
 pub mod Recordings
 pub mod Reports
-pub mod Transcripts

@@ -6,15 +6,15 @@ use Rattle.core_model.specs.Core.{Event}
 use Rattle.core_model.specs.Transcript.{Recorded, events_of, reply_after}
 use Rattle.update_msgs.specs.declared.desk.HubStop.{HubStop}
 use Rattle.update_msgs.specs.declared.desk.HubStop.TheVariants.{TranscriptFull, NoMemory}
-use Rattle.server_core.specs.declared.event.Reply.{Reply}
-use Rattle.server_core.specs.Said.{IsWritten, event_of, said}
+use Rattle.events_and_replies.specs.declared.event.Reply.{Reply}
+use Rattle.events_and_replies.specs.Said.{IsWritten, event_of, said}
 use Rattle.turn_lock.specs.Histories.{grown}
 use Rattle.hmr_hub.specs.declared.hub_reply.HubReply.{HubReply}
 use Rattle.hmr_hub.specs.declared.hub_reply.HubReply.TheVariants as hub_reply
 use Rattle.hmr_hub.specs.Questions.{Asked, tell, outstanding, report, events, transcript_of}
 use Rattle.hmr_hub.specs.Recordings.{Recording}
 use Rattle.hmr_hub.specs.Reports.{report_of}
-use Rattle.hmr_hub.specs.Transcripts.{IsTranscript, is_full, is_outstanding}
+use Rattle.transcripts.specs.Transcripts.{IsTranscript, is_full, is_outstanding}
 
 -- the reply is the step's after the transcript, which had a place for the event, and can be written
 pub record IsReply (roots : List Name) (before : List Recorded) (event : Event)

@@ -2,8 +2,8 @@
 use Rattle.std.specs.Prelude.{◌≡◌, Bool, true, false, ⊤, Some, None}
 use Prim.{⊥}
 use Rattle.core_model.specs.Core.{Core, Event, change, connect, request, disconnect}
-use Rattle.server_core.specs.declared.event.Reply.{Reply}
-use Rattle.server_core.specs.declared.event.Reply.TheVariants as replies
+use Rattle.events_and_replies.specs.declared.event.Reply.{Reply}
+use Rattle.events_and_replies.specs.declared.event.Reply.TheVariants as replies
 use Rattle.server_core.specs.Reading.{page_of}
 use Rattle.hmr_hub.specs.declared.passage.Passage.{Passage}
 use Rattle.hmr_hub.specs.declared.passage.Passage.TheVariants.{Comes, Goes, Stays}

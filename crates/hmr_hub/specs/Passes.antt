@@ -8,7 +8,7 @@ use Rattle.hmr_hub.specs.declared.pass.Hub.{Hub}
 use Rattle.hmr_hub.specs.declared.pass.Pass.{Pass}
 use Rattle.hmr_hub.specs.Questions.{transcript_of}
 use Rattle.hmr_hub.specs.Recordings.{roots_in}
-use Rattle.hmr_hub.specs.Transcripts.{IsTranscript}
+use Rattle.transcripts.specs.Transcripts.{IsTranscript}
 
 -- which hub the pass is of
 abbrev pub mark_of : Pass → TableId

@@ -6,7 +6,7 @@ use Rattle.core_model.specs.Names.{Name}
 use Rattle.core_model.specs.Formed.{IsFormed}
 use Rattle.core_model.specs.Core.{Event}
 use Rattle.core_model.specs.Transcript.{Recorded, IsTrueEvent}
-use Rattle.hmr_hub.specs.Transcripts.{may_make}
+use Rattle.transcripts.specs.Transcripts.{may_make}
 
 -- an event is told; or it is asked whether a name's result hasn't come, for the report, or for the events
 pub data Asked : Type 0 where

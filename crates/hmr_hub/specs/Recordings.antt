@@ -8,11 +8,6 @@ pub record Recording : Type 0 where
   pub roots : List Name
   pub entries : List Recorded
 
--- the transcript, and for how many more entries there is room
-pub record Kept : Type 0 where
-  pub entries : List Recorded
-  pub spare : ℕ
-
 -- the roots of the opening value
 abbrev pub roots_in : Option Recording → List Name
 roots_in None = []

@@ -12,7 +12,7 @@ use Rattle.import_scan.specs.Links.{links}
 use Rattle.hmr_hub.specs.declared.report_line.ReportLine.{ReportLine}
 use Rattle.hmr_hub.specs.declared.report_line.ReportLine.TheVariants.{Steps, Client, Line}
 use Rattle.hmr_hub.specs.Pages.{Page, last_page}
-use Rattle.hmr_hub.specs.Transcripts.{past_of}
+use Rattle.transcripts.specs.Transcripts.{past_of}
 
 -- a module of a client's page
 abbrev pub page_line : Name × ℕ → ReportLine

@@ -1,6 +1,6 @@
 // What the hub replies under the lock.
 use crate::report_line::ReportLine;
-use server_core::{Event, Reply};
+use events_and_replies::{Event, Reply};
 use std::alloc::AllocError;
 use update_msgs::HubStop;
 

@@ -9,7 +9,7 @@ ghost use Rattle.hmr_hub.specs.Recordings.{Recording};
 use crate::hub_reply::HubReply;
 use crate::question::{Kind, Question};
 use crate::recorded_core::RecordedCore;
-use server_core::Reply;
+use events_and_replies::Reply;
 use turn_lock::Keeps;
 use update_msgs::HubStop;
 

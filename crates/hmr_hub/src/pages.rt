@@ -5,14 +5,15 @@ ghost use Rattle.core_model.specs.Core as model;
 ghost use Rattle.core_model.specs.Core.{core_after, step};
 ghost use Rattle.core_model.specs.Names.{Name};
 ghost use Rattle.server_core.specs.Kept.{StandsFor};
-ghost use Rattle.server_core.specs.Said.{event_of, said};
+ghost use Rattle.events_and_replies.specs.Said.{event_of, said};
 ghost use Rattle.hmr_hub.specs.Pages.{ArePages, Page};
 ghost use Rattle.hmr_hub.specs.Passages.{IsPassage, is_to};
 ghost use Rattle.hmr_hub.specs.declared.passage.Passage.TheVariants.{Goes};
 
 use crate::passage::Passage;
+use events_and_replies::{Event, Reply};
 use hmr_types::Table;
-use server_core::{Core, Event, Reply};
+use server_core::Core;
 use std::alloc::{AllocError, Global};
 
 /// What an event will be to the pages of clients. Of a client that goes it copies the page.

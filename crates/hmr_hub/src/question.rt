@@ -1,6 +1,6 @@
 // What is asked under the lock.
+use events_and_replies::Event;
 use hmr_types::ModName;
-use server_core::Event;
 use std::marker::Model;
 
 /// The kinds of questions.

@@ -7,18 +7,18 @@ ghost use Rattle.core_model.specs.Roots.{AreRoots};
 ghost use Rattle.core_model.specs.Transcript.{IsTrueEvent, events_of, most_bytes, reply_after};
 ghost use Rattle.core_model.specs.Transcript.{transcript_bytes};
 ghost use Rattle.server_core.specs.Kept.{StandsFor};
-ghost use Rattle.server_core.specs.Said.{IsWritten, event_of, said};
+ghost use Rattle.events_and_replies.specs.Said.{IsWritten, event_of, said};
 ghost use Rattle.hmr_hub.specs.Outcomes.{IsOutcome};
-ghost use Rattle.hmr_hub.specs.Transcripts.{IsTranscript, entry_bytes, is_full, is_outstanding};
-ghost use Rattle.hmr_hub.specs.Transcripts.{may_make, recorded};
+ghost use Rattle.transcripts.specs.Transcripts.{IsTranscript, entry_bytes, is_full, is_outstanding};
+ghost use Rattle.transcripts.specs.Transcripts.{may_make, recorded};
 
-use crate::kept_event::keep;
 use crate::pages::{note_passage, passage_of};
-use crate::transcript::Transcript;
+use events_and_replies::{Event, Reply};
 use hmr_types::{ModName, Table};
-use server_core::{Core, Event, Reply};
+use server_core::Core;
 use std::alloc::{AllocError, Global};
 use std::marker::Model;
+use transcripts::{Transcript, keep};
 use update_msgs::HubStop;
 
 /// A core, the transcript of what it was told, and the pages of the clients that have gone, by their

@@ -7,7 +7,7 @@ ghost use Rattle.fresh_loads.specs.Fresh.{load_of};
 ghost use Rattle.server_core.specs.Kept.{StandsFor};
 ghost use Rattle.hmr_hub.specs.Pages.{ArePages, IsPage, last_page};
 ghost use Rattle.hmr_hub.specs.Reports.{client_lines, page_line, pages_lines, report_of};
-ghost use Rattle.hmr_hub.specs.Transcripts.{IsTranscript};
+ghost use Rattle.transcripts.specs.Transcripts.{IsTranscript};
 ghost use Rattle.hmr_hub.specs.declared.report_line.ReportLine.TheVariants.{Line};
 
 use crate::recorded_core::RecordedCore;

@@ -9,8 +9,8 @@ use Rattle.core_model.specs.Sources.{Text, edit, EditAnswer, edit_answer}
 use Rattle.core_model.specs.Core as model
 use Rattle.core_model.specs.Core.{change, step}
 use Rattle.module_language.specs.ModuleLanguage.{module_language}
-use Rattle.server_core.specs.declared.event.Reply.{Reply}
-use Rattle.server_core.specs.Said.{said}
+use Rattle.events_and_replies.specs.declared.event.Reply.{Reply}
+use Rattle.events_and_replies.specs.Said.{said}
 use Rattle.world_model.specs.World.{edits}
 use Rattle.world_model.specs.Editing.{edit_line, remove_line, with_job}
 use Rattle.world_laws.specs.Runs.{Run, world_of}

@@ -23,7 +23,7 @@ use Rattle.module_language.specs.ModuleLanguage.{module_language}
 use Rattle.handler_table.specs.Held.{Answers}
 use Rattle.runtime_state.specs.Standing as runtimes
 use Rattle.runtime_state.specs.declared.runtime.HotRuntime.{HotRuntime}
-use Rattle.server_core.specs.declared.event.Reply.{Reply}
+use Rattle.events_and_replies.specs.declared.event.Reply.{Reply}
 use Rattle.world_model.specs.World.{Stepped, opens, stepped}
 use Rattle.world_model.specs.Turning.{lines_taken, open_by, shelf_of}
 use Rattle.world_model.proofs.Tying.{run_sound}

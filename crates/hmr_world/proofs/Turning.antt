@@ -21,9 +21,9 @@ use Rattle.runtime_state.specs.Standing.{StandsFor}
 use Rattle.runtime_state.specs.declared.fault.RuntimeFault.{RuntimeFault}
 use Rattle.runtime_state.specs.declared.fault.RuntimeFault.TheVariants.{Unexpected, Stopped}
 use Rattle.runtime_state.specs.declared.runtime.HotRuntime.{HotRuntime}
-use Rattle.server_core.specs.declared.event.Reply.{Reply}
+use Rattle.events_and_replies.specs.declared.event.Reply.{Reply}
 use Rattle.server_core.specs.Kept.{Kept}
-use Rattle.server_core.specs.Said.{said, IsWritten}
+use Rattle.events_and_replies.specs.Said.{said, IsWritten}
 use Rattle.client_exchange.specs.Replies.{message_in}
 use Rattle.world_model.specs.Ties.{IsUnderstood}
 use Rattle.world_model.specs.Turning.{lines_taken, take_some}

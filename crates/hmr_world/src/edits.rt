@@ -6,10 +6,10 @@ ghost use Rattle.world_laws.specs.Runs.{Run};
 ghost use Rattle.hmr_world.specs.Standing.{IsStepped, StandsFor};
 
 use crate::world::World;
+use events_and_replies::Event;
 use hmr_types::ModName;
 use module_graph::copy_name;
 use output_lines::OutLine;
-use server_core::Event;
 use world_parts::{WorldStop, edit_line, issue, one_line, remove_line, tell};
 
 impl<F> World<F> {

@@ -1,7 +1,7 @@
 // The event that the core is told in a step, where it is told one.
 ghost use Rattle.std.specs.Prelude.{◌≡◌, IfOk};
 ghost use Rattle.std.specs.Option.{option_map};
-ghost use Rattle.server_core.specs.Said.{event_of};
+ghost use Rattle.events_and_replies.specs.Said.{event_of};
 ghost use Rattle.world_model.specs.World.{closes, settles, turn};
 ghost use Rattle.world_laws.specs.Runs.{Run};
 ghost use Rattle.run_promises.specs.Events.{event_in};
@@ -11,8 +11,8 @@ ghost use Rattle.hmr_world.specs.Standing.{IsRunning, StandsFor};
 use crate::clients::client_at;
 use crate::world::World;
 use client_exchange::event_of;
+use events_and_replies::Event;
 use hmr_types::{ClientId, ModName, Ver};
-use server_core::Event;
 use std::alloc::AllocError;
 use world_parts::{Step, edit_to, hello_of, result_for};
 

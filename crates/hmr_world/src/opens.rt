@@ -20,13 +20,13 @@ ghost use Rattle.hmr_world.specs.Standing.{IsRunning, IsStepped, KeepsWords, Sta
 
 use crate::turns::take_answer;
 use crate::world::World;
+use events_and_replies::Event;
 use handler_table::Shelf;
 use hmr_types::{ClientId, ModName, Sequence};
 use module_graph::copy_of;
 use output_lines::OutLine;
 use retained_data::{Bag, Ran};
 use runtime_state::HotRuntime;
-use server_core::Event;
 use std::alloc::{AllocError, Global};
 use update_msgs::ServerMsg;
 use world_parts::{Greeting, WorldStop, one_line, said_to_newcomer, take_shelf, tell};

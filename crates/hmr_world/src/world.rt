@@ -3,8 +3,8 @@ ghost use Rattle.std.specs.Prelude.{◌≡◌, ◌↔◌, ◌<◌, ◌≤◌, []
 ghost use Rattle.core_model.specs.Roots.{are_distinct};
 ghost use Rattle.handler_table.specs.Shelf.{marks_of};
 ghost use Rattle.hmr_types.specs.declared.limits.TheConstants.{ROOTS};
-ghost use Rattle.server_core.specs.declared.event.NewFault.TheVariants.{DuplicateRoot, NoRoots};
-ghost use Rattle.server_core.specs.declared.event.NewFault.TheVariants.{TooManyRoots};
+ghost use Rattle.server_core.specs.declared.new_fault.NewFault.TheVariants.{DuplicateRoot, NoRoots};
+ghost use Rattle.server_core.specs.declared.new_fault.NewFault.TheVariants.{TooManyRoots};
 ghost use Rattle.world_laws.specs.Runs.{Run};
 ghost use Rattle.run_promises.specs.Promises.{KeepsPromises, OthersAreLeftAlone};
 ghost use Rattle.run_promises.specs.RunSteps.{run_on, step_in};

@@ -15,19 +15,19 @@ use Rattle.module_semantics.specs.ModuleText.{parsing}
 use Rattle.core_model.specs.Sources.{edit_answer, result}
 use Rattle.core_model.specs.Core.{Event, change}
 use Rattle.core_model.specs.Transcript.{IsTrueEvent, Recorded, event_bytes, events_of, reply_after}
-use Rattle.server_core.specs.declared.event.Reply.{Reply}
-use Rattle.server_core.specs.Said.{edit_said, said as core_said}
+use Rattle.events_and_replies.specs.declared.event.Reply.{Reply}
+use Rattle.events_and_replies.specs.Said.{edit_said, said as core_said}
 use Rattle.turn_lock.specs.Histories.{calls, has}
 use Rattle.turn_lock.proofs.Histories.{calls_append}
 use Rattle.hmr_hub.specs.declared.pass.Pass.{Pass}
 use Rattle.hmr_hub.specs.Calls.{Called, Looked, SameKnower}
 use Rattle.hmr_hub.specs.Passes.{HasTranscript, is_alone, known_of, number_of, roots_of, seen_of}
-use Rattle.hmr_hub.specs.Transcripts.{recorded}
-use Rattle.hub_moves.specs.Moves.{KnowsOwn, Moved, own_of}
-use Rattle.hub_moves.specs.Answered.{Answered}
-use Rattle.hub_moves.proofs.Moves.{moved_called, moved_looked, moved_none, moved_then}
-use Rattle.hub_moves.proofs.Answers.{answered_called}
-use Rattle.hub_moves.proofs.Fullness.{nearly_full_called}
+use Rattle.transcripts.specs.Transcripts.{recorded}
+use Rattle.hmr_hub.specs.Moves.{KnowsOwn, Moved, own_of}
+use Rattle.hmr_hub.specs.Answered.{Answered}
+use Rattle.hmr_hub.proofs.Moves.{moved_called, moved_looked, moved_none, moved_then}
+use Rattle.hmr_hub.proofs.Answers.{answered_called}
+use Rattle.hmr_hub.proofs.Fullness.{nearly_full_called}
 use Rattle.transform_pool.specs.Tasks.{Task}
 use Rattle.hub_editor.specs.declared.stop.EditStop.{EditStop}
 use Rattle.hub_editor.specs.declared.stop.EditStop.TheVariants as stop

@@ -11,14 +11,14 @@ use Rattle.core_model.specs.Sources.{EditAnswer, Source, Sources, Text, answer_f
 use Rattle.core_model.specs.Names.{Name, at}
 use Rattle.core_model.specs.Transcript.{Recorded}
 use Rattle.version_map.specs.declared.outcome.EditOutcome.TheVariants.{Job, Same, Removed}
-use Rattle.server_core.specs.declared.event.Reply.TheVariants.{Edited as edited_reply}
-use Rattle.server_core.specs.Said.{edit_said}
+use Rattle.events_and_replies.specs.declared.event.Reply.TheVariants.{Edited as edited_reply}
+use Rattle.events_and_replies.specs.Said.{edit_said}
 use Rattle.transform_pool.specs.Tasks.{Task}
 use Rattle.hmr_hub.specs.declared.pass.Pass.{Pass}
 use Rattle.hmr_hub.specs.Calls.{SameKnower}
 use Rattle.hmr_hub.specs.Passes.{HasTranscript, roots_of, seen_of}
-use Rattle.hmr_hub.specs.Transcripts as hub
-use Rattle.hub_moves.specs.Moves.{Moved, own_of}
+use Rattle.transcripts.specs.Transcripts as hub
+use Rattle.hmr_hub.specs.Moves.{Moved, own_of}
 use Rattle.hub_editor.specs.declared.worked.Worked.TheVariants.{AtEnd}
 use Rattle.hub_editor.specs.Edits.{Answer, Edit, Made, edit_of, jobs_from, jobs_of, last_of, reply_of}
 use Rattle.hub_editor.specs.Results.{HasOwnResults, HasResult, last_in, sources_in}

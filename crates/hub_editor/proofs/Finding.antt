@@ -18,8 +18,8 @@ use Rattle.core_model.proofs.Naming.{same_true}
 use Rattle.core_model.proofs.Replaying.{sources_are}
 use Rattle.core_model.proofs.Tables.{at_without, at_with_row}
 use Rattle.version_map.specs.Standing.{outstanding_in}
-use Rattle.hmr_hub.specs.Transcripts as hub
-use Rattle.hmr_hub.specs.Transcripts.{IsTranscript, past_of}
+use Rattle.transcripts.specs.Transcripts as hub
+use Rattle.transcripts.specs.Transcripts.{IsTranscript, past_of}
 use Rattle.transform_pool.specs.Tasks.{Task}
 use Rattle.hub_editor.specs.Results.{HasResult, last_in, result_event, sources_in}
 

@@ -11,12 +11,12 @@ use Rattle.core_model.specs.Core.{Event, change, changes_of, connect, disconnect
 use Rattle.core_model.specs.Transcript.{Recorded, reply_after}
 use Rattle.core_model.proofs.Replaying.{sources_are}
 use Rattle.version_map.specs.declared.outcome.EditOutcome.TheVariants.{Job, Same, Removed}
-use Rattle.server_core.specs.declared.event.Reply.{Reply}
-use Rattle.server_core.specs.declared.event.Reply.TheVariants as replies
-use Rattle.server_core.specs.Said.{edit_said, said}
+use Rattle.events_and_replies.specs.declared.event.Reply.{Reply}
+use Rattle.events_and_replies.specs.declared.event.Reply.TheVariants as replies
+use Rattle.events_and_replies.specs.Said.{edit_said, said}
 use Rattle.turn_lock.specs.Histories.{calls}
 use Rattle.turn_lock.proofs.Histories.{quiet_head, quiet_tail}
-use Rattle.hmr_hub.specs.Transcripts.{is_edit, may_make, past_of}
+use Rattle.transcripts.specs.Transcripts.{is_edit, may_make, past_of}
 use Rattle.hmr_hub.proofs.Histories.{past_more}
 use Rattle.hub_editor.specs.Edits.{Answer, Edit, counted_by, edit_entry, edit_event, reply_of}
 use Rattle.hub_editor.specs.Results.{last_in, sources_in}

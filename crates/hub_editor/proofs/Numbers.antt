@@ -12,8 +12,8 @@ use Rattle.core_model.specs.Core.{Event, change, changes_of, connect, disconnect
 use Rattle.core_model.specs.Transcript.{Recorded, events_of}
 use Rattle.core_model.proofs.LookingBack.{counted_is}
 use Rattle.core_model.proofs.Naming.{and_both}
-use Rattle.server_core.specs.Said.{edit_said}
-use Rattle.hmr_hub.specs.Transcripts.{past_of}
+use Rattle.events_and_replies.specs.Said.{edit_said}
+use Rattle.transcripts.specs.Transcripts.{past_of}
 use Rattle.hub_editor.specs.Edits.{IsEditReply}
 use Rattle.hub_editor.specs.Results.{sources_in}
 

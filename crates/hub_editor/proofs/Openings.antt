@@ -12,13 +12,13 @@ use Rattle.core_model.specs.Sources.{Change, EditAnswer, edit, edit_answer, edit
 use Rattle.core_model.specs.Core.{Event, change, changes_of, connect, disconnect, request}
 use Rattle.core_model.specs.Transcript.{Recorded, events_of}
 use Rattle.version_map.specs.declared.outcome.EditOutcome.TheVariants.{Job, Same, Removed}
-use Rattle.server_core.specs.declared.event.Reply.{Reply}
-use Rattle.server_core.specs.declared.event.Reply.TheVariants as replies
-use Rattle.server_core.specs.Said.{edit_said}
+use Rattle.events_and_replies.specs.declared.event.Reply.{Reply}
+use Rattle.events_and_replies.specs.declared.event.Reply.TheVariants as replies
+use Rattle.events_and_replies.specs.Said.{edit_said}
 use Rattle.transforms.specs.Transform.{Transform}
 use Rattle.hmr_hub.specs.declared.pass.Pass.{Pass}
 use Rattle.hmr_hub.specs.Passes.{is_alone, seen_of}
-use Rattle.hmr_hub.specs.Transcripts.{past_of}
+use Rattle.transcripts.specs.Transcripts.{past_of}
 use Rattle.transform_pool.specs.Results.{result_of}
 use Rattle.transform_pool.specs.Tasks.{Task}
 use Rattle.hub_editor.specs.Edits.{Answer, Edit, IsWorkable, edit_entry, edit_event, edits_in, jobs_from, reply_of, text_in}

@@ -11,14 +11,14 @@ use Rattle.std.proofs.lemmas.List.Elements.{All-cons, All-head, All-nil, All-pus
 use Rattle.std.proofs.lemmas.List.Sorted.{IsPermutation-append_comm, IsPermutation-append_left, IsPermutation-append_right, IsPermutation-refl, IsPermutation-trans, length_permutation}
 use Rattle.core_model.specs.Names.{same_name}
 use Rattle.core_model.specs.Transcript.{Recorded, reply_after}
-use Rattle.server_core.specs.Said.{said}
+use Rattle.events_and_replies.specs.Said.{said}
 use Rattle.turn_lock.specs.Histories.{calls}
 use Rattle.transform_pool.specs.Tasks.{Task}
 use Rattle.hmr_hub.specs.declared.pass.Pass.{Pass}
 use Rattle.hmr_hub.specs.Passes.{is_alone, seen_of}
 use Rattle.version_map.specs.declared.outcome.EditOutcome.TheVariants.{Job, Same, Removed}
-use Rattle.hub_moves.specs.Moves.{Moved, own_of}
-use Rattle.hub_moves.proofs.Moves.{moved_no_more, moved_none, moved_then}
+use Rattle.hmr_hub.specs.Moves.{Moved, own_of}
+use Rattle.hmr_hub.proofs.Moves.{moved_no_more, moved_none, moved_then}
 use Rattle.hub_editor.specs.declared.worked.Worked.{Worked}
 use Rattle.hub_editor.specs.declared.worked.Worked.TheVariants.{No, AtOnce, AtEnd}
 use Rattle.hub_editor.specs.Edits.{Answer, Edit, Made, counted_by, edit_entry, edit_event, edit_of, if_at_end, if_at_once, is_job, is_unworked, is_waiting, jobs_at_end, jobs_from, jobs_of}

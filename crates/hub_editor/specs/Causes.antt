@@ -4,11 +4,11 @@ use Prim.{⊥}
 use Rattle.hmr_types.specs.declared.words.EditRefusal.{EditRefusal}
 use Rattle.hmr_types.specs.declared.words.EditRefusal.TheVariants.{TextTooLong, TooManyNames, SourceTotal}
 use Rattle.hmr_types.specs.declared.words.EditRefusal.TheVariants.{NumbersSpent}
-use Rattle.server_core.specs.declared.event.Reply.TheVariants.{EditRefused}
+use Rattle.events_and_replies.specs.declared.event.Reply.TheVariants.{EditRefused}
 use Rattle.hmr_hub.specs.declared.pass.Pass.{Pass}
 use Rattle.hmr_hub.specs.Passes.{roots_of, seen_of}
-use Rattle.hub_moves.specs.Answered.{Answered}
-use Rattle.hub_moves.specs.Fullness.{IsNearlyFull}
+use Rattle.hmr_hub.specs.Answered.{Answered}
+use Rattle.hmr_hub.specs.Fullness.{IsNearlyFull}
 use Rattle.hub_editor.specs.Edits.{Answer, Edit, edit_event}
 use Rattle.hub_editor.specs.declared.stop.EditStop.{EditStop}
 use Rattle.hub_editor.specs.declared.stop.EditStop.TheVariants.{Text, Names, Sources, Full, NoMemory}

@@ -5,15 +5,15 @@ use Rattle.std.specs.List.Sorted.{IsPermutation}
 use Rattle.core_model.specs.Names.{Name, same_name}
 use Rattle.core_model.specs.Sources.{edit_answer}
 use Rattle.core_model.specs.Transcript.{Recorded, reply_after}
-use Rattle.server_core.specs.Said.{edit_said, said}
+use Rattle.events_and_replies.specs.Said.{edit_said, said}
 use Rattle.turn_lock.specs.Histories.{calls}
 use Rattle.transform_pool.specs.Passes.{HeldLastPut, places}
 use Rattle.transform_pool.specs.Tasks.{Task}
 use Rattle.transform_pool.specs.declared.item.Role.{Role}
 use Rattle.hmr_hub.specs.declared.pass.Pass.{Pass}
 use Rattle.hmr_hub.specs.Passes.{is_alone, number_of, roots_of, seen_of}
-use Rattle.hub_moves.specs.Moves.{Moved, own_of}
-use Rattle.hub_moves.specs.Answered.{Answered}
+use Rattle.hmr_hub.specs.Moves.{Moved, own_of}
+use Rattle.hmr_hub.specs.Answered.{Answered}
 use Rattle.hub_editor.specs.Causes.{IsRoomStop, IsStopBy}
 use Rattle.hub_editor.specs.Edits.{Answer, Edit, Made, answered_edit, counted_by, edit_entry, edit_event}
 use Rattle.hub_editor.specs.Edits.{edit_of, jobs_at_end, jobs_at_once, jobs_of, jobs_put, last_of, reply_of}

@@ -14,8 +14,8 @@ use Rattle.core_model.specs.Core.{Event, change}
 use Rattle.core_model.specs.Transcript.{Recorded}
 use Rattle.version_map.specs.declared.outcome.EditOutcome.{EditOutcome}
 use Rattle.version_map.specs.declared.outcome.EditOutcome.TheVariants.{Job, Same, Removed}
-use Rattle.server_core.specs.declared.event.Reply.{Reply}
-use Rattle.server_core.specs.declared.event.Reply.TheVariants as replies
+use Rattle.events_and_replies.specs.declared.event.Reply.{Reply}
+use Rattle.events_and_replies.specs.declared.event.Reply.TheVariants as replies
 use Rattle.transform_pool.specs.Tasks.{Task}
 use Rattle.hub_editor.specs.declared.worked.Worked.{Worked}
 use Rattle.hub_editor.specs.declared.worked.Worked.TheVariants.{No, AtOnce, AtEnd}

@@ -7,7 +7,7 @@ use Rattle.core_model.specs.Names.{Name}
 use Rattle.core_model.specs.Sources.{Sources, Text, result, sources_after}
 use Rattle.core_model.specs.Core.{Event, change, changes_of}
 use Rattle.core_model.specs.Transcript.{Recorded}
-use Rattle.hmr_hub.specs.Transcripts.{past_of}
+use Rattle.transcripts.specs.Transcripts.{past_of}
 use Rattle.transform_pool.specs.Tasks.{Task}
 use Rattle.hub_editor.specs.Edits.{Made, jobs_of}
 use Rattle.hub_editor.specs.declared.worked.Worked.{Worked}

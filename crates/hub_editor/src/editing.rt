@@ -8,7 +8,7 @@ ghost use Rattle.transform_pool.specs.Roles.{SamePuts};
 ghost use Rattle.hmr_hub.specs.Calls.{SameKnower};
 ghost use Rattle.hmr_hub.specs.declared.pass.Pass.{Pass};
 ghost use Rattle.hmr_hub.specs.Passes.{HasTranscript, IsPassOf, number_of};
-ghost use Rattle.hub_moves.specs.Moves.{KnowsOwn};
+ghost use Rattle.hmr_hub.specs.Moves.{KnowsOwn};
 ghost use Rattle.hub_editor.specs.Causes.{IsCause, IsRoomStop};
 ghost use Rattle.hub_editor.specs.Edits.{has_version, length_of, text_in};
 ghost use Rattle.hub_editor.specs.Editing.{Added, Edited, Fronted, HaveLastResults};

@@ -14,9 +14,9 @@ ghost use Rattle.hub_editor.specs.declared.worked.Worked.TheVariants.{No};
 
 use crate::stop::EditStop;
 use crate::work::Work;
+use events_and_replies::{Event, Reply, copy_text};
 use hmr_hub::{Hub, Pass};
 use hmr_types::{EditRefusal, ModName, Ver};
-use server_core::{Event, Reply, copy_text};
 use std::alloc::Global;
 use std::sync::Wait;
 use transform_pool::TextJob;

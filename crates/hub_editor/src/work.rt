@@ -8,8 +8,8 @@ ghost use Rattle.hub_editor.specs.Edits.{jobs_of, length_of, text_in};
 ghost use Rattle.hub_editor.specs.declared.worked.Worked.TheVariants.{No};
 
 use crate::worked::Worked;
+use events_and_replies::copy_text;
 use hmr_types::{EditRefusal, ModName, Ver};
-use server_core::copy_text;
 use std::alloc::{AllocError, Global};
 use std::marker::Model;
 use transform_pool::TextJob;

@@ -5,7 +5,7 @@ ghost use Rattle.transform_pool.specs.Passes as pool;
 ghost use Rattle.transform_pool.specs.Tasks.{Task};
 ghost use Rattle.hmr_hub.specs.Calls.{SameKnower};
 ghost use Rattle.hmr_hub.specs.Passes.{HasTranscript, IsPassOf, number_of, seen_of};
-ghost use Rattle.hub_moves.specs.Moves.{KnowsOwn};
+ghost use Rattle.hmr_hub.specs.Moves.{KnowsOwn};
 ghost use Rattle.hub_editor.specs.Causes.{IsCause, IsRoomStop, IsStopBy};
 ghost use Rattle.hub_editor.specs.Edits.{IsGiven, jobs_of, jobs_put};
 ghost use Rattle.hub_editor.specs.Results.{HasOwnResults, HasResult, last_in};

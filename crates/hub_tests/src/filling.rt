@@ -3,9 +3,9 @@ ghost use Rattle.std.specs.Prelude.{◌≡◌};
 ghost use Rattle.hmr_hub.specs.Passes.{IsPassOf, number_of};
 
 use crate::noting::note;
+use events_and_replies::{Event, Reply};
 use hmr_hub::{Hub, HubStop, Pass};
 use hmr_types::ModName;
-use server_core::{Event, Reply};
 use std::alloc::Global;
 use std::sync::Wait;
 

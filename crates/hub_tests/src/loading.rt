@@ -2,9 +2,9 @@
 ghost use Rattle.hmr_hub.specs.Passes.{IsPassOf};
 
 use crate::noting::note;
+use events_and_replies::{Event, Reply};
 use hmr_hub::{Hub, HubStop, Pass};
 use hmr_types::{ModName, Table};
-use server_core::{Event, Reply};
 use std::alloc::Global;
 use std::sync::Wait;
 

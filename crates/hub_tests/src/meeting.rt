@@ -1,12 +1,12 @@
 // Two threads with a pass each tell a hub that clients come and go, and their passes are joined again.
 ghost use Rattle.std.specs.Prelude.{◌≡◌, ◌+◌, [], IfSome, IsSome, true};
-ghost use Rattle.server_core.specs.Said.{event_of};
+ghost use Rattle.events_and_replies.specs.Said.{event_of};
 ghost use Rattle.hmr_hub.specs.Passes.{IsPassOf, number_of, seen_of};
-ghost use Rattle.hmr_hub.specs.Transcripts.{HasVersion, may_make};
+ghost use Rattle.transcripts.specs.Transcripts.{HasVersion, may_make};
 ghost use Rattle.hub_tests.specs.Counts.{made_by};
 
+use events_and_replies::{Event, Reply};
 use hmr_hub::{Hub, Pass};
-use server_core::{Event, Reply};
 use std::alloc::Global;
 use std::sync::Wait;
 use std::thread;

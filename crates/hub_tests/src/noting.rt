@@ -1,11 +1,11 @@
 // An event is told, and its reply is noted behind those before.
 ghost use Rattle.std.specs.Prelude.{◌≡◌, true};
-ghost use Rattle.server_core.specs.Said.{event_of};
+ghost use Rattle.events_and_replies.specs.Said.{event_of};
 ghost use Rattle.hmr_hub.specs.Passes.{IsPassOf, number_of};
-ghost use Rattle.hmr_hub.specs.Transcripts.{HasVersion, may_make};
+ghost use Rattle.transcripts.specs.Transcripts.{HasVersion, may_make};
 
+use events_and_replies::{Event, Reply};
 use hmr_hub::{Hub, HubStop, Pass};
-use server_core::{Event, Reply};
 use std::sync::Wait;
 
 /// Tells the hub an event, and adds its reply. Room for it is made before.

@@ -2,9 +2,10 @@
 ghost use Rattle.hmr_hub.specs.Passes.{IsPassOf};
 
 use crate::words::all_said;
+use events_and_replies::{Event, Reply};
 use hmr_hub::{Hub, Pass};
 use hmr_types::ModName;
-use server_core::{Core, Event, Reply};
+use server_core::Core;
 use std::alloc::{AllocError, Global};
 use std::sync::Wait;
 

@@ -3,10 +3,10 @@ ghost use Rattle.std.specs.Prelude.{◌≡◌, ◌+◌, ◌<◌, ◌^◌, length
 ghost use Rattle.core_model.specs.Formed.{IsVersion};
 ghost use Rattle.hmr_hub.specs.Passes.{IsPassOf, number_of};
 
+use events_and_replies::{Event, Reply};
 use hmr_hub::{Hub, HubStop, Pass};
 use hmr_types::{ModName, Ver};
 use import_scan::transform;
-use server_core::{Event, Reply};
 use std::alloc::Global;
 use std::sync::Wait;
 

@@ -1,8 +1,8 @@
 // Replies and the lines of a report as words, so that a test compares all of them at once.
 use core_model::Refusal;
+use events_and_replies::Reply;
 use hmr_hub::ReportLine;
 use output_lines::OutLine;
-use server_core::Reply;
 use std::alloc::{AllocError, Global};
 use update_msgs::ServerMsg;
 use version_map::{EditOutcome, Settled};

@@ -8,16 +8,16 @@ use Rattle.core_model.specs.Core.{Event}
 use Rattle.core_model.specs.Transcript.{Recorded, reply_after}
 use Rattle.update_msgs.specs.declared.desk.HubStop.{HubStop}
 use Rattle.update_msgs.specs.declared.desk.HubStop.TheVariants.{TranscriptFull, NoMemory}
-use Rattle.server_core.specs.declared.event.Reply.{Reply}
-use Rattle.server_core.specs.Said.{said}
+use Rattle.events_and_replies.specs.declared.event.Reply.{Reply}
+use Rattle.events_and_replies.specs.Said.{said}
 use Rattle.turn_lock.specs.Histories.{calls, has}
 use Rattle.turn_lock.proofs.Histories.{calls_append, has_it}
 use Rattle.hmr_hub.specs.declared.pass.Pass.{Pass}
 use Rattle.hmr_hub.specs.Calls.{Called, SameKnower}
 use Rattle.hmr_hub.specs.Passes.{number_of, roots_of, seen_of}
-use Rattle.hmr_hub.specs.Transcripts.{recorded}
-use Rattle.hub_moves.specs.Moves.{Moved, own_of}
-use Rattle.hub_moves.proofs.Moves.{moved_called, moved_none, moved_then}
+use Rattle.transcripts.specs.Transcripts.{recorded}
+use Rattle.hmr_hub.specs.Moves.{Moved, own_of}
+use Rattle.hmr_hub.proofs.Moves.{moved_called, moved_none, moved_then}
 use Rattle.live_desk.specs.Calls.{AreCallsAt, Call, HadNoPlace, HasCalled, IsCallAt, IsRepliedAt, entries_of, entry_of}
 
 -- What is so of a transcript is so of a longer one.

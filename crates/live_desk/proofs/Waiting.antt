@@ -9,7 +9,7 @@ use Rattle.update_msgs.specs.declared.message.ClientMsg.TheVariants as told
 use Rattle.update_msgs.specs.declared.message.ServerMsg.{ServerMsg}
 use Rattle.update_msgs.specs.declared.message.ServerMsg.TheVariants.{Idle}
 use Rattle.core_model.specs.declared.refusal.Refusal.{Refusal}
-use Rattle.server_core.specs.declared.event.Reply.{Reply}
+use Rattle.events_and_replies.specs.declared.event.Reply.{Reply}
 use Rattle.transform_pool.specs.Boards.{full_after}
 use Rattle.session_desks.specs.declared.desk.HubDesk.{HubDesk}
 use Rattle.session_desks.specs.Desks.{Dealt, DealtBy, IsAnswer, Left, LeftBy, SameDesk, refusal_of}

@@ -5,13 +5,13 @@ use Rattle.core_model.specs.Core.{Event}
 use Rattle.core_model.specs.Transcript.{Recorded, reply_after}
 use Rattle.update_msgs.specs.declared.desk.HubStop.{HubStop}
 use Rattle.update_msgs.specs.declared.desk.HubStop.TheVariants.{TranscriptFull, NoMemory}
-use Rattle.server_core.specs.declared.event.Reply.{Reply}
-use Rattle.server_core.specs.Said.{said}
+use Rattle.events_and_replies.specs.declared.event.Reply.{Reply}
+use Rattle.events_and_replies.specs.Said.{said}
 use Rattle.turn_lock.specs.Histories.{calls}
 use Rattle.hmr_hub.specs.declared.pass.Pass.{Pass}
 use Rattle.hmr_hub.specs.Passes.{number_of, roots_of, seen_of}
-use Rattle.hmr_hub.specs.Transcripts.{is_full, recorded}
-use Rattle.hub_moves.specs.Moves.{Moved, own_of}
+use Rattle.transcripts.specs.Transcripts.{is_full, recorded}
+use Rattle.hmr_hub.specs.Moves.{Moved, own_of}
 
 -- an event that the hub was told, and its reply, or why there is none
 abbrev pub Call : Type 0

@@ -9,7 +9,7 @@ use Rattle.update_msgs.specs.declared.message.ServerMsg.TheVariants.{Idle}
 use Rattle.core_model.specs.declared.refusal.Refusal.{Refusal}
 use Rattle.core_model.specs.Core.{disconnect}
 use Rattle.core_model.specs.Exchange.{event_of, refusal_message}
-use Rattle.server_core.specs.declared.event.Reply.{Reply}
+use Rattle.events_and_replies.specs.declared.event.Reply.{Reply}
 use Rattle.session_desks.specs.declared.desk.HubDesk.{HubDesk}
 use Rattle.session_desks.specs.Desks.{IsAnswer, client_with, refusal_of}
 use Rattle.live_desk.specs.Calls.{Call, HasCalled}

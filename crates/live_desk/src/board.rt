@@ -4,7 +4,7 @@ ghost use Rattle.std.proofs.Common.{◌∙◌};
 ghost use Rattle.hmr_types.specs.declared.limits.TheConstants.{MESSAGE_BYTES};
 ghost use Rattle.std.specs.Arc.{arc_value};
 ghost use Rattle.hmr_hub.specs.Passes.{IsPassOf, seen_of};
-ghost use Rattle.hub_moves.specs.Fullness.{IsNearlyFull};
+ghost use Rattle.hmr_hub.specs.Fullness.{IsNearlyFull};
 ghost use Rattle.session_desks.specs.Boards.{has_ended};
 
 use hmr_hub::Pass;

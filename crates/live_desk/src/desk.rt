@@ -6,7 +6,7 @@ ghost use Rattle.hmr_types.specs.declared.limits.TheConstants.{MESSAGE_BYTES};
 ghost use Rattle.update_msgs.specs.Desk.{bytes_of};
 ghost use Rattle.update_msgs.specs.Writable.{IsFormat, IsWritable};
 ghost use Rattle.hmr_hub.specs.Passes.{IsPassOf, seen_of};
-ghost use Rattle.hub_moves.specs.Fullness.{IsNearlyFull};
+ghost use Rattle.hmr_hub.specs.Fullness.{IsNearlyFull};
 
 use crate::dealings::Dealings;
 use crate::exchange::{is_ask, is_change, is_idle};

@@ -13,7 +13,7 @@ use Rattle.turn_lock.proofs.Histories.{calls_still}
 use Rattle.hmr_hub.specs.declared.pass.Pass.{Pass}
 use Rattle.hmr_hub.specs.Calls.{IsHalf}
 use Rattle.hmr_hub.specs.Passes.{number_of, roots_of, seen_of}
-use Rattle.hub_moves.proofs.Moves.{knows_half, knows_moved}
+use Rattle.hmr_hub.proofs.Moves.{knows_half, knows_moved}
 use Rattle.serve_reports.specs.Within.{IsWithin}
 use Rattle.live_desk.specs.Calls.{AreCallsAt, Call, HasCalled, entries_of}
 use Rattle.live_desk.specs.Sessions.{Session, calls_of}

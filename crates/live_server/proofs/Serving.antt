@@ -7,8 +7,8 @@ use Rattle.turn_lock.specs.Histories.{calls}
 use Rattle.hmr_hub.specs.declared.pass.Pass.{Pass}
 use Rattle.hmr_hub.specs.Calls.{IsFirst, Looked, SameKnower}
 use Rattle.hmr_hub.specs.Passes.{HasTranscript, number_of, roots_of, seen_of}
-use Rattle.hub_moves.specs.Moves.{KnowsOwn, own_of}
-use Rattle.hub_moves.proofs.Moves.{knows_moved, moved_looked, moved_no_more}
+use Rattle.hmr_hub.specs.Moves.{KnowsOwn, own_of}
+use Rattle.hmr_hub.proofs.Moves.{knows_moved, moved_looked, moved_no_more}
 use Rattle.hub_editor.specs.Edits.{Made}
 use Rattle.hub_editor.specs.Editing.{AreAnswered, Edited, entries_of}
 use Rattle.hub_editor.specs.Results.{HasOwnResults, result_entry}

@@ -5,7 +5,7 @@ use Rattle.core_model.specs.Names.{Name}
 use Rattle.turn_lock.specs.Histories.{calls}
 use Rattle.hmr_hub.specs.declared.pass.Pass.{Pass}
 use Rattle.hmr_hub.specs.Passes.{number_of, roots_of, seen_of}
-use Rattle.hub_moves.specs.Moves.{KnowsOwn, own_of}
+use Rattle.hmr_hub.specs.Moves.{KnowsOwn, own_of}
 use Rattle.sessions.specs.Course.{Comes}
 use Rattle.sessions.specs.declared.ended.Ended.{Ended}
 use Rattle.live_desk.specs.Calls.{AreCallsAt, HasCalled, entries_of}

@@ -9,7 +9,7 @@ use Rattle.turn_lock.specs.Histories.{calls}
 use Rattle.transform_pool.specs.Tasks.{Task}
 use Rattle.hmr_hub.specs.declared.pass.Pass.{Pass}
 use Rattle.hmr_hub.specs.Passes.{HasTranscript, number_of, roots_of, seen_of}
-use Rattle.hub_moves.specs.Moves.{Moved}
+use Rattle.hmr_hub.specs.Moves.{Moved}
 use Rattle.hub_editor.specs.Edits.{Made, jobs_at_end}
 use Rattle.hub_editor.specs.Editing.{AreAnswered, entries_of}
 use Rattle.hub_editor.specs.Results.{HasOwnResults, result_entry}

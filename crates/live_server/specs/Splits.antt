@@ -2,7 +2,7 @@
 use Rattle.std.specs.Prelude.{[]}
 use Rattle.hmr_hub.specs.declared.pass.Pass.{Pass}
 use Rattle.hmr_hub.specs.Passes.{HasTranscript}
-use Rattle.hub_moves.specs.Moves.{Moved}
+use Rattle.hmr_hub.specs.Moves.{Moved}
 
 -- passes were split off it, and nothing else
 pub record Divided (p q : Pass) : Type 0 where

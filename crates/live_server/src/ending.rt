@@ -3,7 +3,7 @@ ghost use Rattle.std.specs.Prelude.{◌≡◌, All};
 ghost use Rattle.std.specs.Arc.{arc_value};
 ghost use Rattle.core_model.specs.Roots.{AreRoots};
 ghost use Rattle.hmr_hub.specs.Passes.{IsPassOf, roots_of};
-ghost use Rattle.hub_moves.specs.Moves.{KnowsOwn};
+ghost use Rattle.hmr_hub.specs.Moves.{KnowsOwn};
 ghost use Rattle.live_server.specs.Serving.{HasJoined, HasRecord};
 
 use crate::recording::put_record;

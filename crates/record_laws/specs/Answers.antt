@@ -7,9 +7,9 @@ use Rattle.version_map.specs.declared.outcome.EditOutcome.{EditOutcome}
 use Rattle.version_map.specs.declared.outcome.EditOutcome.TheVariants as edits
 use Rattle.version_map.specs.declared.outcome.Settled.{Settled}
 use Rattle.version_map.specs.declared.outcome.Settled.TheVariants as settlings
-use Rattle.server_core.specs.Said.{said}
-use Rattle.server_core.specs.declared.event.Reply.{Reply}
-use Rattle.server_core.specs.declared.event.Reply.TheVariants as replies
+use Rattle.events_and_replies.specs.Said.{said}
+use Rattle.events_and_replies.specs.declared.event.Reply.{Reply}
+use Rattle.events_and_replies.specs.declared.event.Reply.TheVariants as replies
 use Rattle.record_text.specs.Told.{reply_text}
 use Rattle.record_text.specs.declared.reply.RecordReply.{RecordReply}
 use Rattle.record_text.specs.declared.reply.RecordReply.TheVariants as told

@@ -6,7 +6,7 @@ use Rattle.core_model.specs.FreshLoad.{fresh_table, missing_of}
 use Rattle.core_model.specs.Names.{Name}
 use Rattle.core_model.specs.Requests.{Reply, ask}
 use Rattle.core_laws.specs.Reloading.{IsFullReload, IsReloadDue}
-use Rattle.server_core.specs.Said.{said}
+use Rattle.events_and_replies.specs.Said.{said}
 use Rattle.record_text.specs.Told.{reply_text}
 use Rattle.record_laws.specs.Answers.{reply_told}
 

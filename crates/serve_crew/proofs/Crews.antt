@@ -10,12 +10,12 @@ use Rattle.std.proofs.lemmas.List.Elements.{All-append, All-cons, All-nil, All-r
 use Rattle.hmr_base.specs.Causes.{Rose}
 use Rattle.jobs.specs.declared.running.Running.{Running}
 use Rattle.jobs.specs.Ends.{Finished}
-use Rattle.serve_jobs.specs.declared.job.ServeJob.{ServeJob}
-use Rattle.serve_jobs.specs.declared.job.ServeJob.TheVariants.{Worker, Session}
-use Rattle.serve_jobs.specs.declared.job.ServeOut.{ServeOut}
-use Rattle.serve_jobs.specs.declared.job.ServeOut.TheVariants.{Worker as WorkerOut, Session as SessionOut}
-use Rattle.serve_jobs.specs.Outs.{JobOf, OutOf, is_unrun}
-use Rattle.serve_jobs.proofs.Outs.{nearly_full}
+use Rattle.serve_crew.specs.declared.job.ServeJob.{ServeJob}
+use Rattle.serve_crew.specs.declared.job.ServeJob.TheVariants.{Worker, Session}
+use Rattle.serve_crew.specs.declared.job.ServeOut.{ServeOut}
+use Rattle.serve_crew.specs.declared.job.ServeOut.TheVariants.{Worker as WorkerOut, Session as SessionOut}
+use Rattle.serve_crew.specs.Outs.{JobOf, OutOf, is_unrun}
+use Rattle.serve_crew.proofs.Outs.{nearly_full}
 use Rattle.crew_plans.specs.Hubs.{Hub, IsPassOf, Log, Pass, hub_mark, seen_of}
 use Rattle.crew_plans.specs.declared.gathered.Gathered.{Gathered}
 use Rattle.serve_crew.specs.Crews.{GivenUp, IsCrew, RunsOn, Worked}

@@ -4,11 +4,11 @@ use Rattle.std.specs.Prelude.{◌||◌, Result, Ok, Err, OnOk}
 use Rattle.std.proofs.lemmas.List.Sums.{sum_by-append, sum_by-cons}
 use Rattle.transport.specs.declared.link.Link as Link
 use Rattle.transport.specs.Lending.{HasGiven}
-use Rattle.serve_jobs.specs.declared.job.ServeJob.{ServeJob}
-use Rattle.serve_jobs.specs.declared.job.ServeJob.TheVariants.{Worker, Session}
-use Rattle.serve_jobs.specs.declared.job.ServeOut.{ServeOut}
-use Rattle.serve_jobs.specs.declared.job.ServeOut.TheVariants.{Worker as WorkerOut, Session as SessionOut}
-use Rattle.serve_jobs.specs.Outs.{OutOf}
+use Rattle.serve_crew.specs.declared.job.ServeJob.{ServeJob}
+use Rattle.serve_crew.specs.declared.job.ServeJob.TheVariants.{Worker, Session}
+use Rattle.serve_crew.specs.declared.job.ServeOut.{ServeOut}
+use Rattle.serve_crew.specs.declared.job.ServeOut.TheVariants.{Worker as WorkerOut, Session as SessionOut}
+use Rattle.serve_crew.specs.Outs.{OutOf}
 use Rattle.serve_crew.specs.Crews.{ends_of}
 use Rattle.serve_crew.specs.Ends.{ends_back}
 use Rattle.crew_plans.specs.Lendings.{Lends}

@@ -1,3 +1,4 @@
 pub mod Crews
 pub mod Lendings
 mod Emptied
+pub mod Outs

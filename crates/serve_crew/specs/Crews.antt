@@ -5,10 +5,10 @@ use Rattle.std.specs.Global.{Vec}
 use Rattle.transport.specs.declared.link.Link as Link
 use Rattle.jobs.specs.declared.running.Running.{Running}
 use Rattle.jobs.specs.Runs.{Runs, promise_of}
-use Rattle.serve_jobs.specs.declared.job.ServeJob.{ServeJob}
-use Rattle.serve_jobs.specs.declared.job.ServeJob.TheVariants.{Worker, Session}
-use Rattle.serve_jobs.specs.declared.job.ServeOut.{ServeOut}
-use Rattle.serve_jobs.specs.Outs.{HasLeft, IsUntouched, JobOf, OutOf, is_unrun}
+use Rattle.serve_crew.specs.declared.job.ServeJob.{ServeJob}
+use Rattle.serve_crew.specs.declared.job.ServeJob.TheVariants.{Worker, Session}
+use Rattle.serve_crew.specs.declared.job.ServeOut.{ServeOut}
+use Rattle.serve_crew.specs.Outs.{HasLeft, IsUntouched, JobOf, OutOf, is_unrun}
 use Rattle.crew_plans.specs.declared.gathered.Gathered.{Gathered}
 use Rattle.crew_plans.specs.Hubs.{Hub, hub_mark}
 use Rattle.crew_plans.specs.Gathers.{HasRoom, IsGathered}

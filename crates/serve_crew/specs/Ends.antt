@@ -4,9 +4,9 @@ use Rattle.std.specs.Prelude.{Result, Ok, Err, ⊤}
 use Rattle.transport.specs.declared.link.Link as Link
 use Rattle.update_msgs.specs.declared.desk.HubStop.{HubStop}
 use Rattle.update_msgs.specs.declared.desk.HubStop.TheVariants.{TranscriptFull, NoMemory as NoMemoryStop}
-use Rattle.serve_jobs.specs.declared.job.ServeOut.{ServeOut}
-use Rattle.serve_jobs.specs.declared.job.ServeOut.TheVariants.{Worker, Session}
-use Rattle.serve_jobs.specs.Outs.{IsShut}
+use Rattle.serve_crew.specs.declared.job.ServeOut.{ServeOut}
+use Rattle.serve_crew.specs.declared.job.ServeOut.TheVariants.{Worker, Session}
+use Rattle.serve_crew.specs.Outs.{IsShut}
 use Rattle.crew_plans.specs.Hubs.{Pass}
 use Rattle.crew_plans.specs.Endings.{ended_by_link, ended_for_memory, is_faulty_end}
 

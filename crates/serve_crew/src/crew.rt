@@ -3,7 +3,7 @@ ghost use Rattle.std.specs.Prelude.{◌≡◌, ◌≢◌, ◌≤◌, ◌<◌, �
 ghost use Rattle.std.specs.Arc.{arc_value};
 ghost use Rattle.transport.specs.declared.link.Phase.{Phase};
 ghost use Rattle.jobs.specs.Begun.{most_starts, one_more};
-ghost use Rattle.serve_jobs.specs.Outs.{JobOf, kind_of};
+ghost use Rattle.serve_crew.specs.Outs.{JobOf, kind_of};
 ghost use Rattle.serve_crew.specs.Crews.{IsCrew, ends_due, ends_of};
 ghost use Rattle.crew_plans.specs.Begun.{HasBegun};
 ghost use Rattle.crew_plans.specs.Gathers.{Gathers, HasPlace, SameGathered, logs_due, passes_due};
@@ -12,10 +12,11 @@ ghost use Rattle.crew_plans.specs.Lendings.{Lends};
 ghost use Rattle.crew_plans.specs.Splits.{Divided, IsSpentBy};
 
 use crate::ends::hang_up;
+use crate::job::{ServeJob, ServeOut, SessionJob};
 use crate::taking::take_in;
 use crew_plans::{Cause, Gathered, Hub, Pass, reserve_place, split_off};
 use jobs::{Gate, Job, Running, Spawner, start};
-use serve_jobs::{HubDesk, ServeJob, ServeOut, SessionJob};
+use session_desks::HubDesk;
 use std::alloc::Global;
 use std::sync::{Arc, Wait};
 use std::thread::Threads;

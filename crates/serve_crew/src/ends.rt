@@ -2,7 +2,7 @@
 ghost use Rattle.std.specs.Prelude.{◌≡◌, ◌-◌};
 ghost use Rattle.serve_crew.specs.Ends.{found_full, is_faulty, lacked_memory};
 
-use serve_jobs::ServeOut;
+use crate::job::ServeOut;
 use sessions::Ended;
 use transport::{Link, Net};
 use update_msgs::HubStop;

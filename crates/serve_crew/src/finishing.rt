@@ -5,10 +5,10 @@ ghost use Rattle.serve_crew.specs.Crews.{RunsOn, ends_held};
 ghost use Rattle.crew_plans.specs.Gathers.{Gathers, HasRoom, IsGathered, passes_due};
 ghost use Rattle.crew_plans.specs.Lendings.{Lends};
 
+use crate::job::ServeJob;
 use crate::taking::take_in;
 use crew_plans::{Gathered, Hub};
 use jobs::{Gate, Running, Spawner, finish};
-use serve_jobs::ServeJob;
 use std::sync::Wait;
 use std::thread::Threads;
 use transport::{Link, Net};

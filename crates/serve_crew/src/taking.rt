@@ -7,8 +7,8 @@ ghost use Rattle.serve_crew.specs.Ends.{IsDone, ends_back, found_full, has_link_
 ghost use Rattle.serve_crew.specs.Ends.{is_faulty, lacked_memory, pass_in};
 
 use crate::ends::{found_full, is_faulty, lacked_memory};
+use crate::job::ServeOut;
 use crew_plans::Gathered;
-use serve_jobs::ServeOut;
 use transport::{Link, Net};
 
 // Takes in what a worker or a session leaves, and gives the end of its connection back to the net.

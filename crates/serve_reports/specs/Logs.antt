@@ -10,7 +10,7 @@ use Rattle.output_lines.specs.declared.words.EndWord.TheVariants as words
 use Rattle.sessions.specs.declared.ended.Ended.{Ended}
 use Rattle.sessions.specs.declared.ended.Ended.TheVariants.{Closed, LinkFault, BadMessage, Stopped, NoMemory}
 use Rattle.sessions.specs.declared.ended.Ended.TheVariants.{Unexpected, InstancesFull}
-use Rattle.serve_reports.specs.declared.log.Log.{Log}
+use Rattle.sessions.specs.declared.log.Log.{Log}
 
 -- the word for how a session ended, where it wasn't closed
 abbrev pub end_word : Ended → Option EndWord

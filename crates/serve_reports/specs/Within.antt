@@ -4,7 +4,7 @@ use Rattle.core_model.specs.Transcript.{Recorded}
 use Rattle.turn_lock.specs.Histories.{calls, has}
 use Rattle.hmr_hub.specs.declared.pass.Pass.{Pass}
 use Rattle.hmr_hub.specs.Passes.{known_of, number_of, seen_of}
-use Rattle.hub_moves.specs.Moves.{KnowsOwn}
+use Rattle.hmr_hub.specs.Moves.{KnowsOwn}
 
 -- What the one has seen begins what the other has seen. The other knows the number of the one, and has all
 -- entries under it: those that the one had seen.

@@ -1,4 +1,4 @@
-// What a client of the program's own leaves, and the lines that there are to report of it.
+// The lines that there are to report of what a client of the program's own leaves.
 ghost use Rattle.std.specs.Prelude.{◌≡◌, ◌++◌, OnOk, map};
 ghost use Rattle.hmr_hub.specs.declared.report_line.ReportLine.TheVariants.{Line};
 ghost use Rattle.serve_reports.specs.Logs.{end_line, end_word, log_lines};
@@ -6,18 +6,8 @@ ghost use Rattle.serve_reports.specs.Logs.{end_line, end_word, log_lines};
 use hmr_hub::ReportLine;
 use hmr_types::ClientId;
 use output_lines::{EndWord, OutLine};
-use sessions::Ended;
+use sessions::{Ended, Log};
 use std::alloc::AllocError;
-
-/// What a session of one of the program's own clients leaves.
-#[derive(Drop)]
-pub struct Log {
-    /// The number of the client, or 0 where the server gave it none.
-    pub client: ClientId,
-    /// How the session ended, and the lines of what the client took, in order. `None` where the job of the
-    /// client was given up before it began: there is nothing to report then.
-    pub session: Option<(Ended, Vec<OutLine>)>,
-}
 
 // Puts the lines of a client behind others.
 pub(crate) fn put_log(lines: &mut Vec<ReportLine>, log: Log) -> Result<(), AllocError>

@@ -4,13 +4,14 @@ ghost use Rattle.std.specs.List.{flat_map};
 ghost use Rattle.hmr_hub.specs.declared.report_line.ReportLine.TheVariants.{Line};
 ghost use Rattle.hmr_hub.specs.Passes.{HasTranscript, IsPassOf, all_given, roots_of, seen_of};
 ghost use Rattle.hmr_hub.specs.Reports.{report_of};
-ghost use Rattle.hub_moves.specs.Moves.{KnowsOwn, Moved};
-ghost use Rattle.serve_reports.specs.declared.log.Log.{Log};
+ghost use Rattle.hmr_hub.specs.Moves.{KnowsOwn, Moved};
+ghost use Rattle.sessions.specs.declared.log.Log.{Log};
 ghost use Rattle.serve_reports.specs.Logs.{AreInOrder, log_lines};
 ghost use Rattle.serve_reports.specs.Within.{HasCalls, IsWithin};
 
-use crate::log::{Log, put_log};
+use crate::log::put_log;
 use hmr_hub::{Hub, Pass, ReportLine};
+use sessions::Log;
 use std::alloc::AllocError;
 use std::sync::Wait;
 

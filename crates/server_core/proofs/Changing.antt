@@ -26,11 +26,11 @@ use Rattle.hmr_types.specs.declared.limits.TheConstants.{TEXT_BYTES, SOURCE_NAME
 use Rattle.version_map.specs.declared.outcome.Settled.{Settled}
 use Rattle.version_map.specs.declared.outcome.Settled.TheVariants as settlings
 use Rattle.client_records.specs.Record.{IsRecord, SameBut}
-use Rattle.server_core.specs.declared.event.Reply.{Reply}
-use Rattle.server_core.specs.declared.event.Reply.TheVariants as replies
+use Rattle.events_and_replies.specs.declared.event.Reply.{Reply}
+use Rattle.events_and_replies.specs.declared.event.Reply.TheVariants as replies
 use Rattle.server_core.specs.Clients.{Clients, AreClients}
 use Rattle.server_core.specs.Kept.{Kept, StandsFor, IsStep, is_free, is_job, leaves}
-use Rattle.server_core.specs.Said.{said, edit_said, is_good, IsWritten}
+use Rattle.events_and_replies.specs.Said.{said, edit_said, is_good, IsWritten}
 use Rattle.server_core.proofs.Alike.{record_same}
 use Rattle.server_core.proofs.Numbers.{all_stay}
 

@@ -18,11 +18,11 @@ use Rattle.client_records.specs.Answers as answers
 use Rattle.client_records.specs.Answers.{reply_of}
 use Rattle.client_records.specs.declared.answer.Answer.{Answer}
 use Rattle.client_records.specs.declared.answer.Answer.TheVariants.{To, Refused}
-use Rattle.server_core.specs.declared.event.Reply.{Reply}
-use Rattle.server_core.specs.declared.event.Reply.TheVariants as replies
+use Rattle.events_and_replies.specs.declared.event.Reply.{Reply}
+use Rattle.events_and_replies.specs.declared.event.Reply.TheVariants as replies
 use Rattle.server_core.specs.Clients.{Clients, AreClients, IsGiven, numbers_of}
 use Rattle.server_core.specs.Heard.{IsHeard, heard_of, heard_by}
-use Rattle.server_core.specs.Said.{said, IsWritten}
+use Rattle.events_and_replies.specs.Said.{said, IsWritten}
 use Rattle.server_core.proofs.Numbers.{IsOne, at_one, replaced_one, with_one}
 
 no_client : (s : Sources) (o : Option Client) → IsOne s o None → o ≡ None

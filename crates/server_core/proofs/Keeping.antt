@@ -15,7 +15,7 @@ use Rattle.std.specs.declared.alloc.AllocError.{AllocError}
 use Rattle.core_model.specs.Client.{Client}
 use Rattle.core_model.specs.Core.{request}
 use Rattle.core_model.specs.Requests.{Request}
-use Rattle.server_core.specs.declared.event.Reply.{Reply}
+use Rattle.events_and_replies.specs.declared.event.Reply.{Reply}
 use Rattle.server_core.specs.Heard.{IsHeard}
 use Rattle.server_core.specs.Inside.{IsSoundInside, kept_of}
 use Rattle.server_core.specs.Kept.{Kept, IsStep, is_free_request}

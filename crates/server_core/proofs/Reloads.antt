@@ -12,9 +12,9 @@ use Rattle.core_model.specs.Requests.{ask, ask_reply}
 use Rattle.core_model.specs.Sent.{IsReloadSent}
 use Rattle.core_model.specs.Core.{Event, request, client_at, requested, step, core_after}
 use Rattle.core_model.proofs.Sending.{reload_is}
-use Rattle.server_core.specs.declared.event.Reply.{Reply}
+use Rattle.events_and_replies.specs.declared.event.Reply.{Reply}
 use Rattle.server_core.specs.Kept.{Kept, StandsFor, IsStep}
-use Rattle.server_core.specs.Said.{said, reload_path}
+use Rattle.events_and_replies.specs.Said.{said, reload_path}
 use Rattle.server_core.proofs.Stepping.{if_ok}
 
 abbrev path_or : List Name → Option (List Name) → List Name

@@ -23,12 +23,12 @@ use Rattle.version_map.specs.Standing as sources
 use Rattle.version_map.specs.Standing.{Matches}
 use Rattle.client_records.specs.Record as client
 use Rattle.client_records.specs.Record.{IsRecord}
-use Rattle.server_core.specs.declared.event.Reply.{Reply}
-use Rattle.server_core.specs.declared.event.Reply.TheVariants as replies
+use Rattle.events_and_replies.specs.declared.event.Reply.{Reply}
+use Rattle.events_and_replies.specs.declared.event.Reply.TheVariants as replies
 use Rattle.server_core.specs.Clients.{Clients, AreClients, IsGiven, numbers_of}
 use Rattle.server_core.specs.Heard.{IsHeard, heard_of, heard_by}
 use Rattle.server_core.specs.Kept.{Kept, StandsFor, IsStep, is_free_request, leaves}
-use Rattle.server_core.specs.Said.{said, IsWritten}
+use Rattle.events_and_replies.specs.Said.{said, IsWritten}
 use Rattle.server_core.proofs.Alike.{heard_same}
 use Rattle.server_core.proofs.Numbers.{IsOne, at_one, as_many, with_one, without_one}
 

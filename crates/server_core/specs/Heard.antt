@@ -7,9 +7,9 @@ use Rattle.core_model.specs.Client.{Client}
 use Rattle.core_model.specs.Requests as model
 use Rattle.core_model.specs.Requests.{Request, heard, refused}
 use Rattle.core_model.specs.Core.{client_at, with_client}
-use Rattle.server_core.specs.declared.event.Reply.{Reply}
+use Rattle.events_and_replies.specs.declared.event.Reply.{Reply}
 use Rattle.server_core.specs.Clients.{Clients, AreClients, numbers_of}
-use Rattle.server_core.specs.Said.{said, IsWritten}
+use Rattle.events_and_replies.specs.Said.{said, IsWritten}
 
 -- a connected client's request is heard on its own record
 abbrev pub heard_of : Option Client → Sources → ℕ → Request → List (ℕ × Client)

@@ -12,9 +12,9 @@ use Rattle.core_model.specs.Core as model
 use Rattle.core_model.specs.Core.{changes_of, core_after, client_at}
 use Rattle.version_map.specs.Standing as sources
 use Rattle.client_records.specs.Record as client
-use Rattle.server_core.specs.declared.event.Reply.{Reply}
+use Rattle.events_and_replies.specs.declared.event.Reply.{Reply}
 use Rattle.server_core.specs.Clients.{Clients, AreClients}
-use Rattle.server_core.specs.Said.{said, IsWritten}
+use Rattle.events_and_replies.specs.Said.{said, IsWritten}
 
 -- what the core keeps
 pub record Kept : Type 0 where

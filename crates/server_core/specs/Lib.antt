@@ -3,4 +3,3 @@ pub mod Heard
 pub mod Inside
 pub mod Kept
 pub mod Reading
-pub mod Said

@@ -4,11 +4,11 @@ ghost use Rattle.std.specs.Option.{option_map};
 ghost use Rattle.core_model.specs.Core as model;
 ghost use Rattle.core_model.specs.Sources as changes;
 ghost use Rattle.server_core.specs.Kept.{IsStep};
-ghost use Rattle.server_core.specs.Said.{is_good};
+ghost use Rattle.events_and_replies.specs.Said.{is_good};
 
 use crate::clients::{copies_for, give_notices, make_room, tell_changed};
-use crate::event::Reply;
 use crate::page_core::Core;
+use events_and_replies::Reply;
 use hmr_types::{ModName, Outcome, Ver};
 use std::alloc::{AllocError, Global};
 use transforms::Transformed;

@@ -8,10 +8,10 @@ ghost use Rattle.server_core.specs.Clients.{numbers_of};
 ghost use Rattle.server_core.specs.Kept.{IsStep};
 
 use crate::clients::{place_of, take_out};
-use crate::event::Reply;
 use crate::page_core::Core;
 use client_records::ClientRecord;
 use core_model::Refusal;
+use events_and_replies::Reply;
 use hmr_types::limits::{CLIENTS, LARGEST_CLIENT, ROOTS};
 use hmr_types::{ClientId, ModName, Sequence};
 use module_graph::{copy_of, has_name};

@@ -5,12 +5,12 @@ ghost use Rattle.core_model.specs.Requests as requests;
 ghost use Rattle.client_records.specs.Answers.{reply_of};
 ghost use Rattle.server_core.specs.Clients.{IsGiven, numbers_of};
 ghost use Rattle.server_core.specs.Heard.{IsHeard};
-ghost use Rattle.server_core.specs.Said.{said};
+ghost use Rattle.events_and_replies.specs.Said.{said};
 
 use crate::clients::{Row, place_of};
-use crate::event::Reply;
 use client_records::Answer;
 use core_model::Refusal;
+use events_and_replies::Reply;
 use hmr_types::{ClientId, ModName, Table, Ver};
 use std::alloc::{AllocError, Global};
 use version_map::VersionMap;

@@ -24,14 +24,14 @@ use Rattle.core_model.specs.Sources.{Sources}
 use Rattle.core_model.specs.Transcript.{Recorded, events_of, reply_after}
 use Rattle.core_laws.specs.Ranges.{IsWritableReply}
 use Rattle.core_laws.proofs.Messaging.{after_says}
-use Rattle.server_core.specs.Said.{said}
-use Rattle.server_core.specs.declared.event.Reply.{Reply}
+use Rattle.events_and_replies.specs.Said.{said}
+use Rattle.events_and_replies.specs.declared.event.Reply.{Reply}
 use Rattle.client_exchange.specs.Replies.{message_in}
 use Rattle.client_exchange.proofs.Saying.{message_said}
 use Rattle.hmr_hub.specs.declared.pass.Pass.{Pass}
 use Rattle.hmr_hub.specs.Calls.{Called}
 use Rattle.hmr_hub.specs.Passes.{HasTranscript, number_of, roots_of, seen_of}
-use Rattle.hmr_hub.specs.Transcripts.{past_of}
+use Rattle.transcripts.specs.Transcripts.{past_of}
 use Rattle.hmr_hub.proofs.Histories.{past_more}
 
 -- the reply is a message to a client

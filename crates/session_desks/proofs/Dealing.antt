@@ -14,7 +14,7 @@ use Rattle.core_model.specs.declared.refusal.Refusal.TheVariants.{OutOfTurn, Ign
 use Rattle.core_model.specs.Exchange.{event_of, refusal_message}
 use Rattle.core_model.specs.Transcript.{event_bytes}
 use Rattle.client_exchange.specs.Messages.{is_hello}
-use Rattle.hmr_hub.specs.Transcripts.{HasVersion, may_make}
+use Rattle.transcripts.specs.Transcripts.{HasVersion, may_make}
 use Rattle.session_desks.specs.Desks.{Dealt, DealtBy, Heard, hello_refusal, refusal_of, version_refusal}
 use Rattle.session_desks.specs.declared.desk.HubDesk.{HubDesk}
 

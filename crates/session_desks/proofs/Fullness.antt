@@ -7,15 +7,15 @@ use Rattle.update_msgs.specs.declared.desk.HubStop.{HubStop}
 use Rattle.update_msgs.specs.declared.desk.HubStop.TheVariants.{TranscriptFull, NoMemory}
 use Rattle.core_model.specs.Core.{Event}
 use Rattle.core_model.specs.Transcript.{Recorded, event_bytes, most_entries, transcript_bytes}
-use Rattle.server_core.specs.declared.event.Reply.{Reply}
+use Rattle.events_and_replies.specs.declared.event.Reply.{Reply}
 use Rattle.transform_pool.specs.Boards.{full_after}
 use Rattle.hmr_hub.specs.declared.pass.Pass.{Pass}
 use Rattle.hmr_hub.specs.Calls.{Called, SameKnower}
 use Rattle.hmr_hub.specs.Passes.{number_of, seen_of}
-use Rattle.hmr_hub.specs.Transcripts.{recorded}
-use Rattle.hub_moves.specs.Fullness.{IsNearlyFull, nearly_most_bytes}
-use Rattle.hub_moves.proofs.Fullness.{nearly_full_called, nearly_full_moved}
-use Rattle.hub_moves.proofs.Moves.{moved_called}
+use Rattle.transcripts.specs.Transcripts.{recorded}
+use Rattle.hmr_hub.specs.Fullness.{IsNearlyFull, nearly_most_bytes}
+use Rattle.hmr_hub.proofs.Fullness.{nearly_full_called, nearly_full_moved}
+use Rattle.hmr_hub.proofs.Moves.{moved_called}
 use Rattle.session_desks.specs.Fullness.{is_nearly_full}
 
 pub nearly_full : (entries : List Recorded) → is_nearly_full entries ≡ true → IsNearlyFull entries

@@ -5,7 +5,7 @@ use Rattle.core_model.specs.Core.{change}
 use Rattle.core_model.specs.Sources.{result}
 use Rattle.hmr_types.specs.Table.{is_version}
 use Rattle.transforms.specs.Transform.{Transform}
-use Rattle.server_core.specs.declared.event.Reply.{Reply}
+use Rattle.events_and_replies.specs.declared.event.Reply.{Reply}
 use Rattle.transform_pool.specs.Passes.{role_of}
 use Rattle.hmr_hub.specs.Passes.{number_of}
 use Rattle.session_desks.specs.declared.board.HubBoard.{HubBoard}

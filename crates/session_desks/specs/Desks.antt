@@ -10,7 +10,7 @@ use Rattle.core_model.specs.declared.refusal.Refusal.TheVariants.{OutOfTurn, Ign
 use Rattle.core_model.specs.Core.{disconnect}
 use Rattle.core_model.specs.Exchange.{event_of, refusal_message}
 use Rattle.hmr_types.specs.Table.{is_version}
-use Rattle.server_core.specs.declared.event.Reply.{Reply}
+use Rattle.events_and_replies.specs.declared.event.Reply.{Reply}
 use Rattle.client_exchange.specs.Messages.{is_bye}
 use Rattle.client_exchange.specs.Replies.{client_after, message_in}
 use Rattle.hmr_hub.specs.Passes.{number_of}

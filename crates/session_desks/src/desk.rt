@@ -6,17 +6,18 @@ ghost use Rattle.hmr_types.specs.declared.limits.TheConstants.{MESSAGE_BYTES};
 ghost use Rattle.update_msgs.specs.Desk.{bytes_of};
 ghost use Rattle.update_msgs.specs.Writable.{IsFormat, IsWritable};
 ghost use Rattle.hmr_hub.specs.Passes.{IsPassOf, seen_of};
-ghost use Rattle.hub_moves.specs.Fullness.{IsNearlyFull};
+ghost use Rattle.hmr_hub.specs.Fullness.{IsNearlyFull};
 ghost use Rattle.session_desks.specs.Fullness.{is_nearly_full};
 
 use crate::telling::{lacks_memory, tell};
 use client_exchange::{client_after, event_of, is_bye, is_hello, message_in, refusal_message};
 use core_model::Refusal;
-use hmr_hub::{Hub, Pass, has_version};
+use events_and_replies::Event;
+use hmr_hub::{Hub, Pass};
 use hmr_types::ClientId;
-use server_core::Event;
 use std::alloc::Global;
 use std::sync::{Arc, Wait};
+use transcripts::has_version;
 use update_msgs::{ClientMsg, Desk, HubStop, ServerMsg};
 
 /// The desk of one session: a hub, and a pass of it. It has the number of its client, 0 for none, whether

@@ -2,15 +2,15 @@
 ghost use Rattle.std.specs.Prelude.{◌≡◌, ◌≤◌, false, true};
 ghost use Rattle.hmr_types.specs.declared.limits.TheConstants.{MESSAGE_BYTES};
 ghost use Rattle.core_model.specs.Transcript.{event_bytes};
-ghost use Rattle.server_core.specs.Said.{event_of};
+ghost use Rattle.events_and_replies.specs.Said.{event_of};
 ghost use Rattle.hmr_hub.specs.Passes.{HasTranscript, IsPassOf, number_of, seen_of};
-ghost use Rattle.hmr_hub.specs.Transcripts.{HasVersion, may_make};
+ghost use Rattle.transcripts.specs.Transcripts.{HasVersion, may_make};
 ghost use Rattle.session_desks.specs.Fullness.{is_nearly_full};
 ghost use Rattle.session_desks.specs.Telling.{Told, lacks_memory};
 ghost use Rattle.transform_pool.specs.Boards.{full_after};
 
+use events_and_replies::{Event, Reply};
 use hmr_hub::{Hub, Pass};
-use server_core::{Event, Reply};
 use std::sync::Wait;
 use update_msgs::HubStop;
 

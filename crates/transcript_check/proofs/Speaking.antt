@@ -6,7 +6,7 @@ use Rattle.core_model.specs.Names.{Name}
 use Rattle.core_model.specs.Requests.{Reply, edited, settled, to_client, refused, gone}
 use Rattle.core_model.specs.Sources.{job, same, removed, edit_refused, serve, refuse, late}
 use Rattle.core_laws.specs.Ranges.{IsWritableReply}
-use Rattle.server_core.specs.Said.{said}
+use Rattle.events_and_replies.specs.Said.{said}
 use Rattle.record_text.specs.Told.{IsTold}
 use Rattle.record_laws.specs.Answers.{reply_after, reply_told}
 use Rattle.event_facts.specs.Tellable.{IsTellable}

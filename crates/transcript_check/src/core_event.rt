@@ -1,12 +1,12 @@
 // The event of a core that a record tells.
 ghost use Rattle.std.specs.Prelude.{◌≡◌, ◌≤◌, IfOk};
 ghost use Rattle.core_model.specs.Transcript.{event_bytes, most_bytes};
-ghost use Rattle.server_core.specs.Said.{event_of};
+ghost use Rattle.events_and_replies.specs.Said.{event_of};
 ghost use Rattle.record_laws.specs.Events.{event_in};
 
+use events_and_replies::Event;
 use import_scan::transform;
 use record_text::RecordEvent;
-use server_core::Event;
 use std::alloc::{AllocError, Global};
 
 /// The event of a core that a record tells. It takes memory only for the text of a result, which is

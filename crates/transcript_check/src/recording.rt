@@ -9,17 +9,18 @@ ghost use Rattle.record_text.specs.Told as text;
 ghost use Rattle.record_text.specs.Told.{reply_text};
 ghost use Rattle.record_text.specs.declared.record.RecordLine.TheVariants as lines;
 ghost use Rattle.server_core.specs.Kept.{StandsFor};
-ghost use Rattle.server_core.specs.Said.{event_of};
+ghost use Rattle.events_and_replies.specs.Said.{event_of};
 ghost use Rattle.record_laws.specs.Bounds.{past_bytes};
 ghost use Rattle.transcript_check.specs.Following.{IsTold, IsToldSome};
 ghost use Rattle.record_laws.specs.Written.{client_in, entry_lines, event_told, is_done};
 ghost use Rattle.record_laws.specs.Written.{record_told, rest_lines};
 
 use crate::replay::tell;
+use events_and_replies::Event;
 use hmr_types::{ClientId, ModName, Sequence, Table};
 use module_graph::copy_of;
 use record_text::{RecordEvent, RecordLine, RecordReply, put_line, put_roots, write_reply};
-use server_core::{Core, Event};
+use server_core::Core;
 use std::alloc::{AllocError, Global};
 use update_msgs::ServerMsg;
 

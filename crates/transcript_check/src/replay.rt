@@ -2,7 +2,7 @@
 ghost use Rattle.std.specs.Prelude.{◌≡◌, IfOk, List, OnOk, ◌∷◌};
 ghost use Rattle.core_model.specs.Core as model;
 ghost use Rattle.server_core.specs.Kept.{StandsFor};
-ghost use Rattle.server_core.specs.Said.{event_of};
+ghost use Rattle.events_and_replies.specs.Said.{event_of};
 ghost use Rattle.record_text.specs.Told as text;
 ghost use Rattle.record_laws.specs.Answers.{reply_after, reply_told};
 ghost use Rattle.transcript_check.specs.Following.{IsTold, IsToldSome};
@@ -10,9 +10,10 @@ ghost use Rattle.record_laws.specs.Resting.{is_page_with, is_same_table, rests_w
 
 use crate::telling::reply_told;
 use event_facts::note_event;
+use events_and_replies::Event;
 use hmr_types::{ClientId, Table};
 use record_text::{RecordEvent, RecordReply};
-use server_core::{Core, Event};
+use server_core::Core;
 use std::alloc::{AllocError, Global};
 
 /// A core that was told the events of a record.

@@ -3,8 +3,8 @@ ghost use Rattle.std.specs.Prelude.{◌≡◌};
 ghost use Rattle.record_laws.specs.Answers.{edit_told, reply_told, result_told};
 
 use client_exchange::refusal_message;
+use events_and_replies::Reply;
 use record_text::RecordReply;
-use server_core::Reply;
 use version_map::{EditOutcome, Settled};
 
 /// A core's reply, as a record tells it.

@@ -9,9 +9,9 @@ use Rattle.core_model.specs.Sources.{EditAnswer, job, same, removed, edit_refuse
 use Rattle.output_lines.specs.declared.out_line.OutLine.TheVariants as line
 use Rattle.core_model.specs.Names.{Name}
 use Rattle.world_model.specs.Editing.{settle_line}
-use Rattle.server_core.specs.declared.event.Reply.{Reply}
+use Rattle.events_and_replies.specs.declared.event.Reply.{Reply}
 use Rattle.server_core.specs.Kept.{Kept, StandsFor}
-use Rattle.server_core.specs.Said.{said, IsWritten}
+use Rattle.events_and_replies.specs.Said.{said, IsWritten}
 use Rattle.version_map.specs.Standing.{settled_as}
 use Rattle.world_parts.specs.Cores.{IsCore}
 use Rattle.world_parts.specs.Replies.{answer_in, settled_word, word_in}

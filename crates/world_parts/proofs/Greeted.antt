@@ -15,9 +15,9 @@ use Rattle.core_model.specs.Core as model
 use Rattle.core_model.specs.Core.{connect, connected, if_room, is_full, admitted, step}
 use Rattle.client_model.specs.Runtime.{Runtime}
 use Rattle.server_core.specs.Kept.{Kept}
-use Rattle.server_core.specs.Said.{IsWritten, said}
-use Rattle.server_core.specs.declared.event.Reply.{Reply}
-use Rattle.server_core.specs.declared.event.Reply.TheVariants as replies
+use Rattle.events_and_replies.specs.Said.{IsWritten, said}
+use Rattle.events_and_replies.specs.declared.event.Reply.{Reply}
+use Rattle.events_and_replies.specs.declared.event.Reply.TheVariants as replies
 use Rattle.world_model.specs.Ties.{TiedAt}
 use Rattle.world_parts.specs.Cores.{IsCore}
 use Rattle.world_parts.specs.Greetings.{greeting_in}

@@ -20,8 +20,8 @@ use Rattle.client_model.specs.Requesting.{request}
 use Rattle.client_model.specs.Runtime.{Runtime}
 use Rattle.client_model.specs.Taking.{Taking, take, unchanged_by, is_stopped, unexpected}
 use Rattle.module_language.specs.ModuleLanguage.{module_language}
-use Rattle.server_core.specs.declared.event.Reply.{Reply}
-use Rattle.server_core.specs.Said.{said, IsWritten}
+use Rattle.events_and_replies.specs.declared.event.Reply.{Reply}
+use Rattle.events_and_replies.specs.Said.{said, IsWritten}
 use Rattle.client_exchange.specs.Replies.{message_in}
 use Rattle.client_exchange.proofs.Saying.{message_said}
 use Rattle.world_model.specs.Ties.{IsUnderstood}

@@ -8,8 +8,8 @@ use Rattle.client_model.specs.Runtime.{Opening, Runtime, new_runtime}
 use Rattle.client_model.specs.Taking.{take}
 use Rattle.module_language.specs.ModuleLanguage.{module_language}
 use Rattle.world_model.specs.Turning.{opening_of}
-use Rattle.server_core.specs.declared.event.Reply.{Reply}
-use Rattle.server_core.specs.declared.event.Reply.TheVariants as replies
+use Rattle.events_and_replies.specs.declared.event.Reply.{Reply}
+use Rattle.events_and_replies.specs.declared.event.Reply.TheVariants as replies
 use Rattle.world_parts.specs.declared.greetings.Greeting.{Greeting}
 use Rattle.world_parts.specs.declared.greetings.Greeting.TheVariants.{Taken, BadRoots, Full}
 

@@ -7,8 +7,8 @@ use Rattle.version_map.specs.declared.outcome.EditOutcome.{EditOutcome}
 use Rattle.version_map.specs.declared.outcome.EditOutcome.TheVariants as edits
 use Rattle.version_map.specs.declared.outcome.Settled.{Settled}
 use Rattle.version_map.specs.declared.outcome.Settled.TheVariants as settlings
-use Rattle.server_core.specs.declared.event.Reply.{Reply}
-use Rattle.server_core.specs.declared.event.Reply.TheVariants as replies
+use Rattle.events_and_replies.specs.declared.event.Reply.{Reply}
+use Rattle.events_and_replies.specs.declared.event.Reply.TheVariants as replies
 
 -- what an edit brought
 abbrev pub outcome_as : EditOutcome → EditAnswer

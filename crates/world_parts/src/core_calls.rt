@@ -2,10 +2,11 @@
 ghost use Rattle.std.specs.Prelude.{◌≡◌, IfOk, OnOk};
 ghost use Rattle.core_model.specs.Core as model;
 ghost use Rattle.core_model.specs.Core.{step};
-ghost use Rattle.server_core.specs.Said.{IsWritten, event_of, said};
+ghost use Rattle.events_and_replies.specs.Said.{IsWritten, event_of, said};
 ghost use Rattle.world_parts.specs.Cores.{IsCore};
 
-use server_core::{Core, Event, Reply};
+use events_and_replies::{Event, Reply};
+use server_core::Core;
 use std::alloc::{AllocError, Global};
 
 /// Tells the core an event, and gives its reply. [`AllocError`] comes where memory runs out; then no clause

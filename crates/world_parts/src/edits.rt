@@ -7,9 +7,9 @@ ghost use Rattle.world_parts.specs.Replies.{answer_in};
 
 use crate::jobs::Jobs;
 use crate::replies::job_version;
+use events_and_replies::Reply;
 use hmr_types::ModName;
 use module_graph::copy_name;
-use server_core::Reply;
 use std::alloc::AllocError;
 
 /// Adds the job of a text, where the core's reply to its edit gave it a version; else the jobs stay as they

@@ -7,12 +7,12 @@ ghost use Rattle.module_semantics.specs.ModuleText.{parsing};
 ghost use Rattle.core_model.specs.Core.{change, connect};
 ghost use Rattle.core_model.specs.Sources.{edit};
 ghost use Rattle.core_model.specs.Sources as changes;
-ghost use Rattle.server_core.specs.Said.{event_of};
+ghost use Rattle.events_and_replies.specs.Said.{event_of};
 
+use events_and_replies::Event;
 use hmr_types::{ModName, Ver};
 use import_scan::transform;
 use module_graph::{copy_name, copy_of};
-use server_core::Event;
 use std::alloc::{AllocError, Global};
 
 /// The event that a module gets a text, or that its source is taken away. [`AllocError`] comes where memory

@@ -3,8 +3,8 @@ ghost use Rattle.std.specs.Prelude.{◌≡◌};
 ghost use Rattle.world_parts.specs.Greetings.{greeting_in};
 
 use core_model::Refusal;
+use events_and_replies::Reply;
 use hmr_types::{ClientId, ModName, Sequence};
-use server_core::Reply;
 use update_msgs::ServerMsg;
 
 /// What the core says to a client that comes.

@@ -6,9 +6,9 @@ ghost use Rattle.output_lines.specs.declared.out_line.OutLine.TheVariants.{Edit,
 ghost use Rattle.output_lines.specs.declared.words.SettleWord.{SettleWord};
 ghost use Rattle.world_parts.specs.Replies.{answer_in, job_in, settled_word, word_in};
 
+use events_and_replies::Reply;
 use hmr_types::{ModName, Ver};
 use output_lines::{EditWord, OutLine, RemoveWord, SettleWord};
-use server_core::Reply;
 use version_map::{EditOutcome, Settled};
 
 /// The line of an edit that gave a text, by the core's reply to it. It takes constant time.

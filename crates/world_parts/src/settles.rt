@@ -15,11 +15,12 @@ ghost use Rattle.world_parts.specs.Replies.{settled_word};
 use crate::core_calls::tell;
 use crate::lines::one_line;
 use crate::replies::settle_word;
+use events_and_replies::Event;
 use hmr_types::{ModName, Ver};
 use import_scan::transform;
 use module_graph::copy_name;
 use output_lines::{OutLine, SettleWord};
-use server_core::{Core, Event};
+use server_core::Core;
 use std::alloc::{AllocError, Global};
 
 /// The line of a result: what became of it. [`AllocError`] comes where memory runs out. It takes constant

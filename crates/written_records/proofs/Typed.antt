@@ -10,8 +10,8 @@ use Rattle.core_model.specs.Formed.{IsName}
 use Rattle.core_model.specs.Names.{Name}
 use Rattle.core_model.specs.Roots.{AreRoots}
 use Rattle.core_model.specs.Transcript.{IsLegal, Recorded, events_of, most_bytes, most_entries}
-use Rattle.server_core.specs.Said.{event_of}
-use Rattle.server_core.specs.declared.event.Event.{Event}
+use Rattle.events_and_replies.specs.Said.{event_of}
+use Rattle.events_and_replies.specs.declared.event.Event.{Event}
 use Rattle.record_text.specs.Texts.{record_text}
 use Rattle.record_laws.specs.Bounds.{past_bytes}
 use Rattle.record_laws.specs.Course.{verdict_of}

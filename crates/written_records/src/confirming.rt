@@ -4,7 +4,7 @@ ghost use Rattle.module_semantics.specs.Analysis.{transformed};
 ghost use Rattle.module_semantics.specs.ModuleText.{parsing};
 ghost use Rattle.core_model.specs.Roots.{AreRoots};
 ghost use Rattle.core_model.specs.Transcript.{IsLegal, Recorded, events_of, most_bytes, most_entries};
-ghost use Rattle.server_core.specs.Said.{event_of};
+ghost use Rattle.events_and_replies.specs.Said.{event_of};
 ghost use Rattle.record_text.specs.Texts.{record_text};
 ghost use Rattle.record_laws.specs.Bounds.{past_bytes};
 ghost use Rattle.record_laws.specs.Course.{verdict_of};
@@ -14,8 +14,8 @@ ghost use Rattle.record_laws.specs.declared.verdict.Verdict.TheVariants.{Yes};
 
 use crate::noting::note_events;
 use event_facts::note_names;
+use events_and_replies::Event;
 use hmr_types::ModName;
-use server_core::Event;
 
 /// Of the record of these events, which a core of these roots is told, the check says yes, with as many steps
 /// as there are events, where the roots are those of a core and the events have places in a transcript: that

@@ -4,13 +4,13 @@ ghost use Rattle.hmr_types.specs.declared.limits.TheConstants.{LARGEST_CLIENT};
 ghost use Rattle.module_semantics.specs.Analysis.{transformed};
 ghost use Rattle.module_semantics.specs.ModuleText.{parsing};
 ghost use Rattle.core_model.specs.Transcript.{IsTrueEvent};
-ghost use Rattle.server_core.specs.Said.{event_of};
+ghost use Rattle.events_and_replies.specs.Said.{event_of};
 ghost use Rattle.record_text.specs.Numbers.{largest_count};
 ghost use Rattle.record_agreement.specs.Recordable.{HasClient, HasCount, IsRecordable};
 
 use event_facts::{note_event, note_result};
+use events_and_replies::Event;
 use hmr_types::{ClientId, Ver};
-use server_core::Event;
 
 /// Each event is one that a line of a record can have, and its result is true. It takes time in the number of
 /// their names.

@@ -2,7 +2,7 @@ use Rattle.std.proofs.Common.{rules, ◌≡◌, ◌++◌, length, map, ap, sym, 
 use Rattle.std.specs.Prelude.{OnOk}
 use Rattle.std.specs.Prelude.{take}
 use Rattle.core_model.specs.Transcript.{events_of}
-use Rattle.server_core.specs.Said.{event_of}
+use Rattle.events_and_replies.specs.Said.{event_of}
 use Rattle.hmr_hub.specs.Passes.{roots_of, seen_of}
 use Rattle.record_text.specs.Texts.{record_text}
 use Rattle.record_laws.specs.Written.{record_told}

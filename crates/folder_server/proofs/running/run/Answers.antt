@@ -1,6 +1,6 @@
 use Rattle.std.proofs.Common.{[], ◌∙◌}
 use Rattle.hmr_hub.specs.Passes.{all_given}
-use Rattle.hub_moves.proofs.Moves.{knows_moved}
+use Rattle.hmr_hub.proofs.Moves.{knows_moved}
 use Rattle.hub_editor.proofs.Calls.{knows_same}
 use Rattle.folder_edits.proofs.Works.{begun_all, cause_all, edited_fault, edited_tree, ends_all, finds_all, goes_all, later_all, on_ok, spent_given}
 use Rattle.folder_server.proofs.running.run.Goals as goal

@@ -1,4 +1,4 @@
-use Rattle.server_core.specs.Said.{event_of}
+use Rattle.events_and_replies.specs.Said.{event_of}
 use Rattle.hmr_world.proofs.Turning.{can_send, can_take, can_write, lines_take, runtime_takes}
 use Rattle.hmr_world.proofs.Turning.{nothing_after, nothing_lines, says_as}
 use Rattle.hmr_world.proofs.turns.exchange.Goals as goal

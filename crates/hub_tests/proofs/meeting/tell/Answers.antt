@@ -1,5 +1,5 @@
 use Rattle.std.proofs.Common.{subst}
-use Rattle.server_core.specs.Said.{event_of}
+use Rattle.events_and_replies.specs.Said.{event_of}
 use Rattle.hmr_hub.specs.Calls.{Called}
 use Rattle.hub_tests.proofs.Counting.{one_more}
 use Rattle.hub_tests.proofs.meeting.tell.Goals as goal

@@ -1,6 +1,6 @@
 use Rattle.std.proofs.Common.{rules, ◌≡◌}
 use Rattle.std.proofs.lemmas.Fn.{always_returns_same}
-use Rattle.serve_reports.specs.declared.log.Log.{Log}
+use Rattle.sessions.specs.declared.log.Log.{Log}
 use Rattle.serve_reports.proofs.winding.in_order.Goals as goal
 
 pub returns : goal.returns

@@ -2,7 +2,7 @@ use Rattle.std.proofs.Common.{arith, ◌≡◌, ◌++◌, ◌∷◌, [], ◌∙�
 use Rattle.std.proofs.lemmas.Grind.{common_steps}
 use Rattle.std.proofs.lemmas.Bool.{or_left}
 use Rattle.hmr_hub.specs.Passes.{all_given}
-use Rattle.hub_moves.proofs.Moves.{knows_moved, moved_joined, moved_no_more}
+use Rattle.hmr_hub.proofs.Moves.{knows_moved, moved_joined, moved_no_more}
 use Rattle.serve_reports.proofs.Joins.{all_calls, all_joined, joined_more}
 use Rattle.serve_reports.proofs.winding.join_all.Goals as goal
 

@@ -2,7 +2,7 @@ use Rattle.std.proofs.Common.{◌≡◌, ◌++◌, [], List, true, vec_len}
 use Rattle.std.specs.List.{All}
 use Rattle.hmr_hub.specs.declared.pass.Pass.{Pass}
 use Rattle.hmr_hub.specs.Passes.{IsPassOf, all_given, roots_of}
-use Rattle.hub_moves.specs.Moves.{KnowsOwn, Moved}
+use Rattle.hmr_hub.specs.Moves.{KnowsOwn, Moved}
 use Rattle.serve_reports.specs.Within.{IsWithin}
 use Rattle.serve_reports.proofs.winding.join_all.Given as goal
 

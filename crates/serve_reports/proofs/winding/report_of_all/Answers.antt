@@ -1,5 +1,5 @@
 use Rattle.std.proofs.Common.{[], ◌∙◌}
-use Rattle.hub_moves.proofs.Moves.{knows_moved, moved_looked, moved_no_more}
+use Rattle.hmr_hub.proofs.Moves.{knows_moved, moved_looked, moved_no_more}
 use Rattle.serve_reports.proofs.Joins.{all_calls, all_look}
 use Rattle.serve_reports.proofs.winding.report_of_all.Goals as goal
 

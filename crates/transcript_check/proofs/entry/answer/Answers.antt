@@ -1,5 +1,5 @@
 use Rattle.std.proofs.Common.{◌∷◌, ◌∙◌, subst, sym}
-use Rattle.server_core.specs.Said.{event_of}
+use Rattle.events_and_replies.specs.Said.{event_of}
 use Rattle.transcript_check.specs.Following.{IsTold, opened_as}
 use Rattle.transcript_check.proofs.Answering.{answer_is, reply_right, reply_wrong, told_within}
 use Rattle.transcript_check.proofs.Entering.{event_small}

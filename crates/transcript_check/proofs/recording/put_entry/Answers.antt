@@ -1,5 +1,5 @@
 use Rattle.std.proofs.Common.{◌∷◌, ◌∙◌, ap, subst, sym}
-use Rattle.server_core.specs.Said.{event_of}
+use Rattle.events_and_replies.specs.Said.{event_of}
 use Rattle.record_laws.specs.Answers.{reply_after, reply_told}
 use Rattle.transcript_check.specs.Following.{IsTold}
 use Rattle.transcript_check.proofs.Written.{any_end, entry_ends}

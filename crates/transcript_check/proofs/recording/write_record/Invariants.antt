@@ -1,6 +1,6 @@
 use Rattle.std.proofs.Common.{drop, map}
 use Rattle.record_text.specs.Texts.{record_text}
-use Rattle.server_core.specs.Said.{event_of}
+use Rattle.events_and_replies.specs.Said.{event_of}
 use Rattle.record_laws.specs.Written.{record_told}
 use Rattle.transcript_check.specs.Following.{IsRecording}
 use Rattle.transcript_check.proofs.recording.write_record.Given as goal

@@ -1,6 +1,6 @@
 use Rattle.std.proofs.Common.{◌∙◌, ap, subst, sym}
 use Rattle.std.proofs.lemmas.List.Elements.{All-cons}
-use Rattle.server_core.specs.Said.{event_of}
+use Rattle.events_and_replies.specs.Said.{event_of}
 use Rattle.record_text.specs.Told.{IsTold}
 use Rattle.record_laws.specs.Answers.{reply_told}
 use Rattle.event_facts.specs.Tellable.{IsTellable}

@@ -1,4 +1,4 @@
-use Rattle.server_core.specs.Said.{event_of}
+use Rattle.events_and_replies.specs.Said.{event_of}
 use Rattle.world_parts.proofs.Cores.{told_stands, told_reply, told_written}
 use Rattle.world_parts.proofs.core_calls.tell.Goals as goal
 

@@ -5,8 +5,8 @@ use Rattle.std.proofs.lemmas.List.Elements.{All-more}
 use Rattle.module_semantics.specs.Analysis.{transformed}
 use Rattle.module_semantics.specs.ModuleText.{parsing}
 use Rattle.core_model.specs.Transcript.{IsTrueEvent}
-use Rattle.server_core.specs.Said.{event_of}
-use Rattle.server_core.specs.declared.event.Event.{Event}
+use Rattle.events_and_replies.specs.Said.{event_of}
+use Rattle.events_and_replies.specs.declared.event.Event.{Event}
 use Rattle.record_agreement.specs.Recordable.{IsRecordable}
 use Rattle.written_records.proofs.noting.note_events.Goals as goal
 

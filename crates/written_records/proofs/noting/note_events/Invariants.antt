@@ -3,7 +3,7 @@ use Rattle.std.specs.Prelude.{All}
 use Rattle.module_semantics.specs.Analysis.{transformed}
 use Rattle.module_semantics.specs.ModuleText.{parsing}
 use Rattle.core_model.specs.Transcript.{IsTrueEvent}
-use Rattle.server_core.specs.Said.{event_of}
+use Rattle.events_and_replies.specs.Said.{event_of}
 use Rattle.record_agreement.specs.Recordable.{IsRecordable}
 use Rattle.written_records.proofs.noting.note_events.Given as goal
 

@@ -8,9 +8,10 @@ use Rattle.core_model.specs.Names.{Name, names_of}
 use Rattle.core_model.specs.View.{View, dropped_of, is_in}
 use Rattle.page_plan.specs.Renewals.{IsClosed, put_all}
 use Rattle.client_queue.specs.Queue.{Queue, is_marked, knows}
+use Rattle.page_marks.specs.Marks.{AreRenewed}
 use Rattle.client_records.specs.InPlace.{IsInPlace}
 use Rattle.client_records.specs.Inside.{AreCounted, kept_of}
-use Rattle.client_records.specs.Made.{AreRenewed, HasMade}
+use Rattle.client_records.specs.Made.{HasMade}
 use Rattle.client_records.specs.Record.{IsRecord, Kept}
 use Rattle.client_records.proofs.InPlace.{closed_in_place, counted_in_place, dropped_in_place, first_alike, first_same, has_made, known_in_place, marked_in_place, none_in_queue, queue_is, rising_in_place}
 use Rattle.client_records.proofs.client_record.ClientRecord.renew.Goals as goal

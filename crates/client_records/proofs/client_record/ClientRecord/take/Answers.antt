@@ -5,11 +5,12 @@ use Rattle.core_model.specs.Names.{Name, has}
 use Rattle.core_model.specs.View.{dropped_of}
 use Rattle.page_plan.specs.Renewals.{IsClosed}
 use Rattle.client_queue.specs.Queue.{knows}
+use Rattle.page_marks.specs.Marks.{AreRenewed}
+use Rattle.page_marks.proofs.Renewing.{marked_made}
 use Rattle.client_records.specs.Inside.{kept_of}
-use Rattle.client_records.specs.Made.{AreRenewed, HasMade}
+use Rattle.client_records.specs.Made.{HasMade}
 use Rattle.client_records.specs.Record.{Kept}
 use Rattle.client_records.proofs.Applying.{IsTaken, taken, none_forced}
-use Rattle.client_records.proofs.Renewing.{marked_made}
 use Rattle.client_records.proofs.client_record.ClientRecord.take.Goals as goal
 
 pub returns-clause-made : goal.returns-clause-made

@@ -1,7 +1,7 @@
 use Rattle.std.proofs.Common.{◌≡◌, IfOk, sym}
 use Rattle.std.specs.Option.{option_map}
 use Rattle.std.proofs.Math.Path.{subst}
-use Rattle.server_core.specs.Said.{event_of}
+use Rattle.events_and_replies.specs.Said.{event_of}
 use Rattle.event_runs.specs.CoreEvents.{core_event_in}
 use Rattle.event_runs.specs.Runs.{run_of}
 use Rattle.event_runs.specs.Steps.{event_step_of}

@@ -1,6 +1,6 @@
 use Rattle.std.proofs.Common.{ap, sym, ◌∙◌}
 use Rattle.std.specs.Prelude.{Some, None, option_map}
-use Rattle.server_core.specs.Said.{event_of}
+use Rattle.events_and_replies.specs.Said.{event_of}
 use Rattle.event_runs.specs.Steps.{event_step_of}
 use Rattle.event_runs.proofs.Logging.{logged_off, logged_on, logged_still, told_so_far}
 use Rattle.event_world.proofs.Standing.{of_ok}

@@ -1,6 +1,6 @@
 use Rattle.std.proofs.Common.{sym, subst}
 use Rattle.core_model.specs.Roots.{AreRoots}
-use Rattle.server_core.specs.declared.event.NewFault.TheVariants.{DuplicateRoot, NoRoots, TooManyRoots}
+use Rattle.server_core.specs.declared.new_fault.NewFault.TheVariants.{DuplicateRoot, NoRoots, TooManyRoots}
 use Rattle.hmr_hub.proofs.Rooting.{are_roots, same_fault}
 use Rattle.hmr_hub.proofs.pass.Hub.new.Goals as goal
 

@@ -1,5 +1,5 @@
 use Rattle.std.proofs.Common.{◌≡◌, ◌∙◌, ap, false, refl, subst, sym}
-use Rattle.server_core.specs.Said.{event_of}
+use Rattle.events_and_replies.specs.Said.{event_of}
 use Rattle.turn_lock.specs.Histories.{grown}
 use Rattle.hmr_hub.specs.declared.hub_reply.HubReply.TheVariants as hub_reply
 use Rattle.hmr_hub.specs.Kinds.{asked_of}

@@ -1,8 +1,8 @@
 use Rattle.std.proofs.Common.{◌++◌, ◌∷◌, [], ◌∙◌, ap, sym, subst}
-use Rattle.server_core.specs.Said.{event_of}
-use Rattle.hmr_hub.specs.KeptEvents.{kept_as}
+use Rattle.events_and_replies.specs.Said.{event_of}
+use Rattle.transcripts.specs.KeptEvents.{kept_as}
 use Rattle.hmr_hub.specs.Pages.{ArePages}
-use Rattle.hmr_hub.specs.Transcripts.{is_full, past_of}
+use Rattle.transcripts.specs.Transcripts.{is_full, past_of}
 use Rattle.hmr_hub.proofs.Legal.{place_in}
 use Rattle.hmr_hub.proofs.Sounding.{after_event, as_before}
 use Rattle.hmr_hub.proofs.recorded_core.RecordedCore.record.Goals as goal

@@ -3,7 +3,7 @@ use Rattle.std.specs.Prelude.{All}
 use Rattle.hmr_hub.specs.declared.pass.Pass.{Pass}
 use Rattle.hmr_hub.specs.Calls.{SameKnower}
 use Rattle.hmr_hub.specs.Passes.{HasTranscript, IsPassOf, seen_of}
-use Rattle.hub_moves.specs.Moves.{KnowsOwn}
+use Rattle.hmr_hub.specs.Moves.{KnowsOwn}
 use Rattle.hub_editor.specs.Editing.{Edited, SameEdits}
 use Rattle.hub_editor.proofs.Ending.{HasLast}
 use Rattle.hub_editor.proofs.editor.Editor.settle_rest.Given as goal

@@ -8,7 +8,7 @@ use Rattle.core_model.specs.Core.{connect}
 use Rattle.core_model.specs.Names.{Name}
 use Rattle.core_model.specs.Roots.{are_bad, roots_or}
 use Rattle.client_records.specs.Record.{IsRecord}
-use Rattle.server_core.specs.declared.event.Reply.TheVariants as replies
+use Rattle.events_and_replies.specs.declared.event.Reply.TheVariants as replies
 use Rattle.server_core.specs.Clients.{numbers_of}
 use Rattle.server_core.specs.Inside.{kept_of}
 use Rattle.server_core.specs.Kept.{Kept, IsStep}

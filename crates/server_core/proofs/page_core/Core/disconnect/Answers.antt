@@ -3,7 +3,7 @@ use Rattle.std.specs.Prelude.{is_some, not, Ok}
 use Rattle.std.proofs.Math.Path.{subst}
 use Rattle.core_model.specs.Core.{client_at, disconnect}
 use Rattle.core_model.specs.declared.refusal.Refusal.TheVariants.{UnknownClient}
-use Rattle.server_core.specs.declared.event.Reply.TheVariants as replies
+use Rattle.events_and_replies.specs.declared.event.Reply.TheVariants as replies
 use Rattle.server_core.specs.Inside.{kept_of}
 use Rattle.server_core.specs.Kept.{IsStep}
 use Rattle.server_core.proofs.Keeping.{taken_sound}

@@ -5,7 +5,7 @@ use Rattle.core_model.specs.Client.{without_notice}
 use Rattle.core_model.specs.Core.{change, each_client}
 use Rattle.core_model.specs.Sources.{result, sources_after}
 use Rattle.client_records.specs.Record.{SameBut}
-use Rattle.server_core.specs.declared.event.Reply.TheVariants as replies
+use Rattle.events_and_replies.specs.declared.event.Reply.TheVariants as replies
 use Rattle.server_core.specs.Clients.{AreClients, numbers_of}
 use Rattle.server_core.specs.Inside.{kept_of}
 use Rattle.server_core.specs.Kept.{IsStep}

@@ -4,7 +4,7 @@ use Rattle.std.proofs.Math.Path.{subst}
 use Rattle.std.proofs.lemmas.Bool.{false≢true}
 use Rattle.core_model.specs.Requests.{ask, fetch, applied_as, aborted, invalidate}
 use Rattle.server_core.specs.Kept.{IsStep}
-use Rattle.server_core.specs.Said.{event_of}
+use Rattle.events_and_replies.specs.Said.{event_of}
 use Rattle.std.specs.Vec.{with_items}
 use Rattle.server_core.specs.Inside.{kept_of}
 use Rattle.server_core.proofs.Keeping.{heard_step}

@@ -7,7 +7,7 @@ use Rattle.core_model.specs.Sources.{Change, edit, edit_answer, sources_after}
 use Rattle.version_map.specs.Standing as sources
 use Rattle.version_map.specs.declared.outcome.EditFault.TheVariants.{Refused}
 use Rattle.version_map.specs.declared.outcome.EditOutcome.TheVariants as edits
-use Rattle.server_core.specs.declared.event.Reply.TheVariants as replies
+use Rattle.events_and_replies.specs.declared.event.Reply.TheVariants as replies
 use Rattle.server_core.specs.Clients.{AreClients, numbers_of}
 use Rattle.server_core.specs.Inside.{kept_of}
 use Rattle.server_core.specs.Kept.{IsStep}

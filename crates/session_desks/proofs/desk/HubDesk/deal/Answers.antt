@@ -5,7 +5,7 @@ use Rattle.core_model.specs.Exchange.{event_of}
 use Rattle.core_model.specs.declared.refusal.Refusal.TheVariants.{Ignored}
 use Rattle.client_exchange.specs.Messages.{is_hello}
 use Rattle.client_exchange.specs.Replies.{client_after}
-use Rattle.hmr_hub.specs.Transcripts.{HasVersion}
+use Rattle.transcripts.specs.Transcripts.{HasVersion}
 use Rattle.session_desks.specs.Telling.{Told}
 use Rattle.session_desks.proofs.Answering.{never_none, reply_for_client, reply_writable}
 use Rattle.session_desks.proofs.Dealing.{dealt_heard, dealt_refused, unrefused, version_refused}

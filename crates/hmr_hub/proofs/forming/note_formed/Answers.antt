@@ -1,6 +1,0 @@
-use Rattle.server_core.specs.Said.{event_of}
-use Rattle.hmr_hub.proofs.EventForms.{formed_event}
-use Rattle.hmr_hub.proofs.forming.note_formed.Goals as goal
-
-pub returns-clause-formed : goal.returns-clause-formed
-returns-clause-formed c = formed_event (event_of c.args.event.now) c.note_event.ensures c.requires

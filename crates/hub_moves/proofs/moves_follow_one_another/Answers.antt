@@ -1,8 +1,0 @@
-use Rattle.hub_moves.proofs.Moves.{knows_moved, moved_then}
-use Rattle.hub_moves.proofs.moves_follow_one_another.Goals as goal
-
-pub returns-clause-both : goal.returns-clause-both
-returns-clause-both c = moved_then
-
-pub returns-clause-knows : goal.returns-clause-knows
-returns-clause-knows c = knows_moved

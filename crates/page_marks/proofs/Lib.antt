@@ -1,0 +1,2 @@
+pub mod Renewing
+mod Tabling

@@ -1,0 +1,2 @@
+mod EventForms
+mod Weights
