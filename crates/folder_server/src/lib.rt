@@ -3,7 +3,7 @@
 //!
 //! [`serve`] is the whole of a task, from the first scan to the report, over an [`Outside`]. Stands on
 //! `folder_edits` for the edits and the report, whose definitions say what it did and wrote, and on
-//! `server_threads` for the jobs in threads. Keeps: what is written is the report of one transcript, which
+//! `serve_crew` for the jobs in threads. Keeps: what is written is the report of one transcript, which
 //! begins with the first scan and has each later edit once and in order; a status of failure comes only where
 //! the count of what failed rose. A call takes memory only where its result can say that memory ran out.
 //! Knows nothing of the command line, nor of what carries a connection.

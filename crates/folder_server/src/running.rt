@@ -27,7 +27,7 @@ use hmr_hub::{Hub, Pass};
 use hub_editor::Editor;
 use jobs::{Gate, Spawner};
 use retained_data::{Bag, Ran};
-use server_threads::{Crew, begin_all, finish_all};
+use serve_crew::{Crew, begin_all, finish_all};
 use std::alloc::{AllocError, Global};
 use std::sync::{Arc, Wait};
 use std::thread::Threads;

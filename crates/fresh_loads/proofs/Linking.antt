@@ -15,7 +15,7 @@ use Rattle.core_model.specs.FreshLoad.{Served, imports, imports_in, reached_by, 
 use Rattle.core_model.proofs.Naming.{has_is, same_true, head_has, tail_has, sorted_has}
 use Rattle.core_model.proofs.Loading.{reached_is}
 use Rattle.core_model.proofs.Reaching.{reaches_on}
-use Rattle.import_scan.specs.Links.{links}
+use Rattle.import_links.specs.Links.{links}
 use Rattle.fresh_loads.specs.Searching.{AreMarks, AreExports, AreClosed, HaveExports, IsExports, IsLookedAt, kept_or_none, unlinked_in, unlinked_by}
 use Rattle.module_graph.proofs.Sets.{has_take_more}
 use Rattle.version_map.proofs.Alike.{same_filtered}

@@ -5,7 +5,7 @@ ghost use Rattle.core_model.specs.FreshLoad.{linked_from};
 ghost use Rattle.fresh_loads.specs.Searching.{kept_or_none};
 
 use hmr_types::{ModName, Name, Sequence};
-use import_scan::Link;
+use import_links::Link;
 use std::alloc::{AllocError, Global};
 use std::collections::BTreeMap;
 use std::marker::Model;

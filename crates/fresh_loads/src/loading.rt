@@ -2,7 +2,7 @@
 ghost use Rattle.std.specs.Prelude.{◌≡◌, ◌++◌, ℕ, All, IfOk, List, OnOk, filter, is_some, not};
 ghost use Rattle.core_model.specs.Names.{Name, at, collect, with_entry};
 ghost use Rattle.core_model.specs.FreshLoad.{fresh_load, version_in};
-ghost use Rattle.import_scan.specs.Links.{links};
+ghost use Rattle.import_links.specs.Links.{links};
 ghost use Rattle.fresh_loads.specs.Fresh.{HasVersion, load_of};
 
 use crate::reach::reached_names;

@@ -3,13 +3,13 @@
 ghost use Rattle.std.specs.Prelude.{◌≡◌, ◌++◌, IfOk, OnOk, filter, flat_map, map, not};
 ghost use Rattle.core_model.specs.Names.{at, has, sorted};
 ghost use Rattle.core_model.specs.FreshLoad.{Served, imports_in, unlinked_edge, unlinked_module};
-ghost use Rattle.import_scan.specs.Links.{links};
+ghost use Rattle.import_links.specs.Links.{links};
 ghost use Rattle.fresh_loads.specs.Searching.{AreClosed, HaveExports, unlinked_by};
 
 use crate::exports::{ExportSet, Exports};
 use crate::linked::Linked;
 use hmr_types::{ModName, Name};
-use import_scan::{Link, links};
+use import_links::{Link, links};
 use module_graph::{copy_of, rising};
 use std::alloc::{AllocError, Global};
 use version_map::VersionMap;

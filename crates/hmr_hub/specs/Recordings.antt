@@ -1,5 +1,5 @@
 -- What is under the lock, as contracts see it.
-use Rattle.std.specs.Prelude.{ℕ, List, [], Option, Some, None}
+use Rattle.std.specs.Prelude.{List, [], Option, Some, None}
 use Rattle.core_model.specs.Names.{Name}
 use Rattle.core_model.specs.Transcript.{Recorded}
 

@@ -8,7 +8,7 @@ use Rattle.core_model.specs.Core.{Event, core_after}
 use Rattle.core_model.specs.Transcript.{Recorded}
 use Rattle.client_model.specs.Printing.{module_line}
 use Rattle.world_model.specs.Steps.{fresh_lines}
-use Rattle.import_scan.specs.Links.{links}
+use Rattle.import_links.specs.Links.{links}
 use Rattle.hmr_hub.specs.declared.report_line.ReportLine.{ReportLine}
 use Rattle.hmr_hub.specs.declared.report_line.ReportLine.TheVariants.{Steps, Client, Line}
 use Rattle.hmr_hub.specs.Pages.{Page, last_page}

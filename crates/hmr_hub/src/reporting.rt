@@ -12,11 +12,10 @@ ghost use Rattle.hmr_hub.specs.declared.report_line.ReportLine.TheVariants.{Line
 
 use crate::recorded_core::RecordedCore;
 use crate::report_line::ReportLine;
-use core_loads::fresh;
 use fresh_loads::{Fresh, load_lines};
 use hmr_types::{ClientId, ModName, Table, Ver};
 use output_lines::OutLine;
-use server_core::Core;
+use server_core::{Core, fresh};
 use std::alloc::{AllocError, Global};
 
 impl RecordedCore {

@@ -17,13 +17,13 @@ use Rattle.client_model.specs.Past.{Past, runtime_after}
 use Rattle.client_model.specs.Printing.{is_at_rest, show_lines, module_line, stale_line, table}
 use Rattle.client_model.specs.Runtime.{Runtime, Opening}
 use Rattle.client_model.specs.Stale.{stale_of}
-use Rattle.import_scan.specs.Links.{links}
+use Rattle.import_links.specs.Links.{links}
 use Rattle.module_language.specs.ModuleLanguage.{module_language}
 use Rattle.runtime_state.specs.Standing as runtimes
 use Rattle.runtime_state.specs.declared.runtime.HotRuntime.{HotRuntime}
 use Rattle.fresh_loads.specs.Fresh.{load_of}
 use Rattle.server_core.specs.Reading.{is_resting, rests}
-use Rattle.core_loads.specs.Loads.{load_at}
+use Rattle.server_core.specs.Loads.{load_at}
 use Rattle.fresh_loads.specs.declared.loading.Fresh.{Fresh}
 use Rattle.world_model.specs.CaughtUp.{is_caught_up, state_of}
 use Rattle.world_model.specs.Playing.{is_up, is_up_in}

@@ -10,11 +10,11 @@ ghost use Rattle.hmr_world.specs.Standing.{IsStepped, StandsFor};
 
 use crate::clients::client_at;
 use crate::world::World;
-use core_loads::{fresh, fresh_of};
 use fresh_loads::{add_modules, load_lines};
 use hmr_types::{ClientId, ModName, Ver};
 use output_lines::OutLine;
 use runtime_showing::{fates, stale, values};
+use server_core::{fresh, fresh_of};
 use std::alloc::AllocError;
 use world_parts::{WorldStop, add_stale, one_line, state_of, unknown};
 

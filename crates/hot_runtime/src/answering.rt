@@ -12,15 +12,13 @@ ghost use Rattle.client_plan.specs.UnderWay.{is_applied_told, untold};
 ghost use Rattle.runtime_state.specs.Becoming.{Becomes};
 ghost use Rattle.runtime_state.specs.Standing.{HasRoom, IsSound, Keeps, KeepsWords};
 
-use crate::applying::apply;
-use crate::fetching::stage;
+use answer_kinds::{is_done, is_note};
 use client_plan::Cause;
 use output_lines::OutLine;
+use plan_starts::{connect, start_reload, start_update};
+use plan_steps::{apply, stage};
 use retained_data::{Bag, Ran};
-use runtime_answers::{
-    abort, connect, give_cause, idle, invalidated, is_done, is_note, refused, start_reload,
-    start_update, tell,
-};
+use runtime_answers::{abort, give_cause, idle, invalidated, refused, tell};
 use runtime_events::prune;
 use runtime_state::HotRuntime;
 use std::alloc::AllocError;

@@ -13,9 +13,10 @@ ghost use Rattle.runtime_state.specs.Becoming.{IsTaking};
 ghost use Rattle.runtime_state.specs.Standing.{IsSound, Keeps, KeepsWords, StandsFor};
 
 use crate::answering::answer;
+use answer_kinds::{answer_place, is_answer, request_place};
 use output_lines::OutLine;
 use retained_data::{Bag, Ran};
-use runtime_answers::{answer_place, is_answer, overfills, request_place};
+use runtime_answers::overfills;
 use runtime_state::{HotRuntime, RuntimeFault};
 use std::alloc::AllocError;
 use update_msgs::{ClientMsg, ServerMsg};

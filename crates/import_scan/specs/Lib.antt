@@ -1,4 +1,3 @@
 pub mod Analysing
 pub mod Fault
-pub mod Links
 pub mod Scanning

@@ -17,12 +17,13 @@ ghost use Rattle.script_runs.specs.Outputs.{output_of};
 use crate::make::make;
 use crate::record::record;
 use crate::script::play;
+use audit_command::audit;
 use command_words::{Command, WordsFault};
 use handler_table::Shelf;
 use hmr_base::{Sink, Source};
 use retained_data::{Bag, Ran};
 use std::alloc::{AllocError, Global};
-use text_commands::{Stop, audit, check, tell_end};
+use text_commands::{Stop, check, tell_end};
 use world_parts::discard;
 
 /// Carries out `play`, `check`, `make`, `record` or `audit`, for words that were read so, and writes the line

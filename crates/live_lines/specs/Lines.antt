@@ -4,7 +4,7 @@ use Rattle.std.specs.Prelude.{if◌then◌else◌}
 use Rattle.std.specs.List.{flat_map}
 use Rattle.core_model.specs.Names.{Name}
 use Rattle.hmr_types.specs.declared.analysis.TextFault.{TextFault}
-use Rattle.play_text.specs.Words.{fault_word}
+use Rattle.word_texts.specs.Words.{fault_word}
 use Rattle.live_lines.specs.declared.clock.Clock.{Clock}
 use Rattle.live_lines.specs.declared.line_text.Style.{Style}
 use Rattle.live_lines.specs.declared.news.AnewCause.{AnewCause}

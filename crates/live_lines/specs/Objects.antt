@@ -4,7 +4,7 @@ use Rattle.std.specs.Prelude.{None, if◌then◌else◌}
 use Rattle.std.specs.List.{flat_map}
 use Rattle.core_model.specs.Names.{Name}
 use Rattle.hmr_types.specs.declared.analysis.TextFault.{TextFault}
-use Rattle.play_text.specs.Words.{cause_word, fault_word}
+use Rattle.word_texts.specs.Words.{cause_word, fault_word}
 use Rattle.update_msgs.specs.declared.message.AbortCause.{AbortCause}
 use Rattle.update_msgs.specs.declared.message.AbortCause.TheVariants.{Missing, Broken, Link}
 use Rattle.live_lines.specs.declared.clock.Clock.{Clock}

@@ -5,7 +5,7 @@ use Rattle.std.specs.List.{flat_map}
 use Rattle.core_model.specs.Names.{Name, has}
 use Rattle.hmr_types.specs.ModName.{is_text}
 use Rattle.hmr_types.specs.declared.words.ReloadCause.{ReloadCause}
-use Rattle.play_text.specs.Words.{cause_word}
+use Rattle.word_texts.specs.Words.{cause_word}
 use Rattle.update_msgs.specs.declared.message.AbortCause.{AbortCause}
 use Rattle.update_msgs.specs.declared.message.AbortCause.TheVariants.{Missing, Broken, Link}
 use Rattle.live_lines.specs.declared.line_text.Style.{Style}

@@ -7,8 +7,8 @@ ghost use Rattle.live_lines.specs.Lines.{fault_text, lines_below, place_text};
 use crate::Style;
 use crate::pieces::{put, put_counted, put_off, put_on, put_shown};
 use hmr_types::{ModName, Text, TextFault};
-use play_text::fault_str;
 use std::alloc::AllocError;
+use word_texts::fault_str;
 
 /// Puts the place and the word of a fault, and where it has a place and a line the line with a caret below it.
 pub(crate) fn put_fault(

@@ -12,9 +12,9 @@ use crate::json_pieces::{
 use crate::pieces::{put, put_clock};
 use crate::{AnewCause, Clock, Foreign, News, PageNews, PassedCause, StaleBinding};
 use hmr_types::{ClientId, ModName, Text, TextFault, Ver};
-use play_text::{cause_str, fault_str};
 use std::alloc::{AllocError, Global};
 use update_msgs::AbortCause;
+use word_texts::{cause_str, fault_str};
 
 /// The bytes of a piece of news as one JSON object, with its time and the word of its event, and an LF behind
 /// it. It takes time linear in the bytes.

@@ -5,7 +5,7 @@
 //! names a module imports is told to it as an [`ImportedName`] for each.
 //! [`line_of`] gives the line of a [`News`], [`json_of`] the same as one JSON object.
 //!
-//! Stands on the messages (`update_msgs`) and on `play_text` for the words of faults and causes. Keeps: a
+//! Stands on the messages (`update_msgs`) and on `word_texts` for the words of faults and causes. Keeps: a
 //! stale binding is one whose instance isn't the live one of its module; each text is its definition. Only a
 //! call that can return `AllocError` takes memory. Knows nothing of sockets, threads or folders, nor of what
 //! stands in the text of a module, and no time but the one that it is given.

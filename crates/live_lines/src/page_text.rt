@@ -13,9 +13,9 @@ use crate::lists::{put_list, put_path};
 use crate::pieces::{put, put_between, put_both, put_counted, put_off, put_on, put_shown};
 use crate::{PageNews, StaleBinding, Style};
 use hmr_types::{ClientId, ModName, ReloadCause, Text, Ver};
-use play_text::cause_str;
 use std::alloc::{AllocError, Global};
 use update_msgs::AbortCause;
+use word_texts::cause_str;
 
 /// Puts what changed on a page.
 pub(crate) fn put_page_news(

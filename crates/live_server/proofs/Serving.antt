@@ -14,11 +14,11 @@ use Rattle.hub_editor.specs.Editing.{AreAnswered, Edited, entries_of}
 use Rattle.hub_editor.specs.Results.{HasOwnResults, result_entry}
 use Rattle.hub_editor.proofs.Steps.{answers_moved, own_moved}
 use Rattle.serve_reports.proofs.Joins.{all_calls, all_look}
-use Rattle.live_server.specs.Doors.{doors_begun}
-use Rattle.live_server.specs.Held.{HasDoors}
+use Rattle.live_crew.specs.Doors.{doors_begun}
+use Rattle.live_crew.specs.Held.{HasDoors}
 use Rattle.live_server.specs.Serving.{HasJoined, Served}
-use Rattle.live_server.specs.Splits.{Divided}
-use Rattle.live_server.proofs.Held.{doors_within}
+use Rattle.live_crew.specs.Splits.{Divided}
+use Rattle.live_crew.proofs.Held.{doors_within}
 
 -- a look at the transcript, after the passes were joined
 pub joined_look : (passes : List Pass) (p q r : Pass) → KnowsOwn p → HasJoined passes p q → SameKnower q r → Looked q r → HasTranscript r

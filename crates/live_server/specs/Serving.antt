@@ -1,5 +1,5 @@
 -- What a live server leaves: one transcript, and its record.
-use Rattle.std.specs.Prelude.{◌≡◌, ◌≤◌, ◌+◌, ◌++◌, ℕ, Bool, false, List, [], ◌∷◌, All, flat_map, length, map, sum}
+use Rattle.std.specs.Prelude.{◌≡◌, ◌≤◌, ◌++◌, ℕ, Bool, false, List, [], ◌∷◌, All, flat_map, length, map, sum}
 use Rattle.std.specs.Prelude.{Option, None, IfSome}
 use Rattle.std.specs.Global.{Vec}
 use Rattle.std.specs.List.Sorted.{IsPermutation}
@@ -19,12 +19,8 @@ use Rattle.record_laws.specs.Sound.{rests_behind}
 use Rattle.record_laws.specs.Written.{lines_told, record_told}
 use Rattle.record_laws.specs.declared.verdict.Verdict.TheVariants.{Yes}
 use Rattle.serve_reports.specs.Within.{HasCalls, IsWithin}
-use Rattle.live_server.specs.Held.{HasSessions, Held, pass_of}
-use Rattle.live_server.specs.Doors.{doors_begun}
-
--- how many passes there are once all jobs are finished: each job gives one back
-abbrev pub passes_due : {J : Type 0} → Vec J → Vec Pass → ℕ
-passes_due running passes = length running.items + length passes.items
+use Rattle.live_crew.specs.Held.{HasSessions, Held, pass_of}
+use Rattle.live_crew.specs.Doors.{doors_begun}
 
 -- the record of what a pass has seen, of which the check of records says yes, with as many steps as that has
 -- entries

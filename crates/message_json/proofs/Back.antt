@@ -15,7 +15,7 @@ use Rattle.hmr_types.specs.declared.analysis.FaultWord.{FaultWord}
 use Rattle.hmr_types.specs.declared.analysis.FaultWord.TheVariants as faults
 use Rattle.json_readings.specs.Object.{further_member}
 use Rattle.core_model.specs.Exchange.{read_in}
-use Rattle.play_text.specs.Words.{fault_word}
+use Rattle.word_texts.specs.Words.{fault_word}
 use Rattle.update_msgs.specs.declared.message.AbortCause.TheVariants.{Missing, Broken, Link}
 use Rattle.update_msgs.specs.declared.message.ClientMsg.{ClientMsg}
 use Rattle.update_msgs.specs.declared.message.ClientMsg.TheVariants as client

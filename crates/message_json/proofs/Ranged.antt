@@ -7,7 +7,7 @@ use Rattle.serde_json.specs.Data.{Data, Items, no_items, item}
 use Rattle.serde_json.specs.Find.{get, as_str, as_number, as_u64, as_array}
 use Rattle.hmr_types.specs.declared.analysis.FaultWord.{FaultWord}
 use Rattle.hmr_types.specs.declared.limits.TheConstants.{LARGEST_CLIENT, LARGEST_NUMBER}
-use Rattle.play_text.specs.Words.{fault_word, cause_word}
+use Rattle.word_texts.specs.Words.{fault_word, cause_word}
 use Rattle.message_text.specs.Words.{abort_word}
 use Rattle.update_msgs.specs.Names.{rise}
 use Rattle.update_msgs.specs.Writable.{IsBetween, IsAtMost, IsPlace, FitsBatch, IsBatch, FitsCause, IsSayable, IsWritable}

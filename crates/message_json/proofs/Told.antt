@@ -8,7 +8,7 @@ use Rattle.hmr_types.specs.declared.limits.TheConstants.{LARGEST_CLIENT, LARGEST
 use Rattle.json_readings.specs.Ordered.{IsOrdered}
 use Rattle.json_readings.specs.Object.{entries}
 use Rattle.json_readings.proofs.Ordered.{ordered-read}
-use Rattle.play_text.specs.Words.{fault_word, cause_word}
+use Rattle.word_texts.specs.Words.{fault_word, cause_word}
 use Rattle.update_msgs.specs.declared.message.JsUpdate.{JsUpdate}
 use Rattle.update_msgs.specs.declared.message.ServerMsg.{ServerMsg}
 use Rattle.update_msgs.specs.declared.message.ServerMsg.TheVariants as msg

@@ -9,7 +9,7 @@ use Rattle.serde_json.specs.Find.{as_str}
 use Rattle.hmr_types.specs.declared.analysis.FaultWord.{FaultWord}
 use Rattle.hmr_types.specs.declared.limits.TheConstants.{LARGEST_CLIENT, LARGEST_NUMBER}
 use Rattle.hmr_types.specs.ModName.{is_name}
-use Rattle.play_text.specs.Words.{fault_word, cause_word}
+use Rattle.word_texts.specs.Words.{fault_word, cause_word}
 use Rattle.update_msgs.specs.declared.message.JsUpdate.{JsUpdate}
 use Rattle.update_msgs.specs.declared.message.ServerMsg.{ServerMsg}
 use Rattle.update_msgs.specs.declared.message.ServerMsg.TheVariants as msg

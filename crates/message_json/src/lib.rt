@@ -1,7 +1,7 @@
 //! Messages as JSON, both ways: the message that bytes read as, and the text of each message again.
 //!
 //! Stands on the messages (`update_msgs`), on their text (`message_text`), on the words of faults
-//! (`play_text`) and on the toolchain's `serde_json`, whose `Value` is read. Keeps: what is written of a
+//! (`word_texts`) and on the toolchain's `serde_json`, whose `Value` is read. Keeps: what is written of a
 //! message reads as it; what is read is in its ranges, and has no more bytes of names and texts than its
 //! input. Knows nothing of links, of sources or of pages.
 #![tactic(auto)]

@@ -3,7 +3,7 @@ ghost use Rattle.std.specs.Prelude.{◌≡◌, IfErr, IfOk, IsErrOf, Ok};
 ghost use Rattle.serde_json.specs.Data.{Data};
 ghost use Rattle.serde_json.specs.View.{view};
 ghost use Rattle.core_model.specs.Exchange.{read_in};
-ghost use Rattle.play_text.specs.Words.{cause_word, fault_word};
+ghost use Rattle.word_texts.specs.Words.{cause_word, fault_word};
 ghost use Rattle.update_msgs.specs.Writable.{IsFormat, IsWritable};
 ghost use Rattle.update_msgs.specs.declared.message.ServerMsg as told;
 ghost use Rattle.update_msgs.specs.declared.message.ServerMsg.TheVariants as msg;

@@ -1,7 +1,7 @@
 // The words of messages as they are read: the cause of a plan that was given up, the cause of a reload, the
 // kind of a fault.
 ghost use Rattle.std.specs.Prelude.{◌≡◌};
-ghost use Rattle.play_text.specs.Words.{cause_word, fault_word};
+ghost use Rattle.word_texts.specs.Words.{cause_word, fault_word};
 ghost use Rattle.message_text.specs.Words.{abort_word};
 ghost use Rattle.message_json.specs.Words.{abort_causes, fault_kinds, is_link, reload_causes, spelled};
 

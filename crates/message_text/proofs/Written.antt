@@ -27,7 +27,7 @@ use Rattle.update_msgs.specs.declared.message.JsUpdate.{JsUpdate}
 use Rattle.update_msgs.specs.declared.message.ServerMsg.{ServerMsg}
 use Rattle.update_msgs.specs.declared.message.ServerMsg.TheVariants as server
 use Rattle.json_readings.specs.Object.{entries}
-use Rattle.play_text.specs.Words.{cause_word}
+use Rattle.word_texts.specs.Words.{cause_word}
 use Rattle.message_text.specs.Values.{HasReading, list, row, tokens_of, whole}
 use Rattle.message_text.specs.ClientText.{HasTable, client_text, unless_empty, say}
 use Rattle.message_text.specs.ServerText.{js_update, tell}

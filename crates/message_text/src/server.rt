@@ -3,7 +3,7 @@ ghost use Rattle.std.specs.Prelude.{◌≡◌, ◌∷◌, [], codes, Some, IfOk,
 ghost use Rattle.serde_json.specs.Data.{string};
 ghost use Rattle.serde_json.specs.View.{view};
 ghost use Rattle.json_readings.specs.Object.{entries};
-ghost use Rattle.play_text.specs.Words.{cause_word};
+ghost use Rattle.word_texts.specs.Words.{cause_word};
 ghost use Rattle.update_msgs.specs.Writable.{IsFormat, IsWritable};
 ghost use Rattle.message_text.specs.Values.{HasReading, alone, list, number_or_null, only_path};
 ghost use Rattle.message_text.specs.Values.{or_null, whole};
@@ -11,10 +11,10 @@ ghost use Rattle.message_text.specs.ServerText.{in_second, js_update, server_tex
 
 use crate::parts::{name_or_null, names_value, number_or_null};
 use hmr_types::{ClientId, FaultWord, ModName, ReloadCause, Text, Ver};
-use play_text::{cause_str, fault_str};
 use serde_json::{Value, json};
 use std::alloc::{AllocError, Global};
 use update_msgs::{JsUpdate, ServerMsg};
+use word_texts::{cause_str, fault_str};
 
 /// The text of a server's message in a format, 1 or 2, in which it can be written: compact, with its keys in
 /// byte order. It reads as the message in that format. It takes time and memory in proportion to the text.

@@ -4,8 +4,8 @@ use Rattle.std.specs.List.{flat_map}
 use Rattle.std.specs.Fmt.{signed_decimal}
 use Rattle.play_script.specs.Texts.{event_text, names_text, spaced, spaced_number}
 use Rattle.play_text.specs.Texts.{of_client, escaped, quoted, after_space}
-use Rattle.play_text.specs.Words.{fault_word, refusal_word, plan_word, cause_word, place_word}
-use Rattle.play_text.specs.Words.{kind_word, state_word, end_word, status_word, ending_word}
+use Rattle.word_texts.specs.Words.{fault_word, refusal_word, plan_word, cause_word, place_word}
+use Rattle.word_texts.specs.Words.{kind_word, state_word, end_word, status_word, ending_word}
 use Rattle.hmr_types.specs.declared.analysis.FaultWord.{FaultWord}
 use Rattle.hmr_types.specs.declared.analysis.TextFault.{TextFault}
 use Rattle.output_lines.specs.declared.out_line.OutLine.{OutLine}

@@ -12,7 +12,6 @@ use crate::outcomes::{
 use crate::pieces::{
     put, put_escaped, put_event, put_names, put_number, put_of, put_spaced, put_spaced_number,
 };
-use crate::word_texts::{cause_str, end_str, kind_str, place_str, state_str};
 use hmr_types::{
     ClientId, EvalFault, FaultWord, HandlerKind, ModName, Name, ReloadCause, Slot, Text, Ver,
 };
@@ -21,6 +20,7 @@ use output_lines::{
     InstanceStatus, RemoveWord, SettleWord,
 };
 use std::alloc::AllocError;
+use word_texts::{cause_str, end_str, kind_str, place_str, state_str};
 
 /// Puts a word and a text.
 pub fn put_worded(out: &mut Vec<u8>, word: &str, text: &str) -> Result<(), AllocError>

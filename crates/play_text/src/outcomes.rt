@@ -8,12 +8,12 @@ ghost use Rattle.play_text.specs.Lines.{fate_text, instance_text, handled_text};
 use crate::pieces::{
     put, put_escaped, put_number, put_quoted, put_signed, put_spaced, put_spaced_number,
 };
-use crate::word_texts::{fault_str, refusal_str, status_str};
 use hmr_types::{EvalFault, FaultWord, ModName, Slot, Text, TextFault, Value, Ver};
 use output_lines::{
     AbortWord, EditWord, Handled, InstanceFate, InstanceStatus, RemoveWord, SettleWord,
 };
 use std::alloc::AllocError;
+use word_texts::{fault_str, refusal_str, status_str};
 
 /// Puts what an instance is, and what became of it.
 pub fn put_instance(

@@ -9,9 +9,9 @@ use crate::line_forms::{
     put_reload_line, put_remove_line, put_settle_line, put_triple, put_value_line, put_worded,
 };
 use crate::pieces::{put, put_of};
-use crate::word_texts::{ending_str, plan_str};
 use output_lines::OutLine;
 use std::alloc::{AllocError, Global};
+use word_texts::{ending_str, plan_str};
 
 /// The bytes of a line, with its LF. The time is linear in them.
 ///

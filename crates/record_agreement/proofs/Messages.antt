@@ -22,7 +22,7 @@ use Rattle.update_msgs.specs.declared.message.ServerMsg.TheVariants as server
 use Rattle.update_msgs.specs.Writable.{IsWritable}
 use Rattle.core_model.specs.Exchange.{read_in}
 use Rattle.core_model.proofs.Naming.{true_same}
-use Rattle.play_text.specs.Words.{cause_word, fault_word}
+use Rattle.word_texts.specs.Words.{cause_word, fault_word}
 use Rattle.message_text.specs.Values.{HasReading}
 use Rattle.message_text.specs.ServerText.{js_update, server_text, tell}
 use Rattle.message_json.specs.declared.fault.MsgFault.{MsgFault}

@@ -22,7 +22,7 @@ use Rattle.play_script.specs.Script.{is_digit, words}
 use Rattle.play_script.proofs.SpelledNames.{has_no_lf}
 use Rattle.play_script.proofs.SpelledNumbers.{has_no_lf-decimal, no_space-decimal}
 use Rattle.play_text.specs.Lines.{text_fault}
-use Rattle.play_text.specs.Words.{fault_word, refusal_word}
+use Rattle.word_texts.specs.Words.{fault_word, refusal_word}
 use Rattle.events_and_replies.specs.Said.{said}
 use Rattle.record_text.specs.Fit.{is_one_line}
 use Rattle.record_text.specs.Numbers.{largest_count}

@@ -8,7 +8,7 @@ use Rattle.serde_json.specs.Read.{read}
 use Rattle.hmr_types.specs.declared.limits.TheConstants.{LARGEST_CLIENT}
 use Rattle.hmr_types.specs.ModName.{is_text}
 use Rattle.play_script.specs.Script.{words}
-use Rattle.play_text.specs.Words.{fault_word}
+use Rattle.word_texts.specs.Words.{fault_word}
 use Rattle.update_msgs.specs.declared.message.ServerMsg.{ServerMsg}
 use Rattle.message_text.specs.ServerText.{server_text}
 use Rattle.message_json.specs.ServerReading.{ok_of, server_of}

@@ -3,7 +3,7 @@ use Rattle.std.specs.Prelude.{ℕ, List, ◌++◌, codes, ⊤}
 use Rattle.hmr_types.specs.declared.analysis.TextFault.{TextFault}
 use Rattle.play_script.specs.Texts.{spaced_number}
 use Rattle.play_text.specs.Lines.{text_fault}
-use Rattle.play_text.specs.Words.{refusal_word}
+use Rattle.word_texts.specs.Words.{refusal_word}
 use Rattle.update_msgs.specs.Writable.{IsWritable}
 use Rattle.message_text.specs.ServerText.{server_text}
 use Rattle.record_text.specs.declared.reply.RecordReply.{RecordReply}

@@ -1,7 +1,7 @@
 //! Records: what a server's core was told, what it answered, and which clients are then said to be at rest,
 //! as lines of text.
 //!
-//! Stands on the vocabulary, on `play_script` for the lines and numbers of a text, on `play_text` for the
+//! Stands on the vocabulary, on `play_script` for the lines and numbers of a text, on `word_texts` for the
 //! words of faults, on `message_text` and `message_json` for the messages in replies, and on `itoa` for
 //! numbers. Keeps: [`write`] is the definition `record_text`, and [`read_record`] the definition
 //! `record_of`, the first bad line of bytes that are no record included. A call takes memory only where its

@@ -1,15 +1,15 @@
 // What a core answered to an event, and its text.
 ghost use Rattle.std.specs.Prelude.{◌≡◌, ◌++◌, IfOk, OnOk};
 ghost use Rattle.play_text.specs.Lines.{text_fault};
-ghost use Rattle.play_text.specs.Words.{refusal_word};
+ghost use Rattle.word_texts.specs.Words.{refusal_word};
 ghost use Rattle.record_text.specs.Told.{IsTold, counted_text, refused_text, reply_text};
 
 use crate::pieces::{put, put_number, put_spaced_number};
 use hmr_types::{EditRefusal, Sequence, TextFault, Ver};
 use message_text::encode;
-use play_text::fault_str;
 use std::alloc::{AllocError, Global};
 use update_msgs::ServerMsg;
+use word_texts::fault_str;
 
 /// A reply of a core, as a record tells it.
 #[derive(Drop)]

@@ -1,9 +1,6 @@
-pub mod Begun
 pub mod Changed
 pub mod Full
-pub mod Notes
 pub mod Rest
 pub mod Sent
-pub mod Started
 pub mod Taken
 pub mod Untold

@@ -2,3 +2,4 @@ pub mod Crews
 pub mod Lendings
 mod Emptied
 pub mod Outs
+mod Begins

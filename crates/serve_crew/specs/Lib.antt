@@ -1,3 +1,4 @@
 pub mod Ends
 pub mod Crews
 pub mod Outs
+pub mod Begins

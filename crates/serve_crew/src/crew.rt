@@ -76,7 +76,7 @@ where
     /// where memory runs out, and with [`Cause::Spent`] exactly where all numbers of passes were given; the
     /// jobs stay as they are. It takes memory for the room of the job alone, and copies the elements of its
     /// lists where these move.
-    pub fn split(&mut self, pass: &mut Pass) -> Result<(Arc<Hub, Global>, Pass), Cause>
+    pub(crate) fn split(&mut self, pass: &mut Pass) -> Result<(Arc<Hub, Global>, Pass), Cause>
         requires crew { IsCrew ⟦<N::End as Link>⟧ (arc_value self.old.hub)
             self.old.running self.old.clients self.old.gathered }
         requires of { IsPassOf (arc_value self.old.hub) pass.old }
@@ -100,7 +100,12 @@ where
 
     /// Starts a job, for which there is a place. What a refused start hands back is taken in, and a fault is
     /// noted then. It takes memory for the job's thread alone.
-    pub fn begin<P: Spawner>(&mut self, net: &mut N, spawner: &mut P, job: ServeJob<R, N::End, G>)
+    pub(crate) fn begin<P: Spawner>(
+        &mut self,
+        net: &mut N,
+        spawner: &mut P,
+        job: ServeJob<R, N::End, G>,
+    )
         requires crew { IsCrew ⟦<N::End as Link>⟧ (arc_value self.old.hub)
             self.old.running self.old.clients self.old.gathered }
         requires place { HasPlace self.old.running self.old.gathered.passes }
@@ -132,7 +137,7 @@ where
     /// Begins a session at an end of a connection, fresh and without a fault. Where there is no pass or no
     /// memory for it, the end is closed and given back to the net, and no job is begun. A session whose
     /// start is refused is given up, a fault is noted, and the answer is Ok. It takes memory for one job.
-    pub fn begin_session<P: Spawner>(
+    pub(crate) fn begin_session<P: Spawner>(
         &mut self,
         pass: &mut Pass,
         net: &mut N,

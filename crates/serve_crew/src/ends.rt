@@ -39,9 +39,9 @@ pub(crate) fn is_faulty<R: Drop, L>(out: &ServeOut<R, L>) -> bool
     }
 }
 
-/// Closes an end of a connection that has no partner or no job, and gives it back to the net. It takes no
-/// memory.
-pub fn hang_up<N: Net>(net: &mut N, mut end: N::End)
+// Closes an end of a connection that has no partner or no job, and gives it back to the net. It takes no
+// memory.
+pub(crate) fn hang_up<N: Net>(net: &mut N, mut end: N::End)
     requires clean { N.End.faults end ≡ 0 }
     ensures faults { N.faults net.new ≡ N.faults net.old }
     ensures asked { (N.asked net.new ≡ N.asked net.old) × (N.heard net.new ≡ N.heard net.old) }

@@ -13,11 +13,11 @@ use std::sync::Wait;
 use std::thread::Threads;
 use transport::{Link, Net};
 
-/// Waits for the end of each worker and each session of a hub, all of which it takes, and takes in what
-/// they leave, for which there is room. Each end of a connection that they have is given back to the net.
-/// A fault is noted only where the count of the net or of the spawner rose in this call. It takes no
-/// memory.
-pub fn finish_jobs<R: Threads + Wait + Drop, N: Net, P: Spawner, G: Gate + Drop>(
+// Waits for the end of each worker and each session of a hub, all of which it takes, and takes in what
+// they leave, for which there is room. Each end of a connection that they have is given back to the net.
+// A fault is noted only where the count of the net or of the spawner rose in this call. It takes no
+// memory.
+pub(crate) fn finish_jobs<R: Threads + Wait + Drop, N: Net, P: Spawner, G: Gate + Drop>(
     rt: &R,
     hub: &Hub,
     net: &mut N,

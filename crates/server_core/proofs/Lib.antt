@@ -2,6 +2,7 @@ pub mod Alike
 mod Changing
 mod Hearing
 mod Keeping
+mod Loading
 pub mod Looking
 mod Numbers
 mod Reloads

@@ -3,3 +3,4 @@ pub mod Heard
 pub mod Inside
 pub mod Kept
 pub mod Reading
+pub mod Loads

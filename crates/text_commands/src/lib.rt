@@ -1,17 +1,15 @@
-//! What the commands on an input do without a world: `check` and `audit`, and what all of them end with.
+//! The command `check`, and what all commands on an input end with.
 //!
-//! `check` reads a module text and writes what there is to tell of it; `audit` reads a record and writes the
-//! verdict on it. Beside them stand the definitions of what there is to write of a command and of how it
+//! `check` reads a module text and writes what there is to tell of it. Beside it stand the definitions of what there is to write of a command and of how it
 //! ends, with the stop that says why one stopped before its end; the line and the status of an end; the stop
 //! for an input that is no script; the sinks of output lines, which write them, keep them or drop them; and
 //! the text of a record that is written, or isn't. Stands on the words, on `hot_parser` and `import_scan` for
-//! module texts, on `transcript_check` for records, and on what scripts and lines are as text; of the model
+//! module texts, on `record_laws` for verdicts, and on what scripts and lines are as text; of the model
 //! of the world it takes which lines tell that all went well. Keeps: what is written is a prefix of the
 //! definition's text of the bytes read, and the whole of it at status 0. A call takes memory only where its
 //! result can say that memory ran out. Knows nothing of worlds that are kept, nor of how a script is played.
 #![tactic(auto)]
 
-mod auditing;
 mod checking;
 mod ending;
 mod line_sink;
@@ -22,7 +20,6 @@ mod showing;
 mod stop;
 mod text_report;
 
-pub use auditing::audit;
 pub use checking::check;
 pub use ending::tell_end;
 pub use line_sink::{DroppedLines, KeptLines, LineSink};

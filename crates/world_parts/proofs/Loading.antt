@@ -13,8 +13,8 @@ use Rattle.core_model.specs.Names.{Name, at, sorted}
 use Rattle.core_model.specs.Sources.{Text, Serving}
 use Rattle.core_model.specs.FreshLoad.{Served, fresh_load, reached_by, unlinked_edge, unlinked_module, fresh_table, missing_of}
 use Rattle.client_model.specs.Language.{links_of}
-use Rattle.import_scan.specs.Links as scan
-use Rattle.import_scan.specs.Links.{links, links_in, linked}
+use Rattle.import_links.specs.Links as scan
+use Rattle.import_links.specs.Links.{links, links_in, linked}
 use Rattle.module_language.specs.ModuleLanguage as language
 use Rattle.module_language.specs.ModuleLanguage.{module_language}
 use Rattle.module_language.proofs.Linking.{module_links, no_links}

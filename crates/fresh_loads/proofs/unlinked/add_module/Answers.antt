@@ -1,5 +1,5 @@
 use Rattle.std.proofs.Common.{ap, ◌∙◌}
-use Rattle.import_scan.specs.Links.{links}
+use Rattle.import_links.specs.Links.{links}
 use Rattle.version_map.specs.Entries.{serving_of}
 use Rattle.fresh_loads.proofs.Linking.{module_found}
 use Rattle.fresh_loads.proofs.unlinked.add_module.Goals as goal

@@ -2,7 +2,7 @@ use Rattle.std.proofs.Common.{◌≡◌, ◌++◌, drop}
 use Rattle.std.specs.Prelude.{flat_map}
 use Rattle.core_model.specs.Names.{at}
 use Rattle.core_model.specs.FreshLoad.{unlinked_module}
-use Rattle.import_scan.specs.Links.{links}
+use Rattle.import_links.specs.Links.{links}
 use Rattle.fresh_loads.proofs.unlinked.unlinked_names.Given as goal
 
 -- what was found so far, and of the names that are to come, is all

@@ -4,7 +4,7 @@ use Rattle.std.proofs.Math.Path.{subst}
 use Rattle.client_model.specs.Taking.{is_applied}
 use Rattle.runtime_state.specs.Becoming.{Becomes}
 use Rattle.runtime_answers.proofs.Full.{told_applied}
-use Rattle.runtime_answers.proofs.Notes.{done_answered, is_done_message, refused_answered}
+use Rattle.answer_kinds.proofs.Notes.{done_answered, is_done_message, refused_answered}
 use Rattle.runtime_answers.proofs.Rest.{on_ok}
 use Rattle.hot_runtime.proofs.answering.answer.Goals as goal
 

@@ -1,5 +1,5 @@
-use Rattle.live_server.proofs.Doors.{doors_then}
-use Rattle.live_server.proofs.Passes.{divided_then}
+use Rattle.live_crew.proofs.Doors.{doors_then}
+use Rattle.live_crew.proofs.Passes.{divided_then}
 use Rattle.live_server.proofs.top.begin.Goals as goal
 
 pub returns-clause-divided : goal.returns-clause-divided

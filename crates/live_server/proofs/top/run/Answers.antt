@@ -1,10 +1,10 @@
 use Rattle.std.proofs.Common.{◌≡◌, ◌≤◌, ap, arith, length, subst, sum, sym}
 use Rattle.hmr_hub.specs.Passes.{roots_of}
 use Rattle.live_editor.proofs.Editors.{edits_done}
-use Rattle.live_server.specs.Doors.{AreDoors, doors_begun, doors_in}
-use Rattle.live_server.specs.Held.{HasDoors}
-use Rattle.live_server.proofs.Doors.{doors_none}
-use Rattle.live_server.proofs.Held.{fewer_doors}
+use Rattle.live_crew.specs.Doors.{AreDoors, doors_begun, doors_in}
+use Rattle.live_crew.specs.Held.{HasDoors}
+use Rattle.live_crew.proofs.Doors.{doors_none}
+use Rattle.live_crew.proofs.Held.{fewer_doors}
 use Rattle.live_server.proofs.Serving.{served_end}
 use Rattle.live_server.proofs.top.run.Goals as goal
 
